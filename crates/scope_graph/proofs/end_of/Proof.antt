@@ -1,0 +1,21 @@
+-- `end_of` meets its contract, by the two forms of a cell. Assumes nothing.
+use mathlib.Core.Path.{sym}
+use borrow.Author.Needs.{needs}
+use Rattle.scope_graph.specs.Order.{meaning, endOf}
+use Rattle.scope_graph.proofs.OrderCells.{endOf-label}
+use Rattle.scope_graph.proofs.end_of.Statement.{statement}
+use Rattle.scope_graph.proofs.end_of.Tie as tie
+
+returns : tie.Need-returns
+unfolding meaning endOf
+returns c = search needs
+
+sub-t3 : tie.Need-sub-t3
+sub-t3 c = search needs
+
+returns-2 : tie.Need-returns-2
+unfolding meaning
+returns-2 c = sym (endOf-label (c .before .args .code) (c .if1 .left))
+
+pub end-of-spec : {M : Type 1} → statement M
+end-of-spec = tie.close (tie.spec returns sub-t3 returns-2)

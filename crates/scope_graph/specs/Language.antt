@@ -1,0 +1,54 @@
+-- What the rules take from a file before there is a graph: labels and ends, the order, the automaton, names. All that later requests vary (a
+-- kind beside the name, a turn beside the label) is a field here, so that the rules are stated once. Assumes nothing: these are definitions.
+use Prim.Native.Nat.{ℕ, _<_}
+use mathlib.Core.Path.{_≡_}
+use mathlib.Core.Bool.{Bool, true, false}
+use mathlib.Core.Option.{Option, some}
+use mathlib.Core.List.{List, List·Memᴰ}
+
+infix 40 _∈_
+-- a stands in the list l
+abbrev pub _∈_ : {A : Type 0} → A → List A → Type 0
+_∈_ a l = List·Memᴰ a l
+
+-- 01, "The gym file": how a path goes on at a scope. It stops there (the end mark `$`), or goes on by a step.
+pub data End (A : Type 0) : Type 0 where
+  stop : End A
+  by : A → End A
+
+-- 01, "The gym file". A step is what an edge carries: in document 01 its label.
+pub record Language : Type 1 where
+  pub Step : Type 0
+  pub same-step : Step → Step → Bool
+  -- a step's label, and how many labels are listed: they are numbered from 0
+  pub label : Step → ℕ
+  pub labels : ℕ
+  pub Name : Type 0
+  pub same-name : Name → Name → Bool
+  -- the order pairs: the first end is preferred to the second
+  pub prefers : End Step → End Step → Bool
+  -- the automaton: states are numbered from 0, the start is 0; a missing transition is `none`
+  pub states : ℕ
+  pub next : ℕ → ℕ → Option ℕ
+  pub accepts : ℕ → Bool
+  -- a step of the given label that none of the listed steps, and not `$`, is preferred to, if there is such a step
+  pub strongest : List Step → ℕ → Step
+  -- may two edges with the same two scopes carry these steps? In document 01 always.
+  pub Together : Step → Step → Type 0
+
+-- What an accepted file gives: refusal 6 makes the order irreflexive and transitive, refusal 3 keeps labels and states in their lists.
+pub record Laws (L : Language) : Type 0 where
+  pub step-same : (a b : L .Step) → L .same-step a b ≡ true → a ≡ b
+  pub step-self : (a : L .Step) → L .same-step a a ≡ true
+  pub name-same : (a b : L .Name) → L .same-name a b ≡ true → a ≡ b
+  pub name-self : (a : L .Name) → L .same-name a a ≡ true
+  pub irreflexive : (a : End (L .Step)) → L .prefers a a ≡ false
+  pub transitive : (a b c : End (L .Step)) → L .prefers a b ≡ true → L .prefers b c ≡ true → L .prefers a c ≡ true
+  pub next-label : (q l r : ℕ) → L .next q l ≡ some r → l < L .labels
+  pub next-state : (q l r : ℕ) → L .next q l ≡ some r → r < L .states
+  pub strongest-label : (ts : List (L .Step)) (l : ℕ) → L .label (L .strongest ts l) ≡ l
+  pub strongest-stop : (ts : List (L .Step)) (t : L .Step)
+      → L .prefers stop (by (L .strongest ts (L .label t))) ≡ true → L .prefers stop (by t) ≡ true
+  pub strongest-by : (ts : List (L .Step)) (t u : L .Step) → u ∈ ts
+      → L .prefers (by u) (by (L .strongest ts (L .label t))) ≡ true → L .prefers (by u) (by t) ≡ true
+  pub together-self : (a : L .Step) → L .Together a a

@@ -1,0 +1,10 @@
+pub mod Language
+pub mod Graph
+pub mod Path
+pub mod Completion
+pub mod Rows
+pub mod Followed
+pub mod Computed
+pub mod Listing
+pub mod Promises
+pub mod Order

@@ -1,0 +1,31 @@
+-- The order pairs as cells (01, "The gym file", the rows `less more`), and what the code's ends and pairs mean. Assumes nothing: these are definitions.
+use Prim.Native.Nat.{ℕ, zero, suc}
+use mathlib.Core.List.{List, [], _∷_}
+use Rattle.scope_graph.specs.declared.End.{End as CodeEnd}
+use Rattle.scope_graph.specs.declared.End.the-variants.{Stop, Label}
+use Rattle.scope_graph.specs.declared.Pair.{Pair}
+use Rattle.scope_graph.specs.Language.{End, stop, by}
+use Rattle.scope_graph.specs.Rows.{OrderPair}
+
+-- an end as one cell: 0 is `$`, and n + 1 is the label with number n
+unfoldable pub endOf : ℕ → End ℕ
+endOf zero = stop
+endOf (suc n) = by n
+
+-- cells two at a time, a row each; a cell left over is no row
+unfoldable pub orderRows : List ℕ → List OrderPair
+orderRows [] = []
+orderRows (a ∷ []) = []
+orderRows (a ∷ b ∷ cells) = record { less = endOf a; more = endOf b } ∷ orderRows cells
+
+-- what is read past the last row: a pair that no accepted file has
+abbrev pub noRow : OrderPair
+noRow = record { less = stop; more = stop }
+
+-- what a value of the code's enum means, and of its struct (01, "Where each language form goes")
+unfoldable pub meaning : CodeEnd → End ℕ
+meaning Stop = stop
+meaning (Label n) = by n
+
+unfoldable pub pairMeaning : Pair → OrderPair
+pairMeaning p = record { less = meaning (p .less); more = meaning (p .more) }

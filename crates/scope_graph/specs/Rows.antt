@@ -1,0 +1,81 @@
+-- The language of a gym file (01, "The gym file"): labels, order pairs, transitions and accept rows as they stand in the file. Assumes nothing: these are definitions.
+use Prim.Native.Nat.{ℕ, _<_}
+use mathlib.Core.Path.{_≡_}
+use mathlib.Core.Bool.{Bool, true, false, _&&_}
+use mathlib.Core.Option.{Option, some, none}
+use mathlib.Core.List.{List, [], _∷_}
+use lib.Dec.{eqb}
+use Rattle.scope_graph.specs.Language.{_∈_, End, stop, by, Language}
+
+-- a row `less more`: the first end is preferred to the second
+pub record OrderPair : Type 0 where
+  pub less : End ℕ
+  pub more : End ℕ
+
+-- a row `state label next`
+pub record Transition : Type 0 where
+  pub state : ℕ
+  pub label : ℕ
+  pub next : ℕ
+
+-- a name as two numbers: its 16 bytes, big end first, zero-padded
+pub record PackedName : Type 0 where
+  pub high : ℕ
+  pub low : ℕ
+
+-- the first five sections of a file, but for the number of scopes
+pub record Rules : Type 0 where
+  pub labels : ℕ
+  pub order : List OrderPair
+  pub transitions : List Transition
+  pub accept : List ℕ
+
+unfoldable pub sameEnd : End ℕ → End ℕ → Bool
+sameEnd stop stop = true
+sameEnd stop (by k) = false
+sameEnd (by l) stop = false
+sameEnd (by l) (by k) = eqb l k
+
+unfoldable pub sameName : PackedName → PackedName → Bool
+sameName x y = eqb (x .high) (y .high) && eqb (x .low) (y .low)
+
+-- is the test met by an element?
+unfoldable pub anyOf : {A : Type 0} → (A → Bool) → List A → Bool
+anyOf f [] = false
+anyOf f (x ∷ xs) = elim (f x) [ true ↦ true | false ↦ anyOf f xs ]
+
+-- is there a row that prefers the one end to the other?
+unfoldable pub preferredBy : List OrderPair → End ℕ → End ℕ → Bool
+preferredBy rows a b = anyOf (λ row. sameEnd (row .less) a && sameEnd (row .more) b) rows
+
+-- the next state by the first row of that state and label: rows ascend, so there is one at the most
+unfoldable pub nextBy : List Transition → ℕ → ℕ → Option ℕ
+nextBy [] q l = none
+nextBy (t ∷ ts) q l = elim (eqb (t .state) q && eqb (t .label) l) [ true ↦ some (t .next) | false ↦ nextBy ts q l ]
+
+abbrev pub language : Rules → Language
+language r = record {
+  Step = ℕ;
+  same-step = eqb;
+  label = λ l. l;
+  labels = r .labels;
+  Name = PackedName;
+  same-name = sameName;
+  prefers = preferredBy (r .order);
+  states = 16;
+  next = nextBy (r .transitions);
+  accepts = λ q. anyOf (eqb q) (r .accept);
+  strongest = λ ts l. l;
+  Together = λ t u. Unit {0};
+}
+
+-- 01's refusal 6 is not met: no pair has equal ends, and with a, b and b, c there is a, c
+pub record OrderPasses (rows : List OrderPair) : Type 0 where
+  pub apart : (a : End ℕ) → ¬ (record { less = a; more = a } ∈ rows)
+  pub closed : (a b c : End ℕ) → record { less = a; more = b } ∈ rows → record { less = b; more = c } ∈ rows → record { less = a; more = c } ∈ rows
+
+-- what refusals 3 and 6 leave
+pub record RulesPass (r : Rules) : Type 0 where
+  pub order : OrderPasses (r .order)
+  pub labels : (t : Transition) → t ∈ r .transitions → t .label < r .labels
+  pub states : (t : Transition) → t ∈ r .transitions → t .next < 16

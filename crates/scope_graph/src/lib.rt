@@ -1,0 +1,96 @@
+// The order pairs of a gym file, and the preference test. The rules themselves stand in specs/.
+ghost use mathlib.Core.Path.{_≡_};
+ghost use mathlib.Core.Bool.{_&&_};
+ghost use lib.ListN.{getD};
+ghost use Rattle.scope_graph.specs.Rows.{sameEnd, preferredBy};
+ghost use Rattle.scope_graph.specs.Order.{endOf, orderRows, noRow, meaning, pairMeaning};
+
+// Document 01, "Where each language form goes": an order pair has two ends, each the end mark or a label with its number, and the preference test
+// matches on both (`same_end`, `holds`).
+pub enum End {
+    Stop,
+    Label(u64),
+}
+
+pub struct Pair {
+    pub less: End,
+    pub more: End,
+}
+
+// An end from its cell: 0 is the end mark, n + 1 the label with number n.
+pub fn end_of(code: u64) -> End
+    ensures { λ r. ⌜ meaning r ≡ endOf code ⌝ }
+{
+    if code == 0 {
+        return End::Stop;
+    }
+    End::Label(code - 1)
+}
+
+// Row i of the order rows, two cells a row; past the last row a pair that no accepted file has.
+pub fn pair_at(rows: &[u64], i: usize) -> Pair
+    ensures { λ r. ⌜ pairMeaning r ≡ getD (orderRows (now (rows .entry))) i noRow ⌝ }
+{
+    if i < rows.len() / 2 {
+        let less = end_of(rows[2 * i]);
+        let more = end_of(rows[2 * i + 1]);
+        return Pair { less, more };
+    }
+    Pair {
+        less: End::Stop,
+        more: End::Stop,
+    }
+}
+
+// Both are the end mark, or labels with the same number.
+pub fn same_end(a: End, b: End) -> bool
+    ensures { λ r. ⌜ r ≡ sameEnd (meaning a) (meaning b) ⌝ }
+{
+    match a {
+        End::Stop => match b {
+            End::Stop => true,
+            End::Label(_) => false,
+        },
+        End::Label(l) => match b {
+            End::Stop => false,
+            End::Label(k) => l == k,
+        },
+    }
+}
+
+// The row prefers the first end to the second: it has both, in this order.
+pub fn holds(p: Pair, less: End, more: End) -> bool
+    ensures { λ r. ⌜ r ≡ (sameEnd (pairMeaning p .less) (meaning less) && sameEnd (pairMeaning p .more) (meaning more)) ⌝ }
+{
+    let first = p.less;
+    let second = p.more;
+    match first {
+        End::Stop => match less {
+            End::Stop => same_end(second, more),
+            End::Label(_) => false,
+        },
+        End::Label(l) => match less {
+            End::Stop => false,
+            End::Label(k) => if l == k {
+                same_end(second, more)
+            } else {
+                false
+            },
+        },
+    }
+}
+
+// Some row prefers the first end to the second.
+pub fn prefers(rows: &[u64], less: End, more: End) -> bool
+    ensures { λ r. ⌜ r ≡ preferredBy (orderRows (now (rows .entry))) (meaning less) (meaning more) ⌝ }
+{
+    let n = rows.len() / 2;
+    let mut i = 0;
+    while i < n {
+        if holds(pair_at(rows, i), less, more) {
+            return true;
+        }
+        i += 1;
+    }
+    false
+}
