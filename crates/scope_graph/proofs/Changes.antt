@@ -1,22 +1,19 @@
 -- The theorem behind `awaits`: an extension changes what a query sees exactly where it may add at a followed place. Assumes nothing; that the reached
 -- paths and the entries of a graph are finitely many, and that *preferred* is decided, are parameters here, proved in Nodes and Entries.
-use Prim.Native.Nat.{ℕ, zero, suc, _+_, _≤_, _<_, max}
+use Prim.Native.Nat.{ℕ, _≤_, _<_}
 use native.Mathlib.Omega.{arith}
-use native.Mathlib.Nat.{add-zero, add-suc, suc-add}
 use mathlib.Core.Path.{_≡_, refl, sym, ap, _∙_}
-use mathlib.Core.Bool.{Bool, true, false}
-use mathlib.Core.Option.{Option, some, none}
+use mathlib.Core.Bool.{true}
 use mathlib.Core.Logic.{_↔_, _⊎_, inl, inr, ⊎-elim}
-use mathlib.Core.List.{List, [], _∷_, _++_, append-assoc, append-nil, List·Memᴰ·head, List·Memᴰ·tail, List·Memᴰ·cases-cons, List·Memᴰ·not-nil, List·Memᴰ·append-cases, Memᴰ·append-left, Memᴰ·append-right}
-use lib.ListN.{length}
+use mathlib.Core.List.{List, [], _∷_, _++_, append-assoc, append-nil, List·Memᴰ·cases-cons, List·Memᴰ·not-nil, Memᴰ·append-left}
 use Rattle.scope_graph.specs.Language.{_∈_, End, stop, by, Language, Laws}
-use Rattle.scope_graph.specs.Graph.{Edge, Declaration, Graph, InRange, Query}
-use Rattle.scope_graph.specs.Path.{Distinct, Hop, Path, PathRow, tos, lastFrom, Along, IsPath, Leads, word, Lawful, Declares, Reached, MoreSpecific, Visible, Entry}
+use Rattle.scope_graph.specs.Graph.{Graph, InRange, Query}
+use Rattle.scope_graph.specs.Path.{Distinct, Hop, Path, PathRow, tos, lastFrom, Along, IsPath, Leads, word, Lawful, Declares, Reached, Visible, Entry}
 use Rattle.scope_graph.specs.Completion.{Extension, SameEntries}
 use Rattle.scope_graph.specs.Followed.{Preferred, Usable, Followed}
 use Rattle.scope_graph.proofs.Lists.{here, there}
-use Rattle.scope_graph.proofs.Order.{recursive, preferred-irreflexive, preferred-transitive, preferred-longer, preferred-split}
-use Rattle.scope_graph.proofs.Extension.{all-or, along-join, leads-join, last-join, tos-join, last-in, no-new, along-kept, reached-kept}
+use Rattle.scope_graph.proofs.Order.{recursive, preferred-irreflexive, preferred-transitive, preferred-longer}
+use Rattle.scope_graph.proofs.Extension.{all-or, along-join, leads-join, last-join, tos-join, last-in, reached-kept}
 
 module _ (L : Language) (laws : Laws L) (q : Query L) where
   -- the path from the query's start along the hops

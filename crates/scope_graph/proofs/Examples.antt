@@ -1,13 +1,14 @@
 -- Worked examples, computed by the checker: document 01's trials M1 to M10, then small graphs for what a search gets wrong easily. Assumes nothing.
 use Prim.Native.Nat.{ℕ}
 use mathlib.Core.Path.{_≡_, refl}
+use mathlib.Core.Bool.{Bool, true, false}
 use mathlib.Core.Option.{Option, some, none}
 use mathlib.Core.List.{List, [], _∷_, map, flatMap}
 use Rattle.scope_graph.specs.Language.{End, stop, by}
 use Rattle.scope_graph.specs.Graph.{Graph, Query, OpenPair}
 use Rattle.scope_graph.specs.Path.{Hop, PathRow}
 use Rattle.scope_graph.specs.Rows.{OrderPair, Transition, PackedName, Rules, sameEnd, sameName, anyOf, preferredBy, nextBy, language}
-use Rattle.scope_graph.specs.Computed.{keep, firstOf, anyBelow, Found, found-none, found-one, found-several, foundOf, Standing, is-visible, is-shadowed, is-unreached, hopsAt, marksAt, declaresAny, behind, hopOn, nodesFrom, leadsOn, usable, sameHop, sameHops, preferredTo, nodes, reachedNodes, cut, rowsAt, entries, found, isReached, standing, judged, openEnd, followedAt, awaits}
+use Rattle.scope_graph.specs.Computed.{keep, firstOf, anyBelow, Found, found-none, found-one, found-several, foundOf, Standing, is-visible, is-shadowed, is-unreached, hopsAt, marksAt, declaresAny, behind, hopOn, nodesFrom, leadsOn, usable, sameHop, sameHops, preferredTo, moreSpecific, nodes, reachedNodes, cut, rowsAt, entries, found, isReached, standing, judged, openEnd, followedAt, awaits}
 
 -- what an example computes with: each names this alone on its `unfolding` line
 computed : Unit {0}
@@ -199,3 +200,33 @@ no-hope = (refl, refl, refl)
 hope : Shows trap (graph trap 1 [] []) ((0, by I) ∷ (0, by P) ∷ []) (0, hours) [] found-none (some (0, by P))
 unfolding computed
 hope = (refl, refl, refl)
+
+-- Which path is longer decides nothing: here the label is preferred to stopping, so the longer path shadows the one that stops.
+abbrev eager : Rules
+eager = record { labels = 1; order = pair (by I) stop ∷ []; transitions = move 0 I 0 ∷ []; accept = 0 ∷ [] }
+
+longer-preferred : Shows eager (graph eager 2 ((0, I, 1) ∷ []) ((0, hours, 1) ∷ (1, hours, 2) ∷ [])) [] (0, hours) ((2, 0, (I, 1) ∷ []) ∷ []) found-one none
+unfolding computed
+longer-preferred = (refl, refl, refl)
+
+-- without order pairs neither shadows the other
+abbrev lax : Rules
+lax = record { labels = 1; order = []; transitions = move 0 I 0 ∷ []; accept = 0 ∷ [] }
+
+both-seen : Shows lax (graph lax 2 ((0, I, 1) ∷ []) ((0, hours, 1) ∷ (1, hours, 2) ∷ [])) [] (0, hours) ((1, 0, []) ∷ (2, 0, (I, 1) ∷ []) ∷ []) found-several none
+unfolding computed
+both-seen = (refl, refl, refl)
+
+-- After an import no parent may follow, so the path by 1 and 2 is not lawful and shadows nothing, though I is preferred.
+unlawful : Shows gym (graph gym 4 ((0, I, 1) ∷ (0, P, 3) ∷ (1, P, 2) ∷ []) ((2, hours, 6) ∷ (3, hours, 7) ∷ [])) [] (0, hours) ((7, 0, (P, 3) ∷ []) ∷ []) found-one none
+unfolding computed
+unlawful = (refl, refl, refl)
+
+-- Comparing: another start, the same label to another scope, and the path itself decide nothing; a preferred end does.
+abbrev compares : ℕ → List (ℕ × ℕ) → ℕ → List (ℕ × ℕ) → Bool → Type 0
+compares s p t r b = moreSpecific (language gym) (path-row gym (0, s, p) .path) (path-row gym (0, t, r) .path) ≡ b
+
+comparing : compares 0 [] 1 ((P, 2) ∷ []) false × compares 0 ((P, 1) ∷ []) 0 ((P, 2) ∷ []) false × compares 0 ((P, 1) ∷ []) 0 ((P, 1) ∷ []) false
+    × compares 0 [] 0 ((P, 1) ∷ []) true × compares 0 ((P, 1) ∷ (I, 2) ∷ []) 0 ((P, 1) ∷ (P, 3) ∷ []) true
+unfolding computed moreSpecific
+comparing = (refl, refl, refl, refl, refl)

@@ -1,19 +1,15 @@
 -- The theorem behind `awaits`: an extension changes what a query sees exactly where it may add at a followed place. Assumes nothing; that the reached
 -- paths and the entries of a graph are finitely many, and that *preferred* is decided, are parameters here and proved in Nodes and Entries.
-use Prim.Native.Nat.{ℕ, zero, suc, _+_, _≤_, _<_}
+use Prim.Native.Nat.{ℕ, _≤_, _<_}
 use native.Mathlib.Omega.{arith}
-use mathlib.Core.Path.{_≡_, refl, sym, ap, _∙_}
-use mathlib.Core.Bool.{Bool, true, false}
-use mathlib.Core.Option.{Option, some, none}
-use mathlib.Core.Logic.{_↔_, _⊎_, inl, inr, ⊎-elim}
-use mathlib.Core.List.{List, [], _∷_, _++_, append-assoc, append-nil, List·Memᴰ·head, List·Memᴰ·tail, List·Memᴰ·cases-cons, List·Memᴰ·not-nil}
-use Rattle.scope_graph.specs.Language.{_∈_, End, stop, by, Language, Laws}
-use Rattle.scope_graph.specs.Graph.{Edge, Declaration, Graph, InRange, Query}
-use Rattle.scope_graph.specs.Path.{Distinct, Hop, Path, PathRow, tos, lastFrom, Along, IsPath, Leads, word, Lawful, Declares, Reached, MoreSpecific, Visible, Entry}
-use Rattle.scope_graph.specs.Completion.{Extension, SameEntries}
-use Rattle.scope_graph.specs.Followed.{Preferred, Usable, Followed}
+use mathlib.Core.Path.{_≡_, refl, ap}
+use mathlib.Core.Logic.{_⊎_, inl, inr, ⊎-elim}
+use mathlib.Core.List.{List, [], _∷_, _++_, List·Memᴰ·cases-cons, List·Memᴰ·not-nil}
+use Rattle.scope_graph.specs.Language.{_∈_, End, Language}
+use Rattle.scope_graph.specs.Graph.{Graph, InRange, Query}
+use Rattle.scope_graph.specs.Path.{Hop, Path, tos, lastFrom, Along, Leads, word, Reached}
+use Rattle.scope_graph.specs.Completion.{Extension}
 use Rattle.scope_graph.proofs.Lists.{here, there}
-use Rattle.scope_graph.proofs.Order.{recursive, preferred-irreflexive, preferred-transitive, preferred-longer, preferred-split}
 
 -- every element has one property, or one of them has another
 pub all-or : {A : Type 0} {P : A → Type 0} {B : Type 0} (l : List A) → ((a : A) → a ∈ l → P a ⊎ B) → ((a : A) → a ∈ l → P a) ⊎ B

@@ -1,15 +1,15 @@
 -- The computed `followedAt` says whether an open pair is followed. Assumes nothing.
 use Prim.Native.Nat.{ℕ, _<_}
-use mathlib.Core.Path.{_≡_, refl, sym, ap, _∙_}
-use mathlib.Core.Bool.{Bool, true, false, not, _&&_}
-use mathlib.Core.Logic.{_↔_, _⊎_, inl, inr, ⊎-elim}
+use mathlib.Core.Path.{_≡_, refl, _∙_}
+use mathlib.Core.Bool.{Bool, true, not, _&&_}
+use mathlib.Core.Logic.{_↔_, inl, inr}
 use mathlib.Core.List.{List, [], _∷_, map}
 use lib.Dec.{eqb}
 use borrow.Author.Tests.{eqb-true, eq-eqb}
-use Rattle.scope_graph.specs.Language.{_∈_, End, stop, by, Language, Laws}
-use Rattle.scope_graph.specs.Graph.{Edge, Graph, InRange, Query, OpenPair, Admits}
-use Rattle.scope_graph.specs.Path.{Hop, Along, lastFrom, Reached}
-use Rattle.scope_graph.specs.Followed.{Preferred, Usable, Followed, FollowedAt}
+use Rattle.scope_graph.specs.Language.{End, stop, by, Language, Laws}
+use Rattle.scope_graph.specs.Graph.{Graph, InRange, Query, OpenPair, Admits}
+use Rattle.scope_graph.specs.Path.{Hop, Along, Reached}
+use Rattle.scope_graph.specs.Followed.{Preferred, Usable, FollowedAt}
 use Rattle.scope_graph.specs.Computed.{Node, nodes, usable, cut, openEnd, followedAt}
 use Rattle.scope_graph.proofs.Lists.{not-is, is-not, and-left, and-right, and-both, anyOf-intro, anyOf-elim, map-intro}
 use Rattle.scope_graph.proofs.Nodes.{nodes-sound, nodes-complete}

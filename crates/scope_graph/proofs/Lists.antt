@@ -1,18 +1,14 @@
 -- Laws of lists, tests and membership that the rules' proofs share. Assumes nothing.
-use Prim.Native.Nat.{ℕ, zero, suc, _+_, _≤_, _<_}
+use Prim.Native.Nat.{ℕ}
 use mathlib.Core.Path.{_≡_, refl, sym, ap, _∙_, subst}
 use mathlib.Core.Bool.{Bool, true, false, not, _&&_, _||_, true≢false, false≢true}
 use mathlib.Core.Logic.{_⊎_, inl, inr, ⊎-elim}
 use mathlib.Core.Option.{Option, some, none}
-use mathlib.Core.List.{List, [], _∷_, _++_, map, flatMap, List·Memᴰ, List·Memᴰ·head, List·Memᴰ·tail, List·Memᴰ·cases-cons, List·Memᴰ·not-nil, List·Memᴰ·append-cases, Memᴰ·append-left, Memᴰ·append-right, Memᴰ·cast}
+use mathlib.Core.List.{List, [], _∷_, _++_, map, flatMap, List·Memᴰ·head, List·Memᴰ·tail, List·Memᴰ·cases-cons, List·Memᴰ·not-nil, List·Memᴰ·append-cases, Memᴰ·append-left, Memᴰ·append-right}
 use native.Mathlib.Omega.{arith}
-use lib.Dec.{eqb}
-use borrow.Author.Tests.{eqb-true, eq-eqb}
-use lib.ListN.{length}
 use Rattle.scope_graph.specs.Language.{_∈_}
-use Rattle.scope_graph.specs.Path.{Distinct}
 use Rattle.scope_graph.specs.Rows.{anyOf}
-use Rattle.scope_graph.specs.Computed.{keep, firstOf, anyBelow}
+use Rattle.scope_graph.specs.Computed.{keep, firstOf}
 use Rattle.scope_graph.specs.Listing.{Pairwise}
 
 -- a Bool is true or false

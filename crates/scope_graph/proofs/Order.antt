@@ -1,7 +1,7 @@
 -- *More specific* is a strict order, and its form by recursion on the hops is the plain reading of document 01. Assumes nothing.
 use mathlib.Core.Path.{_≡_, refl, sym, ap, _∙_}
-use mathlib.Core.Bool.{Bool, true, false}
-use mathlib.Core.Option.{Option, some, none, Option·some-ne-none, Option·none-ne-some, Option·some-injective}
+use mathlib.Core.Bool.{true}
+use mathlib.Core.Option.{Option·some-ne-none, Option·none-ne-some, Option·some-injective}
 use mathlib.Core.Logic.{_↔_, _⊎_, inl, inr, ⊎-elim}
 use mathlib.Core.List.{List, [], _∷_, _++_}
 use Rattle.scope_graph.specs.Language.{End, stop, by, Language, Laws}

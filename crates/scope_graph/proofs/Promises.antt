@@ -1,9 +1,9 @@
 -- The value of specs/Promises: all that is promised of the rules holds. Assumes nothing.
-use Prim.Native.Nat.{ℕ, _<_}
-use mathlib.Core.Path.{_≡_, refl, sym, ap, _∙_}
-use mathlib.Core.Bool.{Bool, true, false, _&&_}
-use mathlib.Core.Logic.{_↔_, _⊎_, inl, inr, ⊎-elim}
-use mathlib.Core.List.{List, [], _∷_, map}
+use Prim.Native.Nat.{_<_}
+use mathlib.Core.Path.{_≡_, refl, sym}
+use mathlib.Core.Bool.{true}
+use mathlib.Core.Logic.{_↔_, ⊎-elim}
+use mathlib.Core.List.{List, map}
 use lib.Dec.{eqb}
 use borrow.Author.Tests.{eqb-true, eq-eqb}
 use Rattle.scope_graph.specs.Language.{_∈_, stop, Language, Laws}
@@ -15,9 +15,10 @@ use Rattle.scope_graph.specs.Listing.{Accepted}
 use Rattle.scope_graph.specs.Promises.{OrderPromises, QueryPromises, Promises}
 use Rattle.scope_graph.proofs.Lists.{Two, true-false, and-left, and-right, and-both, map-intro, map-elim}
 use Rattle.scope_graph.proofs.Order.{recursive, irreflexive, transitive}
-use Rattle.scope_graph.proofs.Reached.{path-eq, reached-sound, reached-complete}
+use Rattle.scope_graph.proofs.Reached.{reached-sound, reached-complete}
 use Rattle.scope_graph.proofs.Cut.{preferred-to}
 use Rattle.scope_graph.proofs.Entries.{visible, shadowed, unreached, shadowed-by, judged-is, entries-are, entries-ascend, found-is}
+use Rattle.scope_graph.proofs.Ascend.{row-irreflexive}
 use Rattle.scope_graph.proofs.Settled.{decisive, settled, awaits-is, awaits-none}
 use Rattle.scope_graph.proofs.FollowedAt.{followed-is}
 use Rattle.scope_graph.proofs.Rows.{language-laws}
@@ -80,6 +81,7 @@ query L g opens q ok =
       shadowed-by = shadowed-by L laws g q range starts;
       entries-are = entries-are L laws g q range starts;
       entries-ascend = entries-ascend L laws g q range starts (ok .edges-ascend) (ok .declarations-ascend);
+      once = row-irreflexive L;
       found-is = found-is L laws g q range starts (ok .edges-ascend) (ok .declarations-ascend);
       decisive = decisive L laws g opens q dec reached seen range starts;
       followed = followed;

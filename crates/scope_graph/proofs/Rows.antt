@@ -8,7 +8,7 @@ use native.Mathlib.Omega.{arith}
 use lib.Dec.{eqb}
 use borrow.Author.Tests.{eqb-true, eq-eqb}
 use Rattle.scope_graph.specs.Language.{_∈_, End, stop, by}
-use Rattle.scope_graph.specs.Rows.{OrderPair, Transition, PackedName, sameEnd, sameName, preferredBy, nextBy, language}
+use Rattle.scope_graph.specs.Rows.{OrderPair, Transition, PackedName, sameEnd, sameName, preferredBy, nextBy}
 use Rattle.scope_graph.specs.Promises.{LanguageLaws}
 use Rattle.scope_graph.proofs.Lists.{not-true, and-left, and-right, and-both, there, anyOf-intro, anyOf-elim}
 

@@ -2,16 +2,16 @@
 -- parameters are those of Changes, and that *followed* is computed.
 use Prim.Native.Nat.{ℕ, _<_}
 use native.Mathlib.Omega.{arith}
-use mathlib.Core.Path.{_≡_, refl, sym, ap, _∙_}
-use mathlib.Core.Bool.{Bool, true, false}
-use mathlib.Core.Option.{Option, some, none, Option·some-ne-none}
-use mathlib.Core.Logic.{_↔_, _⊎_, inl, inr, ⊎-elim}
+use mathlib.Core.Path.{_≡_, refl}
+use mathlib.Core.Bool.{true}
+use mathlib.Core.Option.{Option, some, none}
+use mathlib.Core.Logic.{_↔_, inl, inr, ⊎-elim}
 use mathlib.Core.List.{List}
 use Rattle.scope_graph.specs.Language.{_∈_, End, stop, by, Language, Laws}
-use Rattle.scope_graph.specs.Graph.{Graph, InRange, Query, OpenPair, Admits}
+use Rattle.scope_graph.specs.Graph.{Graph, InRange, Query, OpenPair}
 use Rattle.scope_graph.specs.Path.{Hop, PathRow, Reached, Entry}
-use Rattle.scope_graph.specs.Completion.{Extension, At, AtOne, SameEntries, Decisive, Settled, EndBefore, PairBefore, Awaits}
-use Rattle.scope_graph.specs.Followed.{Preferred, Followed, FollowedAt}
+use Rattle.scope_graph.specs.Completion.{Extension, At, AtOne, Decisive, Settled, EndBefore, PairBefore, Awaits}
+use Rattle.scope_graph.specs.Followed.{Preferred, FollowedAt}
 use Rattle.scope_graph.specs.Computed.{firstOf, followedAt, awaits}
 use Rattle.scope_graph.specs.Listing.{Pairwise}
 use Rattle.scope_graph.proofs.Lists.{true-false, firstOf-some, firstOf-none}

@@ -1,21 +1,19 @@
 -- A followed place makes a difference: where a row may come there, one completion that adds there, and otherwise only at new scopes, shows the query something
 -- new. Assumes nothing; the parameters are those of Changes.
-use Prim.Native.Nat.{ℕ, zero, suc, _+_, _≤_, _<_}
+use Prim.Native.Nat.{ℕ, suc, _+_, _≤_, _<_}
 use native.Mathlib.Omega.{arith}
 use mathlib.Core.Path.{_≡_, refl, sym, ap, _∙_}
-use mathlib.Core.Bool.{Bool, true, false}
-use mathlib.Core.Option.{Option, some, none}
 use mathlib.Core.Logic.{_↔_, _⊎_, inl, inr, ⊎-elim}
-use mathlib.Core.List.{List, [], _∷_, _++_, List·Memᴰ·head, List·Memᴰ·tail, List·Memᴰ·cases-cons, List·Memᴰ·not-nil, List·Memᴰ·append-cases, Memᴰ·append-left, Memᴰ·append-right}
+use mathlib.Core.List.{List, [], _∷_, _++_, List·Memᴰ·cases-cons, List·Memᴰ·not-nil, List·Memᴰ·append-cases, Memᴰ·append-left, Memᴰ·append-right}
 use lib.ListN.{length}
 use Rattle.scope_graph.specs.Language.{_∈_, End, stop, by, Language, Laws}
 use Rattle.scope_graph.specs.Graph.{Edge, Declaration, Graph, InRange, Query}
-use Rattle.scope_graph.specs.Path.{Distinct, Hop, Path, PathRow, tos, lastFrom, Along, IsPath, Leads, word, Lawful, Declares, Reached, Visible, Entry}
+use Rattle.scope_graph.specs.Path.{Distinct, Hop, PathRow, tos, lastFrom, Along, Leads, word, Declares, Reached, Entry}
 use Rattle.scope_graph.specs.Completion.{Extension, SameEntries}
-use Rattle.scope_graph.specs.Followed.{Preferred, Usable, Followed}
+use Rattle.scope_graph.specs.Followed.{Preferred, Followed}
 use Rattle.scope_graph.proofs.Lists.{here, there}
 use Rattle.scope_graph.proofs.Order.{preferred-split}
-use Rattle.scope_graph.proofs.Extension.{along-join, leads-join, last-join, tos-join, last-in, tos-in, no-new, along-kept}
+use Rattle.scope_graph.proofs.Extension.{along-join, leads-join, last-join, tos-join, last-in, tos-in, no-new}
 use Rattle.scope_graph.proofs.Changes.{route, down, entry-of, Down}
 
 -- a mark above all marks of the list

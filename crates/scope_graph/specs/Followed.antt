@@ -2,13 +2,13 @@
 -- proved of them stands in Promises. Assumes nothing: these are definitions.
 use Prim.Native.Nat.{ℕ}
 use mathlib.Core.Path.{_≡_}
-use mathlib.Core.Bool.{Bool, true, false}
+use mathlib.Core.Bool.{true}
 use mathlib.Core.Option.{some}
 use mathlib.Core.Logic.{_⊎_}
 use mathlib.Core.List.{List, [], _∷_}
-use Rattle.scope_graph.specs.Language.{_∈_, End, stop, by, Language}
+use Rattle.scope_graph.specs.Language.{End, stop, by, Language}
 use Rattle.scope_graph.specs.Graph.{Graph, Query, OpenPair, Admits}
-use Rattle.scope_graph.specs.Path.{Hop, Path, lastFrom, IsPath, Leads, word, Reached}
+use Rattle.scope_graph.specs.Path.{Hop, lastFrom, IsPath, Leads, word, Reached}
 
 module _ (L : Language) where
   -- the hops r are preferred to whatever goes along p and then on by e

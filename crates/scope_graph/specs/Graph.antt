@@ -1,7 +1,6 @@
 -- The graph: scopes, edges, declarations, open pairs, and a query. Assumes nothing: these are definitions.
 use Prim.Native.Nat.{ℕ, _<_}
 use mathlib.Core.Path.{_≡_}
-use mathlib.Core.Bool.{Bool, true, false}
 use mathlib.Core.List.{List}
 use Rattle.scope_graph.specs.Language.{_∈_, End, stop, by, Language}
 
@@ -24,7 +23,7 @@ module _ (L : Language) where
     pub edges : List (Edge)
     pub declarations : List (Declaration)
 
-  -- The rows speak of scopes of the graph and of listed labels (01, refusal 3).
+  -- The rows speak of scopes of the graph and of listed labels (01, refusal 3), and edges between the same two scopes may stand together.
   pub record InRange (g : Graph) : Type 0 where
     pub from-scope : (e : Edge) → e ∈ g .edges → e .from < g .scopes
     pub to-scope : (e : Edge) → e ∈ g .edges → e .to < g .scopes

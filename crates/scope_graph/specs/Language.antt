@@ -16,7 +16,7 @@ pub data End (A : Type 0) : Type 0 where
   stop : End A
   by : A → End A
 
--- 01, "The gym file". A step is what an edge carries: in document 01 its label.
+-- 01, "The gym file". `Step` is what an edge carries: in document 01 its label alone. (A step of a path in 01's sense, a label and a scope, is a hop in Path.)
 pub record Language : Type 1 where
   pub Step : Type 0
   pub same-step : Step → Step → Bool
@@ -25,18 +25,19 @@ pub record Language : Type 1 where
   pub labels : ℕ
   pub Name : Type 0
   pub same-name : Name → Name → Bool
-  -- the order pairs: the first end is preferred to the second
+  -- the order pairs, as a test of two ends: is the one preferred to the other?
   pub prefers : End Step → End Step → Bool
-  -- the automaton: states are numbered from 0, the start is 0; a missing transition is `none`
+  -- the automaton: how many states there are, the next one from a state by a label, if any, and which accept. Paths begin in state 0.
   pub states : ℕ
   pub next : ℕ → ℕ → Option ℕ
   pub accepts : ℕ → Bool
-  -- a step of the given label that none of the listed steps, and not `$`, is preferred to, if there is such a step
+  -- A step of the given label that stands for all of that label: whichever of the listed steps, or `$`, is preferred to it is preferred to every step of the label.
   pub strongest : List Step → ℕ → Step
   -- may two edges with the same two scopes carry these steps? In document 01 always.
   pub Together : Step → Step → Type 0
 
--- What an accepted file gives: refusal 6 makes the order irreflexive and transitive, refusal 3 keeps labels and states in their lists.
+-- What the theorems rely on. The tests of equality are right; the order is irreflexive and transitive (01's refusal 6); transitions speak of listed labels and
+-- states (refusal 3); `strongest` is what its comment says; an edge may stand beside itself.
 pub record Laws (L : Language) : Type 0 where
   pub step-same : (a b : L .Step) → L .same-step a b ≡ true → a ≡ b
   pub step-self : (a : L .Step) → L .same-step a a ≡ true

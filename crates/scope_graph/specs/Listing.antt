@@ -1,9 +1,9 @@
 -- The order of a file's rows and of a listing's (01, "The gym file" and "The listing"), and what `found` says. Assumes nothing: these are definitions.
-use Prim.Native.Nat.{ℕ, _<_}
+use Prim.Native.Nat.{_<_}
 use mathlib.Core.Path.{_≡_}
 use mathlib.Core.Logic.{_⊎_}
 use mathlib.Core.List.{List, [], _∷_}
-use Rattle.scope_graph.specs.Language.{_∈_, End, stop, by, Language, Laws}
+use Rattle.scope_graph.specs.Language.{_∈_, Language, Laws}
 use Rattle.scope_graph.specs.Graph.{Edge, Declaration, Graph, InRange, Query, OpenPair}
 use Rattle.scope_graph.specs.Path.{Hop, PathRow, Entry}
 use Rattle.scope_graph.specs.Completion.{PairBefore}
@@ -19,18 +19,18 @@ module _ (L : Language) where
   abbrev pub HopBefore : Hop L → Hop L → Type 0
   HopBefore h k = (L .label (h .step) < L .label (k .step)) ⊎ ((L .label (h .step) ≡ L .label (k .step)) × (h .to < k .to))
 
-  -- at the first difference: an ended path first, then label number, then scope
+  -- by the first hops that are not the same; a path that has no further hop comes first
   abbrev pub HopsBefore : List (Hop L) → List (Hop L) → Type 0
   HopsBefore [] [] = ⊥
   HopsBefore [] (k ∷ p) = Unit {0}
   HopsBefore (h ∷ r) [] = ⊥
   HopsBefore (h ∷ r) (k ∷ p) = HopBefore h k ⊎ ((h ≡ k) × HopsBefore r p)
 
-  -- equal paths by mark
+  -- rows of one path by their marks
   abbrev pub RowBefore : PathRow L → PathRow L → Type 0
   RowBefore r p = HopsBefore (r .path .hops) (p .path .hops) ⊎ ((r .path ≡ p .path) × (r .mark < p .mark))
 
-  -- edge rows ascend by from, label, to; the declarations of one name at one scope by mark
+  -- The order of edge rows; and of declarations as far as it matters here: those of one name at one scope stand by their marks.
   abbrev pub EdgeBefore : Edge L → Edge L → Type 0
   EdgeBefore e f =
       (e .from < f .from)
@@ -39,7 +39,7 @@ module _ (L : Language) where
   abbrev pub MarkBefore : Declaration L → Declaration L → Type 0
   MarkBefore d e = d .at ≡ e .at → d .name ≡ e .name → d .mark < e .mark
 
-  -- What a query may rely on in an accepted graph (01, "The listing"): its rows are in range and ascend, and the query starts at a scope.
+  -- What the theorems rely on of an accepted graph and a query of it: less than refusals 1 to 6 give.
   pub record Accepted (g : Graph L) (opens : List (OpenPair L)) (q : Query L) : Type 0 where
     pub laws : Laws L
     pub in-range : InRange L g
@@ -48,7 +48,7 @@ module _ (L : Language) where
     pub opens-ascend : Pairwise (PairBefore L) opens
     pub starts : q .start < g .scopes
 
-  -- 01's `found`, by the number of entries
+  -- 01's `found`: no entry, exactly one, two that are not the same
   abbrev pub FoundIs : Graph L → Query L → Found → Type 0
   FoundIs g q found-none = (r : PathRow L) → ¬ Entry L g q r
   FoundIs g q found-one = (r : PathRow L) × Entry L g q r × ((p : PathRow L) → Entry L g q p → p ≡ r)

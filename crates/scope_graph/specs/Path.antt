@@ -1,18 +1,18 @@
 -- Paths and what a query sees (01, "Paths"). Assumes nothing: these are definitions.
 use Prim.Native.Nat.{ℕ, _<_}
 use mathlib.Core.Path.{_≡_}
-use mathlib.Core.Bool.{Bool, true, false}
+use mathlib.Core.Bool.{true}
 use mathlib.Core.Option.{Option, some, none}
 use mathlib.Core.List.{List, [], _∷_, _++_}
 use Rattle.scope_graph.specs.Language.{_∈_, End, stop, by, Language}
-use Rattle.scope_graph.specs.Graph.{Edge, Declaration, Graph, Query}
+use Rattle.scope_graph.specs.Graph.{Graph, Query}
 
 -- no element twice
 abbrev pub Distinct : List ℕ → Type 0
 Distinct [] = Unit {0}
 Distinct (x ∷ xs) = ¬ (x ∈ xs) × Distinct xs
 
--- one step of a path: what its edge carries, and the scope that it comes to
+-- one step of a path in 01's sense: what its edge carries, and the scope that it comes to. Over the type of what is carried, so that the search's tables share it.
 pub record HopOf (A : Type 0) : Type 0 where
   pub step : A
   pub to : ℕ
@@ -21,6 +21,7 @@ abbrev pub Hop : Language → Type 0
 Hop L = HopOf (L .Step)
 
 module _ (L : Language) where
+  -- any start and hops, whether or not they are a path of a graph: IsPath says that
   pub record Path : Type 0 where
     pub start : ℕ
     pub hops : List (Hop L)
@@ -44,7 +45,7 @@ module _ (L : Language) where
   Along g s [] = Unit {0}
   Along g s (h ∷ hs) = (record { from = s; step = h .step; to = h .to } ∈ g .edges) × Along g (h .to) hs
 
-  -- a path of the graph: it starts at a scope, goes along edges, and meets no scope twice; so a self-edge is on none
+  -- a path of the graph; a self-edge would meet its scope twice, so it is on none
   pub record IsPath (g : Graph L) (p : Path) : Type 0 where
     pub starts : p .start < g .scopes
     pub along : Along g (p .start) (p .hops)
@@ -55,6 +56,7 @@ module _ (L : Language) where
   Leads q [] r = q ≡ r
   Leads q (l ∷ ls) r = (s : ℕ) × (L .next q l ≡ some s) × Leads s ls r
 
+  -- the labels of the hops
   abbrev pub word : List (Hop L) → List ℕ
   word [] = []
   word (h ∷ hs) = L .label (h .step) ∷ word hs
@@ -114,7 +116,7 @@ module _ (L : Language) where
     abbrev pub MarkDeclared : PathRow → Type 0
     MarkDeclared r = Declares g (lastFrom (r .path .start) (r .path .hops)) (q .name) (r .mark)
 
-    -- 01's term *entry*: a visible path with the mark of one matching declaration
+    -- 01's term *entry*
     pub record Entry (r : PathRow) : Type 0 where
       pub visible : Visible (r .path)
       pub declared : MarkDeclared r

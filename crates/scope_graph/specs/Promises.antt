@@ -1,21 +1,20 @@
 -- What is proved of the rules: each field is a statement, and proofs/Promises.antt has the value. Assumes nothing: these are statements.
-use Prim.Native.Nat.{ℕ}
 use mathlib.Core.Path.{_≡_}
-use mathlib.Core.Bool.{Bool, true, false}
+use mathlib.Core.Bool.{true}
 use mathlib.Core.Logic.{_↔_}
-use mathlib.Core.Option.{Option, some, none}
+use mathlib.Core.Option.{none}
 use mathlib.Core.List.{List}
 use Rattle.scope_graph.specs.Language.{_∈_, stop, Language, Laws}
 use Rattle.scope_graph.specs.Graph.{Graph, Query, OpenPair}
-use Rattle.scope_graph.specs.Path.{Hop, Path, PathRow, MoreSpecific, Reached, Visible, Shadowed, Unreached, MarkDeclared, Entry}
+use Rattle.scope_graph.specs.Path.{Path, PathRow, MoreSpecific, Reached, Visible, Shadowed, Unreached, MarkDeclared, Entry}
 use Rattle.scope_graph.specs.Completion.{Decisive, Settled, Awaits}
 use Rattle.scope_graph.specs.Rows.{Rules, RulesPass}
 use Rattle.scope_graph.specs.Rows.{language as languageOf}
 use Rattle.scope_graph.specs.Followed.{Preferred, FollowedAt}
-use Rattle.scope_graph.specs.Computed.{Standing, is-visible, is-shadowed, is-unreached, moreSpecific, standing, judged, entries, found, followedAt, awaits}
+use Rattle.scope_graph.specs.Computed.{is-visible, is-shadowed, is-unreached, moreSpecific, standing, judged, entries, found, followedAt, awaits}
 use Rattle.scope_graph.specs.Listing.{Pairwise, RowBefore, Accepted, FoundIs}
 
--- a gym file that meets neither refusal 3 nor 6 gives a language with the laws
+-- rules that refusals 3 and 6 let pass give a language with the laws
 abbrev pub LanguageLaws : Type 0
 LanguageLaws = (r : Rules) → RulesPass r → Laws (languageOf r)
 
@@ -41,6 +40,7 @@ module _ (L : Language) where
       -- the computed entries are the entries of the rules, each once, in the listing's order
       pub entries-are : (r : PathRow L) → (r ∈ entries L g q) ↔ Entry L g q r
       pub entries-ascend : Pairwise (RowBefore L) (entries L g q)
+      pub once : (r : PathRow L) → ¬ RowBefore L r r
       pub found-is : FoundIs L g q (found L g q)
       -- decisive is open and followed; settled is that no pair is decisive; the computed `awaits` is the first decisive pair, and `-` exactly if settled
       pub decisive : (o : OpenPair L) → Decisive L g opens q o ↔ ((o ∈ opens) × FollowedAt L g q o)

@@ -1,13 +1,12 @@
 -- The language of a gym file (01, "The gym file"): labels, order pairs, transitions and accept rows as they stand in the file. Assumes nothing: these are definitions.
 use Prim.Native.Nat.{ℕ, _<_}
-use mathlib.Core.Path.{_≡_}
 use mathlib.Core.Bool.{Bool, true, false, _&&_}
 use mathlib.Core.Option.{Option, some, none}
 use mathlib.Core.List.{List, [], _∷_}
 use lib.Dec.{eqb}
 use Rattle.scope_graph.specs.Language.{_∈_, End, stop, by, Language}
 
--- a row `less more`: the first end is preferred to the second
+-- a row `less more`: `less` is the end that is preferred
 pub record OrderPair : Type 0 where
   pub less : End ℕ
   pub more : End ℕ
@@ -18,7 +17,7 @@ pub record Transition : Type 0 where
   pub label : ℕ
   pub next : ℕ
 
--- a name as two numbers: its 16 bytes, big end first, zero-padded
+-- a name as two numbers: its first eight bytes and its last eight, big end first, with zeros for bytes that it lacks
 pub record PackedName : Type 0 where
   pub high : ℕ
   pub low : ℕ
@@ -30,6 +29,7 @@ pub record Rules : Type 0 where
   pub transitions : List Transition
   pub accept : List ℕ
 
+-- tests of equality
 unfoldable pub sameEnd : End ℕ → End ℕ → Bool
 sameEnd stop stop = true
 sameEnd stop (by k) = false
@@ -69,12 +69,12 @@ language r = record {
   Together = λ t u. Unit {0};
 }
 
--- 01's refusal 6 is not met: no pair has equal ends, and with a, b and b, c there is a, c
+-- The order that 01's refusal 6 lets pass.
 pub record OrderPasses (rows : List OrderPair) : Type 0 where
   pub apart : (a : End ℕ) → ¬ (record { less = a; more = a } ∈ rows)
   pub closed : (a b c : End ℕ) → record { less = a; more = b } ∈ rows → record { less = b; more = c } ∈ rows → record { less = a; more = c } ∈ rows
 
--- what refusals 3 and 6 leave
+-- what refusals 3 and 6 leave, as far as the laws need it
 pub record RulesPass (r : Rules) : Type 0 where
   pub order : OrderPasses (r .order)
   pub labels : (t : Transition) → t ∈ r .transitions → t .label < r .labels
