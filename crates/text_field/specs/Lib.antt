@@ -1,0 +1,4 @@
+pub mod Bytes
+pub mod Number
+pub mod Name
+pub mod Buffer
