@@ -1,0 +1,102 @@
+-- Which ends are cut, from which ends lead on. Assumes nothing.
+use mathlib.Core.Path.{_≡_, refl, sym, ap, _∙_}
+use mathlib.Core.Logic.{_⊎_, inl, inr, ⊎-elim}
+use mathlib.Core.Bool.{Bool, true, false, not, _&&_, _||_, false≢true}
+use mathlib.Core.List.{List, [], _∷_}
+use Prim.Native.Nat.{ℕ, zero, suc, _+_, _-_, _*_, _≤_, _<_}
+use native.Mathlib.Numerals.{sub-one}
+use lib.ListN.{drop}
+use native.Mathlib.Omega.{arith}
+use borrow.Author.Tests.{eq-eqb, eqb-true, lt-ltb}
+use lib.Dec.{eqb, ltb}
+use Rattle.scope_graph.specs.Language.{_∈_, End, stop, by}
+use Rattle.scope_graph.specs.Order.{endOf}
+use Rattle.scope_graph.specs.Path.{HopOf}
+use Rattle.scope_graph.specs.Rows.{anyOf}
+use Rattle.scope_graph.proofs.Lists.{and-left, and-right, and-both, or-cases, or-left, or-right, not-true, true-false, anyOf-intro, anyOf-elim}
+use Rattle.search.specs.Board.{Board, leadsOn, cutHere}
+use Rattle.search.specs.Tables.{rowHops, placeFlag, pairFlag, freeFlag, tableOrder, endNumber, tableBoard}
+use Rattle.search.specs.Steps.{wantedHop, hopTo, behindEnd, AsOrdered, CutBy}
+use Rattle.search.proofs.Cells.{pair-first}
+
+-- an end's number and back
+end-number : (c : ℕ) → endNumber (endOf c) ≡ c
+unfolding endNumber endOf
+end-number zero = refl
+end-number (suc n) = refl
+
+-- what lies at an end: here, or behind the hops of its label
+module _ (edges delta goal : List ℕ) (fuel : ℕ) (free : ℕ → Bool) (s q a : ℕ) where
+  pub behind-stop : a ≡ 0 → behindEnd (tableBoard edges delta goal) fuel free s q a ≡ placeFlag goal s q
+  unfolding behindEnd tableBoard
+  behind-stop e = rw e
+
+  pub behind-by : (a ≡ 0 → ⊥) → behindEnd (tableBoard edges delta goal) fuel free s q a
+      ≡ anyOf (λ h. wantedHop (a - 1) h && leadsOn (tableBoard edges delta goal) fuel free q h) (rowHops (drop 0 edges) s)
+  unfolding behindEnd tableBoard
+  behind-by h = at a h
+    where
+      at : (n : ℕ) → (n ≡ 0 → ⊥) → behindEnd (tableBoard edges delta goal) fuel free s q n
+          ≡ anyOf (λ k. wantedHop (n - 1) k && leadsOn (tableBoard edges delta goal) fuel free q k) (rowHops edges s)
+      at zero k = absurd (k refl)
+      at (suc l) k = simp sub-one
+
+-- which hops the number of a label asks for
+wanted-step : (l : ℕ) (h : HopOf ℕ) → l < 8 → wantedHop l h ≡ true → h .step ≡ l
+unfolding wantedHop
+wanted-step l h k e = eqb-true (h .step) l (rw (lt-ltb l 8 k, wantedHop) at e)
+
+wanted-own : (h : HopOf ℕ) → h .step < 8 → wantedHop (h .step) h ≡ true
+unfolding wantedHop
+wanted-own h k = rw (lt-ltb (h .step) 8 k, wantedHop) (eq-eqb (h .step) (h .step) refl)
+
+module _ (b : Board ℕ) (order leads : List ℕ) (fuel : ℕ) (free : ℕ → Bool) (s q c : ℕ)
+    (ways : (a : ℕ) → a < 9 → AsOrdered order a (behindEnd b fuel free s q a) (freeFlag leads a)) where
+  abbrev by-hop : HopOf ℕ → Bool
+  by-hop h = tableOrder order (by (h .step)) (endOf c) && leadsOn b fuel free q h
+
+  abbrev by-stop : Bool
+  by-stop = b .here s q && tableOrder order stop (endOf c)
+
+  -- an end that leads on and is preferred cuts
+  cut-yes : (a : ℕ) → a < 9 → pairFlag order a c ≡ true → behindEnd b fuel free s q a ≡ true
+      → cutHere b (tableOrder order) fuel free s q (endOf c) ≡ true
+  unfolding cutHere behindEnd tableOrder endNumber
+  cut-yes zero h k m = or-left by-stop _ (and-both (b .here s q) _ m (rw (end-number c) k))
+  cut-yes (suc l) h k m =
+      let found = anyOf-elim (λ y. wantedHop l y && leadsOn b fuel free q y) (b .hops s) m in
+      let hop = found .0 in
+      let is : hop .step ≡ l = wanted-step l hop (omega arith) (and-left (wantedHop l hop) _ (found .2)) in
+      let first : tableOrder order (by (hop .step)) (endOf c) ≡ true = rw (is, end-number c) k in
+      or-right by-stop _ (anyOf-intro by-hop {a = hop} {l = b .hops s} (found .1)
+      (and-both (tableOrder order (by (hop .step)) (endOf c)) (leadsOn b fuel free q hop) first (and-right (wantedHop l hop) (leadsOn b fuel free q hop) (found .2))))
+
+  -- and nothing else does
+  cut-some : cutHere b (tableOrder order) fuel free s q (endOf c) ≡ true
+      → (a : ℕ) × (a < 9) × (pairFlag order a c ≡ true) × (behindEnd b fuel free s q a ≡ true)
+  unfolding cutHere behindEnd tableOrder endNumber
+  cut-some e =
+      ⊎-elim
+      (λ y. (0, omega arith, rw (end-number c) at (and-right (b .here s q) (tableOrder order stop (endOf c)) y), and-left (b .here s q) (tableOrder order stop (endOf c)) y))
+      (λ y.
+      let found = anyOf-elim by-hop (b .hops s) y in
+      let hop = found .0 in
+      let first : pairFlag order (suc (hop .step)) c ≡ true = rw (end-number c) at (and-left (tableOrder order (by (hop .step)) (endOf c)) (leadsOn b fuel free q hop) (found .2)) in
+      let below : suc (hop .step) < 9 = pair-first order (suc (hop .step)) c first in (
+        suc (hop .step),
+        below,
+        first,
+        anyOf-intro (λ y. wantedHop (hop .step) y && leadsOn b fuel free q y) {a = hop} {l = b .hops s} (found .1)
+            (and-both (wantedHop (hop .step) hop) (leadsOn b fuel free q hop) (wanted-own hop (omega arith))
+            (and-right (tableOrder order (by (hop .step)) (endOf c)) (leadsOn b fuel free q hop) (found .2))),
+      ))
+      (or-cases by-stop _ e)
+
+  pub cut-is : (r : Bool) → CutBy order leads c r → r ≡ cutHere b (tableOrder order) fuel free s q (endOf c)
+  cut-is true h =
+      let found = h .some-end refl in
+      sym (cut-yes (found .0) (found .1) (found .2) (sym (ways (found .0) (found .1) c (found .2)) ∙ found .3))
+  cut-is false h =
+      sym (not-true (cutHere b (tableOrder order) fuel free s q (endOf c)) (λ y.
+      let found = cut-some y in
+      true-false (ways (found .0) (found .1) c (found .2) ∙ found .3) (h .no-end refl (found .0) (found .1) (found .2))))

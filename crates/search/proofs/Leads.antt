@@ -1,0 +1,177 @@
+-- One step of `existsFrom` and of the walk along a scope's rows; what a hop that is not worth entering leads to; the ends that are cut. Assumes nothing.
+use mathlib.Core.Path.{_≡_, refl, sym, ap, _∙_}
+use mathlib.Core.Logic.{_⊎_, inl, inr, ⊎-elim}
+use mathlib.Core.Bool.{Bool, true, false, not, _&&_, _||_, and-false, false≢true}
+use mathlib.Core.Option.{Option, some, none}
+use mathlib.Core.List.{List, [], _∷_}
+use Prim.Native.Nat.{ℕ, zero, suc, _+_, _-_, _*_, _≤_, _<_}
+use native.Mathlib.Omega.{arith}
+use native.Mathlib.Numerals.{sub-one}
+use borrow.Author.Tests.{eq-eqb, lt-ltb, le-ltb, ltb-true, ltb-false, eqb-true, eqb-false}
+use lib.Dec.{eqb, ltb}
+use lib.ListN.{length, getD, set, drop}
+use Rattle.scope_graph.specs.Language.{_∈_, End, stop, by}
+use Rattle.scope_graph.specs.Order.{endOf}
+use Rattle.scope_graph.specs.Path.{HopOf}
+use Rattle.scope_graph.specs.Rows.{anyOf}
+use Rattle.scope_graph.proofs.Lists.{Two, and-left, and-right, not-true, true-false, anyOf-intro, anyOf-elim}
+use Rattle.search.specs.Board.{Board, without, leadsTo, existsFrom, leadsOn, cutHere}
+use Rattle.search.specs.Live.{Closed, any-way}
+use Rattle.search.specs.Tables.{rowHops, stateOf, nextCell, placeFlag, pairFlag, freeFlag, tableOrder, endNumber, tableBoard}
+use Rattle.search.specs.Steps.{NextRow, wantedHop, worthState, hopTo}
+use Rattle.search.proofs.Cells.{place-state, free-taken, free-below, worth-yes, worth-unwanted, worth-taken, worth-dead}
+use Rattle.search.proofs.Closing.{state-cell}
+use Rattle.search.proofs.Closed.{Within, closed-less, closed-exists, without-within}
+use Rattle.search.proofs.Rows.{rows-none, rows-leave}
+
+-- the free scopes after one is taken are among those before
+pub taken-within : (free : List ℕ) (t : ℕ) → Within (freeFlag (set free t 0)) (freeFlag free)
+taken-within free t = rw (free-taken free t) (without-within (freeFlag free) (freeFlag free) t (λ k h. h))
+
+module _ (edges delta goal free : List ℕ) where
+  -- a closed table stays closed after one more scope is taken
+  pub taken-closed : (live : List ℕ) (t : ℕ)
+      → Closed (tableBoard edges delta goal) 64 (placeFlag goal) (any-way (tableBoard edges delta goal)) (freeFlag free) (placeFlag live)
+      → Closed (tableBoard edges delta goal) 64 (placeFlag goal) (any-way (tableBoard edges delta goal)) (freeFlag (set free t 0)) (placeFlag live)
+  taken-closed live t c =
+      closed-less (tableBoard edges delta goal) 64 (placeFlag goal) (any-way (tableBoard edges delta goal)) (freeFlag (set free t 0)) (freeFlag free)
+      (placeFlag live) (taken-within free t) c
+
+  -- the scope itself
+  pub exists-none : (fuel s q : ℕ) → fuel ≡ 0 → existsFrom (tableBoard edges delta goal) fuel (freeFlag free) s q ≡ false
+  unfolding existsFrom
+  exists-none fuel s q e = rw e
+
+  pub exists-here : (fuel s q : ℕ) → (fuel ≡ 0 → ⊥) → placeFlag goal s q ≡ true
+      → existsFrom (tableBoard edges delta goal) fuel (freeFlag free) s q ≡ true
+  unfolding existsFrom tableBoard
+  exists-here zero s q h e = absurd (h refl)
+  exists-here (suc fuel) s q h e = rw (e, existsFrom)
+
+  pub exists-on : (fuel s q : ℕ) → (fuel ≡ 0 → ⊥) → placeFlag goal s q ≡ false
+      → existsFrom (tableBoard edges delta goal) fuel (freeFlag free) s q
+      ≡ anyOf (λ h. wantedHop 8 h && leadsOn (tableBoard edges delta goal) (fuel - 1) (freeFlag free) q h) (rowHops (drop 0 edges) s)
+  unfolding existsFrom tableBoard wantedHop leadsOn
+  exists-on zero s q h e = absurd (h refl)
+  exists-on (suc fuel) s q h e = rw (e, existsFrom) (simp sub-one)
+
+  module _ (fuel q want : ℕ) where
+    -- the walk from cell p on
+    abbrev walk : List (HopOf ℕ) → Bool
+    walk hs = anyOf (λ h. wantedHop want h && leadsOn (tableBoard edges delta goal) fuel (freeFlag free) q h) hs
+
+    -- does the question ask for the hop, and does it lead on?
+    abbrev one : HopOf ℕ → Bool
+    one h = wantedHop want h && leadsOn (tableBoard edges delta goal) fuel (freeFlag free) q h
+
+    pub walk-found : (h : HopOf ℕ) (hs : List (HopOf ℕ)) → one h ≡ true → walk (h ∷ hs) ≡ true
+    unfolding anyOf
+    walk-found h hs e = rw (e, anyOf)
+
+    pub walk-on : (h : HopOf ℕ) (hs : List (HopOf ℕ)) → one h ≡ false → walk (h ∷ hs) ≡ walk hs
+    unfolding anyOf
+    walk-on h hs e = rw (e, anyOf)
+
+    pub walk-none : walk [] ≡ false
+    unfolding anyOf
+    walk-none = refl
+
+    -- a hop to a free scope, with the state after it
+    pub one-enter : (l t r : ℕ) → wantedHop want (hopTo l t) ≡ true → freeFlag free t ≡ true → stateOf (nextCell delta q l) ≡ some r
+        → one (hopTo l t) ≡ existsFrom (tableBoard edges delta goal) fuel (freeFlag (set free t 0)) t r
+    unfolding leadsOn leadsTo tableBoard
+    one-enter l t r h k m = rw (h, k, m, leadsTo) (rw (free-taken free t))
+
+    pub one-unwanted : (l t : ℕ) → wantedHop want (hopTo l t) ≡ false → one (hopTo l t) ≡ false
+    one-unwanted l t h = rw h
+
+    pub one-taken : (l t : ℕ) → freeFlag free t ≡ false → one (hopTo l t) ≡ false
+    unfolding leadsOn leadsTo
+    one-taken l t h = rw (h, leadsTo) (and-false (wantedHop want (hopTo l t)))
+
+    pub one-stuck : (l t : ℕ) → stateOf (nextCell delta q l) ≡ none → one (hopTo l t) ≡ false
+    unfolding leadsOn leadsTo tableBoard
+    one-stuck l t h = at (freeFlag free t) (Two (freeFlag free t)) ∙ and-false (wantedHop want (hopTo l t))
+      where
+        at : (b : Bool) → (freeFlag free t ≡ true) ⊎ (freeFlag free t ≡ false)
+            → one (hopTo l t) ≡ (wantedHop want (hopTo l t) && false)
+        at b (inl e) = rw (e, h, leadsTo)
+        at b (inr e) = rw (e, leadsTo)
+
+    -- a hop whose place a closed table lacks leads nowhere
+    module _ (live : List ℕ) (closed : Closed (tableBoard edges delta goal) 64 (placeFlag goal) (any-way (tableBoard edges delta goal)) (freeFlag free) (placeFlag live))
+        (size : length free ≡ 64) (l t : ℕ) where
+      pub one-dead : placeFlag live t (nextCell delta q l) ≡ false → one (hopTo l t) ≡ false
+      unfolding tableBoard
+      one-dead h = at (Two (wantedHop want (hopTo l t))) (Two (freeFlag free t)) (stateOf (nextCell delta q l)) refl
+        where
+          at : (wantedHop want (hopTo l t) ≡ true) ⊎ (wantedHop want (hopTo l t) ≡ false) → (freeFlag free t ≡ true) ⊎ (freeFlag free t ≡ false)
+              → (o : Option ℕ) → stateOf (nextCell delta q l) ≡ o → one (hopTo l t) ≡ false
+          at (inr w) f o e = one-unwanted l t w
+          at (inl w) (inr f) o e = one-taken l t f
+          at (inl w) (inl f) none e = one-stuck l t e
+          at (inl w) (inl f) (some r) e =
+              one-enter l t r w f e
+              ∙ closed-exists (tableBoard edges delta goal) 64 (freeFlag free) (placeFlag live) (λ k y. rw size at (free-below free k y)) closed fuel
+              (freeFlag (set free t 0)) t r (taken-within free t) (rw size at (free-below free t f)) (rw (state-cell (nextCell delta q l) r e) at h)
+
+      -- r is the state that the code enters with, or 16
+      module _ (r : ℕ) (is : r ≡ worthState delta live free q want (hopTo l t)) where
+        yes-state : placeFlag live t (nextCell delta q l) ≡ true → stateOf (nextCell delta q l) ≡ some (nextCell delta q l)
+        unfolding stateOf
+        yes-state h = rw (lt-ltb (nextCell delta q l) 16 (place-state live t (nextCell delta q l) h), stateOf)
+
+        pub worth-no : 15 < r → one (hopTo l t) ≡ false
+        worth-no h = at (Two (wantedHop want (hopTo l t))) (Two (freeFlag free t)) (Two (placeFlag live t (nextCell delta q l)))
+          where
+            at : (wantedHop want (hopTo l t) ≡ true) ⊎ (wantedHop want (hopTo l t) ≡ false) → (freeFlag free t ≡ true) ⊎ (freeFlag free t ≡ false)
+                → (placeFlag live t (nextCell delta q l) ≡ true) ⊎ (placeFlag live t (nextCell delta q l) ≡ false) → one (hopTo l t) ≡ false
+            at (inr w) f p = one-unwanted l t w
+            at (inl w) (inr f) p = one-taken l t f
+            at (inl w) (inl f) (inr p) = one-dead p
+            at (inl w) (inl f) (inl p) =
+                absurd (omega (arith, is ∙ worth-yes delta live free q want l t w f p, place-state live t (nextCell delta q l) p))
+
+        pub worth-enter : r ≤ 15 → one (hopTo l t) ≡ existsFrom (tableBoard edges delta goal) fuel (freeFlag (set free t 0)) t r
+        worth-enter h = at (Two (wantedHop want (hopTo l t))) (Two (freeFlag free t)) (Two (placeFlag live t (nextCell delta q l)))
+          where
+            at : (wantedHop want (hopTo l t) ≡ true) ⊎ (wantedHop want (hopTo l t) ≡ false) → (freeFlag free t ≡ true) ⊎ (freeFlag free t ≡ false)
+                → (placeFlag live t (nextCell delta q l) ≡ true) ⊎ (placeFlag live t (nextCell delta q l) ≡ false)
+                → one (hopTo l t) ≡ existsFrom (tableBoard edges delta goal) fuel (freeFlag (set free t 0)) t r
+            at (inr w) f p = absurd (omega (arith, is ∙ worth-unwanted delta live free q want l t w))
+            at (inl w) (inr f) p = absurd (omega (arith, is ∙ worth-taken delta live free q want l t f))
+            at (inl w) (inl f) (inr p) = absurd (omega (arith, is ∙ worth-dead delta live free q want l t p))
+            at (inl w) (inl f) (inl p) = rw (is ∙ worth-yes delta live free q want l t w f p) (one-enter l t (nextCell delta q l) w f (yes-state p))
+
+-- the walk along the rows from cell p on, of which the next one that leaves the scope stands at `at`
+module _ (edges delta goal free : List ℕ) (fuel q want s p at : ℕ) (row : NextRow edges s p at) where
+  abbrev along : ℕ → Bool
+  along k = walk edges delta goal free fuel q want (rowHops (drop k edges) s)
+
+  pub along-none : length edges ≤ at → along p ≡ false
+  along-none h =
+      ap (walk edges delta goal free fuel q want) (row .same ∙ rows-none edges s at (omega arith)) ∙ walk-none edges delta goal free fuel q want
+
+  module _ (inside : at < length edges) where
+    abbrev hop : HopOf ℕ
+    hop = hopTo (getD edges (at + 2) 0) (getD edges (at + 3) 0)
+
+    along-row : along p ≡ walk edges delta goal free fuel q want (hop ∷ rowHops (drop (at + 6) edges) s)
+    along-row = ap (walk edges delta goal free fuel q want) (row .same ∙ rows-leave edges s at (row .whole inside) (row .leaves inside))
+
+    module _ (live : List ℕ) (closed : Closed (tableBoard edges delta goal) 64 (placeFlag goal) (any-way (tableBoard edges delta goal)) (freeFlag free) (placeFlag live))
+        (size : length free ≡ 64) (r : ℕ) (is : r ≡ worthState delta live free q want hop) where
+      enter : r ≤ 15 → one edges delta goal free fuel q want hop ≡ existsFrom (tableBoard edges delta goal) fuel (freeFlag (set free (hop .to) 0)) (hop .to) r
+      enter = worth-enter edges delta goal free fuel q want live closed size (hop .step) (hop .to) r is
+
+      pub along-skip : 15 < r → along p ≡ along (at + 6)
+      along-skip h =
+          along-row
+          ∙ walk-on edges delta goal free fuel q want hop (rowHops (drop (at + 6) edges) s)
+          (worth-no edges delta goal free fuel q want live closed size (hop .step) (hop .to) r is h)
+
+      pub along-found : r ≤ 15 → existsFrom (tableBoard edges delta goal) fuel (freeFlag (set free (hop .to) 0)) (hop .to) r ≡ true → along p ≡ true
+      along-found h e = along-row ∙ walk-found edges delta goal free fuel q want hop (rowHops (drop (at + 6) edges) s) (enter h ∙ e)
+
+      pub along-on : r ≤ 15 → existsFrom (tableBoard edges delta goal) fuel (freeFlag (set free (hop .to) 0)) (hop .to) r ≡ false → along p ≡ along (at + 6)
+      along-on h e = along-row ∙ walk-on edges delta goal free fuel q want hop (rowHops (drop (at + 6) edges) s) (enter h ∙ e)
