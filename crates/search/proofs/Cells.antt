@@ -1,20 +1,21 @@
 -- Laws of the tables' flags: what a read inside the table gives, what one outside gives, what a write leaves. Assumes nothing.
-use mathlib.Core.Path.{_≡_, refl, sym, ap, _∙_, fun-ext, subst}
+use mathlib.Core.Path.{_≡_, refl, sym, _∙_, fun-ext, subst}
 use mathlib.Core.Logic.{_⊎_, inl, inr, ⊎-elim}
 use mathlib.Core.Bool.{Bool, true, false, not, _&&_, and-false, and-true, false≢true}
 use mathlib.Core.List.{List, [], _∷_}
-use Prim.Native.Nat.{ℕ, zero, suc, _+_, _-_, _*_, _≤_, _<_}
+use Prim.Native.Nat.{ℕ, zero, suc, _+_, _*_, _≤_, _<_}
 use native.Mathlib.Omega.{arith}
 use native.Mathlib.Numerals.{add-one}
 use borrow.Author.Count.{below-more}
-use borrow.Author.Tests.{ne-eqb, eq-eqb, lt-ltb, le-ltb, ltb-true, ltb-false, eqb-true, eqb-false}
+use borrow.Author.Tests.{eq-eqb, lt-ltb, le-ltb, ltb-true, ltb-false, eqb-true, eqb-false}
 use lib.Dec.{eqb, ltb}
 use lib.ListN.{length, getD, set, List·getD-eq-default}
 use lib.Seq.{getD-set-same, getD-set-other, set-out}
 use Rattle.scope_graph.specs.Language.{stop, by}
 use Rattle.scope_graph.proofs.Lists.{Two, and-left, and-right}
 use Rattle.search.specs.Board.{without}
-use Rattle.search.specs.Tables.{nextCell, placeFlag, pairFlag, freeFlag, tableOrder, endNumber}
+use Rattle.search.specs.Live.{any-way, open-way}
+use Rattle.search.specs.Tables.{nextCell, placeFlag, pairFlag, freeFlag, tableOrder, endNumber, tableBoard}
 use Rattle.search.specs.Steps.{Kept, wayOf, lacks, hopTo, wantedHop, worthState}
 
 -- within the list the default does not matter
@@ -179,16 +180,26 @@ module _ (delta : List ℕ) (way : ℕ → ℕ → ℕ → Bool) (live : ℕ →
 
 module _ (goal order : List ℕ) (s q l : ℕ) where
   pub way-cut : placeFlag goal s q ≡ true → wayOf goal order true s q l ≡ not (tableOrder order stop (by l))
-  unfolding wayOf
-  way-cut h = rw h
+  unfolding wayOf open-way tableBoard
+  way-cut h = rw (h, open-way)
 
   pub way-open : placeFlag goal s q ≡ false → wayOf goal order true s q l ≡ true
-  unfolding wayOf
-  way-open h = rw h
+  unfolding wayOf open-way tableBoard
+  way-open h = rw (h, open-way)
 
   pub way-any : wayOf goal order false s q l ≡ true
-  unfolding wayOf
+  unfolding wayOf any-way
   way-any = refl
+
+-- the ways of a board with this goal
+module _ (edges delta goal order : List ℕ) where
+  pub way-is-open : wayOf goal order true ≡ open-way (tableBoard edges delta goal) (tableOrder order)
+  unfolding wayOf open-way tableBoard
+  way-is-open = refl
+
+  pub way-is-any : wayOf goal order false ≡ any-way (tableBoard edges delta goal)
+  unfolding wayOf any-way
+  way-is-any = refl
 
 module _ (want l t : ℕ) where
   pub wanted-one : want < 8 → wantedHop want (hopTo l t) ≡ eqb l want

@@ -1,21 +1,19 @@
 -- A table that lacks nothing a row leads from is closed, and so is the table of all places. Assumes nothing.
-use mathlib.Core.Path.{_≡_, refl, sym, ap, _∙_, subst}
+use mathlib.Core.Path.{_≡_, refl, sym, _∙_, subst}
 use mathlib.Core.Logic.{_⊎_, inl, inr, ⊎-elim}
 use mathlib.Core.Bool.{Bool, true, false, not, _&&_, false≢true}
 use mathlib.Core.Option.{Option, some, none}
-use mathlib.Core.List.{List, [], _∷_, List·Memᴰ·cases-cons, List·Memᴰ·not-nil}
-use Prim.Native.Nat.{ℕ, zero, suc, _+_, _*_, _≤_, _<_}
+use mathlib.Core.List.{List, List·Memᴰ·cases-cons, List·Memᴰ·not-nil}
+use Prim.Native.Nat.{ℕ, _+_, _*_, _≤_, _<_}
 use native.Mathlib.Omega.{arith}
 use borrow.Author.Tests.{eq-eqb, ltb-true, ltb-false, eqb-true, eqb-false}
 use lib.Dec.{eqb, ltb}
 use lib.ListN.{length, getD, drop, replicate, getD-replicate}
-use Rattle.scope_graph.specs.Language.{_∈_}
 use Rattle.scope_graph.specs.Path.{HopOf}
 use Rattle.scope_graph.proofs.Lists.{Two}
-use Rattle.search.specs.Board.{Board}
-use Rattle.search.specs.Live.{Closed, any-way}
-use Rattle.search.specs.Tables.{rowHops, stateOf, nextCell, placeFlag, tableBoard}
-use Rattle.search.specs.Steps.{Kept, RowClosed, RowsClosed, lacks, wayOf, hopTo}
+use Rattle.search.specs.Live.{Closed}
+use Rattle.search.specs.Tables.{stateOf, nextCell, placeFlag, tableBoard}
+use Rattle.search.specs.Steps.{RowClosed, RowsClosed, lacks, hopTo}
 use Rattle.search.proofs.Cells.{place-in, place-scope, place-state, next-no-state}
 use Rattle.search.proofs.Rows.{rows-none, rows-leave, rows-pass}
 

@@ -1,22 +1,21 @@
 -- Which ends are cut, from which ends lead on. Assumes nothing.
-use mathlib.Core.Path.{_≡_, refl, sym, ap, _∙_}
-use mathlib.Core.Logic.{_⊎_, inl, inr, ⊎-elim}
-use mathlib.Core.Bool.{Bool, true, false, not, _&&_, _||_, false≢true}
-use mathlib.Core.List.{List, [], _∷_}
-use Prim.Native.Nat.{ℕ, zero, suc, _+_, _-_, _*_, _≤_, _<_}
+use mathlib.Core.Path.{_≡_, refl, sym, _∙_}
+use mathlib.Core.Logic.{⊎-elim}
+use mathlib.Core.Bool.{Bool, true, false, _&&_}
+use mathlib.Core.List.{List}
+use Prim.Native.Nat.{ℕ, zero, suc, _-_, _<_}
 use native.Mathlib.Numerals.{sub-one}
 use lib.ListN.{drop}
 use native.Mathlib.Omega.{arith}
 use borrow.Author.Tests.{eq-eqb, eqb-true, lt-ltb}
-use lib.Dec.{eqb, ltb}
-use Rattle.scope_graph.specs.Language.{_∈_, End, stop, by}
+use Rattle.scope_graph.specs.Language.{stop, by}
 use Rattle.scope_graph.specs.Order.{endOf}
 use Rattle.scope_graph.specs.Path.{HopOf}
 use Rattle.scope_graph.specs.Rows.{anyOf}
 use Rattle.scope_graph.proofs.Lists.{and-left, and-right, and-both, or-cases, or-left, or-right, not-true, true-false, anyOf-intro, anyOf-elim}
 use Rattle.search.specs.Board.{Board, leadsOn, cutHere}
 use Rattle.search.specs.Tables.{rowHops, placeFlag, pairFlag, freeFlag, tableOrder, endNumber, tableBoard}
-use Rattle.search.specs.Steps.{wantedHop, hopTo, behindEnd, AsOrdered, CutBy}
+use Rattle.search.specs.Steps.{wantedHop, behindEnd, AsOrdered, CutBy}
 use Rattle.search.proofs.Cells.{pair-first}
 
 -- an end's number and back

@@ -1,23 +1,20 @@
 -- One step of `existsFrom` and of the walk along a scope's rows; what a hop that is not worth entering leads to; the ends that are cut. Assumes nothing.
-use mathlib.Core.Path.{_≡_, refl, sym, ap, _∙_}
-use mathlib.Core.Logic.{_⊎_, inl, inr, ⊎-elim}
-use mathlib.Core.Bool.{Bool, true, false, not, _&&_, _||_, and-false, false≢true}
+use mathlib.Core.Path.{_≡_, refl, ap, _∙_}
+use mathlib.Core.Logic.{_⊎_, inl, inr}
+use mathlib.Core.Bool.{Bool, true, false, not, _&&_, and-false}
 use mathlib.Core.Option.{Option, some, none}
 use mathlib.Core.List.{List, [], _∷_}
-use Prim.Native.Nat.{ℕ, zero, suc, _+_, _-_, _*_, _≤_, _<_}
+use Prim.Native.Nat.{ℕ, zero, suc, _+_, _-_, _≤_, _<_}
 use native.Mathlib.Omega.{arith}
 use native.Mathlib.Numerals.{sub-one}
-use borrow.Author.Tests.{eq-eqb, lt-ltb, le-ltb, ltb-true, ltb-false, eqb-true, eqb-false}
-use lib.Dec.{eqb, ltb}
+use borrow.Author.Tests.{lt-ltb}
 use lib.ListN.{length, getD, set, drop}
-use Rattle.scope_graph.specs.Language.{_∈_, End, stop, by}
-use Rattle.scope_graph.specs.Order.{endOf}
 use Rattle.scope_graph.specs.Path.{HopOf}
 use Rattle.scope_graph.specs.Rows.{anyOf}
-use Rattle.scope_graph.proofs.Lists.{Two, and-left, and-right, not-true, true-false, anyOf-intro, anyOf-elim}
-use Rattle.search.specs.Board.{Board, without, leadsTo, existsFrom, leadsOn, cutHere}
+use Rattle.scope_graph.proofs.Lists.{Two}
+use Rattle.search.specs.Board.{leadsTo, existsFrom, leadsOn}
 use Rattle.search.specs.Live.{Closed, any-way}
-use Rattle.search.specs.Tables.{rowHops, stateOf, nextCell, placeFlag, pairFlag, freeFlag, tableOrder, endNumber, tableBoard}
+use Rattle.search.specs.Tables.{rowHops, stateOf, nextCell, placeFlag, freeFlag, tableBoard}
 use Rattle.search.specs.Steps.{NextRow, wantedHop, worthState, hopTo}
 use Rattle.search.proofs.Cells.{place-state, free-taken, free-below, worth-yes, worth-unwanted, worth-taken, worth-dead}
 use Rattle.search.proofs.Closing.{state-cell}

@@ -2,16 +2,16 @@
 -- nothing: these are definitions.
 use Prim.Native.Nat.{ℕ, zero, suc, _+_, _<_, _≤_}
 use mathlib.Core.Path.{_≡_}
-use mathlib.Core.Bool.{Bool, true, false, not, _&&_, _||_}
-use mathlib.Core.Option.{Option, some, none}
-use mathlib.Core.List.{List, [], _∷_}
+use mathlib.Core.Bool.{Bool, true, false, not, _&&_}
+use mathlib.Core.List.{List, []}
 use lib.Dec.{eqb, ltb}
 use lib.ListN.{length, getD, drop}
-use Rattle.scope_graph.specs.Language.{_∈_, stop, by}
+use Rattle.scope_graph.specs.Language.{_∈_}
 use Rattle.scope_graph.specs.Path.{HopOf}
 use Rattle.scope_graph.specs.Rows.{anyOf}
 use Rattle.search.specs.Board.{Board, leadsOn}
-use Rattle.search.specs.Tables.{rowHops, stateOf, nextCell, placeFlag, pairFlag, freeFlag, tableOrder}
+use Rattle.search.specs.Live.{any-way, open-way}
+use Rattle.search.specs.Tables.{rowHops, nextCell, placeFlag, pairFlag, freeFlag, tableOrder, tableBoard}
 
 -- r is where the next row that leaves s stands, from cell p on: the rows before it leave other scopes, and it is whole; or no row is left
 pub record NextRow (edges : List ℕ) (s p r : ℕ) : Type 0 where
@@ -20,13 +20,17 @@ pub record NextRow (edges : List ℕ) (s p r : ℕ) : Type 0 where
   pub whole : r < length edges → r + 6 ≤ length edges
   pub leaves : r < length edges → getD edges (r + 1) 0 ≡ s
 
+-- the hop of a label's number and a scope
 abbrev pub hopTo : ℕ → ℕ → HopOf ℕ
 hopTo label to = record { step = label; to = to }
 
--- Live's any-way, or its open-way with the order, of a board with this goal
+-- the ways of specs/Live: open ones if `cutting`, else any. They look at what is sought alone, not at rows or transitions.
 unfoldable pub wayOf : List ℕ → List ℕ → Bool → ℕ → ℕ → ℕ → Bool
 wayOf goal order cutting s q t =
-    elim cutting [ true ↦ not (placeFlag goal s q && tableOrder order stop (by t)) | false ↦ true ]
+    elim cutting [
+      | true ↦ open-way (tableBoard [] [] goal) (tableOrder order) s q t
+      | false ↦ any-way (tableBoard [] [] goal) s q t
+    ]
 
 -- the table lacks the place (s, q), though the hop leads from it to a place that it holds
 unfoldable pub lacks : List ℕ → (ℕ → ℕ → ℕ → Bool) → (ℕ → ℕ → Bool) → ℕ → HopOf ℕ → ℕ → Bool
@@ -36,10 +40,11 @@ lacks delta way live s h q = not (live s q) && (live (h .to) (nextCell delta q (
 pub record Kept (a c : List ℕ) : Type 0 where
   pub flags : (s q : ℕ) → placeFlag a s q ≡ true → placeFlag c s q ≡ true
 
--- the table lacks no place that the hop leads from; that some row's hop does
+-- if the hop goes to a free scope, the table lacks no place that it leads from
 abbrev pub RowClosed : List ℕ → (ℕ → ℕ → ℕ → Bool) → (ℕ → Bool) → (ℕ → ℕ → Bool) → ℕ → HopOf ℕ → Type 0
 RowClosed delta way free live s h = s < 64 → free (h .to) ≡ true → (q : ℕ) → q < 16 → lacks delta way live s h q ≡ false
 
+-- the same of each hop along the rows
 abbrev pub RowsClosed : List ℕ → (ℕ → ℕ → ℕ → Bool) → (ℕ → Bool) → (ℕ → ℕ → Bool) → List ℕ → Type 0
 RowsClosed delta way free live edges = (s : ℕ) (h : HopOf ℕ) → h ∈ rowHops edges s → RowClosed delta way free live s h
 

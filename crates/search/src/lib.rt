@@ -1,7 +1,7 @@
 // The search over a query's tables: places worth entering, whether what is sought lies behind a place, and which ends are cut there.
 ghost use mathlib.Core.Path.{_≡_};
-ghost use mathlib.Core.Bool.{Bool, true, false, _&&_};
-ghost use Prim.Native.Nat.{ℕ, _+_, _*_, _<_, _≤_};
+ghost use mathlib.Core.Bool.{true, false, _&&_};
+ghost use Prim.Native.Nat.{ℕ, _<_};
 ghost use lib.ListN.{getD, set, drop, replicate};
 ghost use lib.Dec.{eqb};
 ghost use Rattle.scope_graph.specs.Language.{stop, by};
@@ -401,56 +401,20 @@ pub fn exists_from(
     if edges.len() <= at {
         return false;
     }
-    let label = edges[at + 2];
+    let on = at + 6;
     let to = edges[at + 3];
-    let r = worth(delta, live, free, q, want, label, to);
+    let r = worth(delta, live, free, q, want, edges[at + 2], to);
     if 15 < r {
-        return exists_from(
-            edges,
-            delta,
-            goal,
-            live,
-            fuel,
-            free,
-            s,
-            q,
-            want,
-            fresh,
-            at + 6,
-        );
+        return exists_from(edges, delta, goal, live, fuel, free, s, q, want, fresh, on);
     }
     if exists_at(edges, delta, goal, live, fuel, taken(free, to), to, r) {
         return true;
     }
     if fresh {
-        return exists_from(
-            edges,
-            delta,
-            goal,
-            live,
-            fuel,
-            free,
-            s,
-            q,
-            want,
-            true,
-            at + 6,
-        );
+        return exists_from(edges, delta, goal, live, fuel, free, s, q, want, true, on);
     }
-    let table = goal_table(edges, delta, goal, free);
-    exists_from(
-        edges,
-        delta,
-        goal,
-        &table,
-        fuel,
-        free,
-        s,
-        q,
-        want,
-        true,
-        at + 6,
-    )
+    let new = goal_table(edges, delta, goal, free);
+    exists_from(edges, delta, goal, &new, fuel, free, s, q, want, true, on)
 }
 
 // Is the end with number a preferred to some end?

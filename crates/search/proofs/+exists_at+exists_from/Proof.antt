@@ -1,16 +1,12 @@
-use mathlib.Core.Path.{_≡_, refl, sym, _∙_, ap}
-use mathlib.Core.Bool.{Bool, true, false}
-use mathlib.Core.List.{List, [], _∷_}
-use Prim.Native.Nat.{ℕ, _+_, _-_, _<_, _≤_}
+-- `exists_at` and `exists_from` meet their contracts: one step each of the walk (proofs/Leads). The measure is the scopes not yet on the path, paired with the cells left. Assumes nothing.
+use Prim.Native.Nat.{ℕ, _+_, _-_, _<_}
+use mathlib.Core.Path.{sym, _∙_}
 use native.Mathlib.Omega.{arith}
-use lib.ListN.{length, getD, drop, set}
-use Rattle.scope_graph.specs.Path.{HopOf}
-use Rattle.search.specs.Tables.{rowHops}
-use Rattle.search.specs.Steps.{hopTo}
-use Rattle.search.proofs.Rows.{lex, lex-fst, lex-snd, rows-none, rows-leave}
-use Rattle.search.proofs.Leads.{exists-none, exists-here, exists-on, along-none, along-skip, along-found, along-on, taken-closed}
+use lib.ListN.{length}
 use borrow.Fn.Kinds.{In}
 use borrow.Fn.PlainCycle.{Measures, is, falls, and}
+use Rattle.search.proofs.Rows.{lex, lex-fst, lex-snd}
+use Rattle.search.proofs.Leads.{exists-none, exists-here, exists-on, along-none, along-skip, along-found, along-on, taken-closed}
 use Rattle.search.proofs.exists_at.Reads as exists-at
 use Rattle.search.proofs.exists_at.Kinds as exists-at-kinds
 use Rattle.search.proofs.+exists_at+exists_from.Lts-exists_at as exists-at-lts
@@ -78,14 +74,8 @@ exists-from-next-row-requires t c κs = tt
 exists-from-returns : (t : ℕ) → exists-from-lts.Need-returns (exists-from-calls t) (exists-from-at t) exists-from.Post
 exists-from-returns t c = let s = c .before .before .before .before .before .before .args in sym (along-none (s .edges .now) (s .delta .now) (s .goal .now) (s .free) (s .fuel) (s .q) (s .want) (s .s) (s .p) (c .before .next-row .result) (c .before .next-row .ensures) (c .if1 .taken))
 
-exists-from-add-label : (t : ℕ) → exists-from-lts.Need-add-label (exists-from-calls t) (exists-from-at t) exists-from.Post
-exists-from-add-label t c = omega arith
-
-exists-from-mul-label : (t : ℕ) → exists-from-lts.Need-mul-label (exists-from-calls t) (exists-from-at t) exists-from.Post
-exists-from-mul-label t c = omega arith
-
-exists-from-shared-slice-read-label : (t : ℕ) → exists-from-lts.Need-shared-slice-read-label (exists-from-calls t) (exists-from-at t) exists-from.Post
-exists-from-shared-slice-read-label t c = omega (arith, c .before .before .next-row .ensures .whole (c .before .if1 .left))
+exists-from-add-on : (t : ℕ) → exists-from-lts.Need-add-on (exists-from-calls t) (exists-from-at t) exists-from.Post
+exists-from-add-on t c = omega arith
 
 exists-from-add-to : (t : ℕ) → exists-from-lts.Need-add-to (exists-from-calls t) (exists-from-at t) exists-from.Post
 exists-from-add-to t c = omega arith
@@ -94,13 +84,19 @@ exists-from-mul-to : (t : ℕ) → exists-from-lts.Need-mul-to (exists-from-call
 exists-from-mul-to t c = omega arith
 
 exists-from-shared-slice-read-to : (t : ℕ) → exists-from-lts.Need-shared-slice-read-to (exists-from-calls t) (exists-from-at t) exists-from.Post
-exists-from-shared-slice-read-to t c = omega (arith, c .before .before .before .next-row .ensures .whole (c .before .before .if1 .left))
+exists-from-shared-slice-read-to t c = omega (arith, c .before .before .next-row .ensures .whole (c .before .if1 .left))
+
+exists-from-add-worth : (t : ℕ) → exists-from-lts.Need-add-worth (exists-from-calls t) (exists-from-at t) exists-from.Post
+exists-from-add-worth t c = omega arith
+
+exists-from-mul-worth : (t : ℕ) → exists-from-lts.Need-mul-worth (exists-from-calls t) (exists-from-at t) exists-from.Post
+exists-from-mul-worth t c = omega arith
+
+exists-from-shared-slice-read-worth : (t : ℕ) → exists-from-lts.Need-shared-slice-read-worth (exists-from-calls t) (exists-from-at t) exists-from.Post
+exists-from-shared-slice-read-worth t c = omega (arith, c .before .before .before .next-row .ensures .whole (c .before .before .if1 .left))
 
 exists-from-worth-requires : (t : ℕ) → exists-from-lts.Need-worth-requires (exists-from-calls t) (exists-from-at t) exists-from.Post
 exists-from-worth-requires t c κs = tt
-
-exists-from-add-exists-from : (t : ℕ) → exists-from-lts.Need-add-exists-from (exists-from-calls t) (exists-from-at t) exists-from.Post
-exists-from-add-exists-from t c = omega arith
 
 exists-from-exists-from-requires : (t : ℕ) → exists-from-lts.Need-exists-from-requires (exists-from-calls t) (exists-from-at t) exists-from.Post
 exists-from-exists-from-requires t c κs = let s = c .before .before .before .before .before .before .before .before .before .before in let whole = c .before .before .before .before .before .next-row .ensures .whole (c .before .before .before .before .if1 .left) in (lex-snd (s .args .fuel) (1 + (length (s .args .edges .now) - s .args .p)) (s .pre .0) (1 + (length (s .args .edges .now) - (c .before .before .before .before .before .next-row .result + 6))) (omega arith), s .pre .1)
@@ -117,9 +113,6 @@ exists-from-exists-at-requires t c κs = let s = c .before .before .before .befo
 exists-from-returns-3 : (t : ℕ) → exists-from-lts.Need-returns-3 (exists-from-calls t) (exists-from-at t) exists-from.Post
 exists-from-returns-3 t c = let s = c .before .before .before .before .before .before .before .before .before .before .before .before .before .args in sym (along-found (s .edges .now) (s .delta .now) (s .goal .now) (s .free) (s .fuel) (s .q) (s .want) (s .s) (s .p) (c .before .before .before .before .before .before .before .before .next-row .result) (c .before .before .before .before .before .before .before .before .next-row .ensures) (c .before .before .before .before .before .before .before .if1 .left) (s .live .now) (c .before .before .before .before .before .before .before .before .before .before .before .before .before .pre .1) (omega arith) (c .before .before .before .before .worth .result) (c .before .before .before .before .worth .ensures) (c .before .before .before .if2 .left) (sym (rw (c .before .before .taken .ensures) at (c .before .exists-at .ensures)) ∙ c .if3 .taken))
 
-exists-from-add-exists-from-2 : (t : ℕ) → exists-from-lts.Need-add-exists-from-2 (exists-from-calls t) (exists-from-at t) exists-from.Post
-exists-from-add-exists-from-2 t c = omega arith
-
 exists-from-exists-from-requires-2 : (t : ℕ) → exists-from-lts.Need-exists-from-requires-2 (exists-from-calls t) (exists-from-at t) exists-from.Post
 exists-from-exists-from-requires-2 t c κs = let s = c .before .before .before .before .before .before .before .before .before .before .before .before .before .before in let whole = c .before .before .before .before .before .before .before .before .before .next-row .ensures .whole (c .before .before .before .before .before .before .before .before .if1 .left) in (lex-snd (s .args .fuel) (1 + (length (s .args .edges .now) - s .args .p)) (s .pre .0) (1 + (length (s .args .edges .now) - (c .before .before .before .before .before .before .before .before .before .next-row .result + 6))) (omega arith), s .pre .1)
 
@@ -132,9 +125,6 @@ exists-from-goal-table-requires t c κs = tt
 exists-from-slice-aggregate-exists-from :
     (t : ℕ) → exists-from-lts.Need-slice-aggregate-exists-from (exists-from-calls t) (exists-from-at t) exists-from.Post
 exists-from-slice-aggregate-exists-from t c = omega arith
-
-exists-from-add-exists-from-3 : (t : ℕ) → exists-from-lts.Need-add-exists-from-3 (exists-from-calls t) (exists-from-at t) exists-from.Post
-exists-from-add-exists-from-3 t c = omega arith
 
 exists-from-exists-from-requires-3 : (t : ℕ) → exists-from-lts.Need-exists-from-requires-3 (exists-from-calls t) (exists-from-at t) exists-from.Post
 exists-from-exists-from-requires-3 t c κs = let s = c .before .before .before .before .before .before .before .before .before .before .before .before .before .before .before .before in let whole = c .before .before .before .before .before .before .before .before .before .before .before .next-row .ensures .whole (c .before .before .before .before .before .before .before .before .before .before .if1 .left) in (lex-snd (s .args .fuel) (1 + (length (s .args .edges .now) - s .args .p)) (s .pre .0) (1 + (length (s .args .edges .now) - (c .before .before .before .before .before .before .before .before .before .before .before .next-row .result + 6))) (omega (arith, whole, c .before .before .before .before .before .before .before .before .before .before .before .next-row .ensures .on, c .before .before .before .before .before .before .before .before .before .before .if1 .left)), c .before .goal-table .ensures)
@@ -155,24 +145,22 @@ pub +exists-at+exists-from-spec : {M : Type 1} → statement M
     exists-from.Post
     (exists-from-next-row-requires t)
     (exists-from-returns t)
-    (exists-from-add-label t)
-    (exists-from-mul-label t)
-    (exists-from-shared-slice-read-label t)
+    (exists-from-add-on t)
     (exists-from-add-to t)
     (exists-from-mul-to t)
     (exists-from-shared-slice-read-to t)
+    (exists-from-add-worth t)
+    (exists-from-mul-worth t)
+    (exists-from-shared-slice-read-worth t)
     (exists-from-worth-requires t)
-    (exists-from-add-exists-from t)
     (exists-from-exists-from-requires t)
     (exists-from-returns-2 t)
     (exists-from-taken-requires t)
     (exists-from-exists-at-requires t)
     (exists-from-returns-3 t)
-    (exists-from-add-exists-from-2 t)
     (exists-from-exists-from-requires-2 t)
     (exists-from-returns-4 t)
     (exists-from-goal-table-requires t)
     (exists-from-slice-aggregate-exists-from t)
-    (exists-from-add-exists-from-3 t)
     (exists-from-exists-from-requires-3 t)
     (exists-from-returns-5 t)

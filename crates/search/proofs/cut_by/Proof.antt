@@ -1,17 +1,14 @@
-use Rattle.search.specs.Steps.{CutBy}
-use Rattle.search.specs.Tables.{pairFlag, freeFlag}
-use Rattle.scope_graph.proofs.Lists.{and-left, and-right}
+-- `cut_by` meets its contract: no end that the loop has passed leads on and is preferred. Assumes nothing.
+use Prim.Native.Nat.{ℕ, _<_, _-_}
+use mathlib.Core.Bool.{false, _&&_, true≢false, false≢true}
+use mathlib.Core.Path.{_≡_, sym, _∙_}
+use native.Mathlib.Omega.{arith}
 use borrow.Author.Needs.{needs}
 use borrow.Author.Count.{below-more}
-use mathlib.Core.Bool.{true, false, _&&_, true≢false, false≢true}
-use mathlib.Core.Path.{_≡_, refl, sym, _∙_}
-use native.Mathlib.Omega.{arith}
-use Prim.Native.Nat.{ℕ, _≤_, _<_, _-_, _+_}
+use Rattle.scope_graph.proofs.Lists.{and-left, and-right}
+use Rattle.search.specs.Tables.{pairFlag, freeFlag}
 use Rattle.search.proofs.cut_by.Statement.{statement}
 use Rattle.search.proofs.cut_by.Tie as tie
-use Rattle.search.proofs.cut_by.Reads as reads
-use Rattle.search.proofs.cut_by.Lts as lts
-use Rattle.search.proofs.end_cuts.Reads as end-cuts-reads
 
 abbrev Inv-loop : tie.InvT-loop
 Inv-loop order leads c a₀ a = (k : ℕ) → k < a → (pairFlag order k c && freeFlag leads k) ≡ false
@@ -19,31 +16,24 @@ Inv-loop order leads c a₀ a = (k : ℕ) → k < a → (pairFlag order k c && f
 abbrev μ-loop : tie.MeasureT-loop
 μ-loop order leads c a₀ a = 9 - a
 
--- src/lib.rt:509:5
 loop-holds : tie.Need-loop-holds Inv-loop μ-loop
 loop-holds c = λ k h. absurd (omega arith)
 
--- src/lib.rt:510:12
 end-cuts-requires : tie.Need-end-cuts-requires Inv-loop μ-loop
 end-cuts-requires c κs = search needs
 
--- src/lib.rt:511:13
 returns : tie.Need-returns Inv-loop μ-loop
 returns c = let s = c .before .before .before .before .before .args in let a = c .before .before .before .loop .a in let both = sym (c .before .end-cuts .ensures) ∙ c .if1 .taken in record { some-end = λ e. (a, omega arith, and-left (pairFlag (s .order .now) a (s .c)) (freeFlag (s .leads) a) both, and-right (pairFlag (s .order .now) a (s .c)) (freeFlag (s .leads) a) both); no-end = λ e. absurd (true≢false e) }
 
--- src/lib.rt:513:9
 add-a : tie.Need-add-a Inv-loop μ-loop
 add-a c = omega arith
 
--- src/lib.rt:509:5
 loop-less : tie.Need-loop-less Inv-loop μ-loop
 loop-less c = omega arith
 
--- src/lib.rt:509:5
 loop-again : tie.Need-loop-again Inv-loop μ-loop
 loop-again c = below-more _ _ (c .before .before .before .loop .inv) (sym (c .before .end-cuts .ensures) ∙ c .if1 .left)
 
--- src/lib.rt:505:1
 returns-2 : tie.Need-returns-2 Inv-loop μ-loop
 returns-2 c = record { some-end = λ e. absurd (false≢true e); no-end = λ e k h p. rw p at (c .before .loop .inv k (omega arith)) }
 

@@ -1,17 +1,15 @@
-use Rattle.search.proofs.Closing.{closed-none, closed-row}
-use Rattle.search.specs.Tables.{placeFlag, freeFlag}
-use Rattle.search.specs.Steps.{RowsClosed, wayOf}
+-- `is_closed` meets its contract: if the rows that are left are closed, all are; each row passed is. Assumes nothing.
+use Prim.Native.Nat.{_-_}
+use mathlib.Core.Bool.{false≢true}
+use mathlib.Core.Path.{_≡_, refl}
+use native.Mathlib.Omega.{arith}
 use lib.ListN.{length, drop}
 use borrow.Author.Needs.{needs}
-use mathlib.Core.Bool.{false≢true}
-use mathlib.Core.Path.{_≡_, refl, sym, _∙_}
-use native.Mathlib.Omega.{arith}
-use Prim.Native.Nat.{ℕ, _≤_, _<_, _-_, _+_}
+use Rattle.search.specs.Tables.{placeFlag, freeFlag}
+use Rattle.search.specs.Steps.{RowsClosed, wayOf}
+use Rattle.search.proofs.Closing.{closed-none, closed-row}
 use Rattle.search.proofs.is_closed.Statement.{statement}
 use Rattle.search.proofs.is_closed.Tie as tie
-use Rattle.search.proofs.is_closed.Reads as reads
-use Rattle.search.proofs.is_closed.Lts as lts
-use Rattle.search.proofs.row_lacks.Reads as row-lacks-reads
 
 abbrev Inv-loop : tie.InvT-loop
 Inv-loop edges delta goal order cutting free live n p₀ p =
@@ -22,75 +20,57 @@ Inv-loop edges delta goal order cutting free live n p₀ p =
 abbrev μ-loop : tie.MeasureT-loop
 μ-loop edges delta goal order cutting free live n p₀ p = n - p
 
--- src/lib.rt:262:5
 loop-holds : tie.Need-loop-holds Inv-loop μ-loop
 loop-holds c = (refl, λ h. h)
 
--- src/lib.rt:263:12
 sub-if1 : tie.Need-sub-if1 Inv-loop μ-loop
 sub-if1 c = omega arith
 
--- src/lib.rt:264:13
 returns : tie.Need-returns Inv-loop μ-loop
 returns c = λ e. c .before .before .loop .inv .1 (closed-none _ _ _ _ _ (c .before .before .loop .p) (omega arith))
 
--- src/lib.rt:266:69
 add-row-lacks : tie.Need-add-row-lacks Inv-loop μ-loop
 add-row-lacks c = omega arith
 
--- src/lib.rt:266:63
 mul-row-lacks : tie.Need-mul-row-lacks Inv-loop μ-loop
 mul-row-lacks c = omega arith
 
--- src/lib.rt:266:63
 shared-slice-read-row-lacks : tie.Need-shared-slice-read-row-lacks Inv-loop μ-loop
 shared-slice-read-row-lacks c = omega arith
 
--- src/lib.rt:266:83
 add-row-lacks-2 : tie.Need-add-row-lacks-2 Inv-loop μ-loop
 add-row-lacks-2 c = omega arith
 
--- src/lib.rt:266:77
 mul-row-lacks-2 : tie.Need-mul-row-lacks-2 Inv-loop μ-loop
 mul-row-lacks-2 c = omega arith
 
--- src/lib.rt:266:77
 shared-slice-read-row-lacks-2 : tie.Need-shared-slice-read-row-lacks-2 Inv-loop μ-loop
 shared-slice-read-row-lacks-2 c = omega arith
 
--- src/lib.rt:266:97
 add-row-lacks-3 : tie.Need-add-row-lacks-3 Inv-loop μ-loop
 add-row-lacks-3 c = omega arith
 
--- src/lib.rt:266:91
 mul-row-lacks-3 : tie.Need-mul-row-lacks-3 Inv-loop μ-loop
 mul-row-lacks-3 c = omega arith
 
--- src/lib.rt:266:91
 shared-slice-read-row-lacks-3 : tie.Need-shared-slice-read-row-lacks-3 Inv-loop μ-loop
 shared-slice-read-row-lacks-3 c = omega arith
 
--- src/lib.rt:266:12
 row-lacks-requires : tie.Need-row-lacks-requires Inv-loop μ-loop
 row-lacks-requires c κs = search needs
 
--- src/lib.rt:267:13
 returns-2 : tie.Need-returns-2 Inv-loop μ-loop
 returns-2 c = λ e. absurd (false≢true e)
 
--- src/lib.rt:269:9
 add-p : tie.Need-add-p Inv-loop μ-loop
 add-p c = omega arith
 
--- src/lib.rt:262:5
 loop-less : tie.Need-loop-less Inv-loop μ-loop
 loop-less c = omega arith
 
--- src/lib.rt:262:5
 loop-again : tie.Need-loop-again Inv-loop μ-loop
 loop-again c = (refl, λ rest. c .before .before .before .before .before .before .before .loop .inv .1 (closed-row _ _ _ _ _ (c .before .before .before .before .before .before .before .loop .p) (omega arith) (c .before .row-lacks .ensures (c .if2 .left)) rest))
 
--- src/lib.rt:249:1
 returns-3 : tie.Need-returns-3 Inv-loop μ-loop
 returns-3 c = λ e. c .before .loop .inv .1 (closed-none _ _ _ _ _ (c .before .loop .p) (omega arith))
 

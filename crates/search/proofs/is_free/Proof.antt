@@ -1,23 +1,19 @@
-use Rattle.search.proofs.Cells.{free-out}
-use Rattle.search.specs.Tables.{freeFlag}
+-- `is_free` meets its contract. Assumes nothing.
 use mathlib.Core.Path.{refl, sym}
 use native.Mathlib.Omega.{arith}
 use borrow.Author.Needs.{needs}
+use Rattle.search.specs.Tables.{freeFlag}
+use Rattle.search.proofs.Cells.{free-out}
 use Rattle.search.proofs.is_free.Statement.{statement}
 use Rattle.search.proofs.is_free.Tie as tie
-use Rattle.search.proofs.is_free.Reads as reads
-use Rattle.search.proofs.is_free.Lts as lts
 
--- src/lib.rt:72:17
 array-read-result : tie.Need-array-read-result
 array-read-result c = search needs
 
--- src/lib.rt:68:1
 returns : tie.Need-returns
 unfolding freeFlag
 returns c = refl
 
--- src/lib.rt:68:1
 returns-2 : tie.Need-returns-2
 returns-2 c = sym (free-out _ _ (omega arith))
 

@@ -1,40 +1,28 @@
-use Rattle.search.specs.Tables.{placeFlag}
-use Rattle.search.proofs.Cells.{lacks-held, lacks-way, lacks-no}
-use mathlib.Core.Path.{sym, ap, _∙_}
+-- `lacks_place` meets its contract. Assumes nothing.
+use mathlib.Core.Path.{sym, _∙_}
 use borrow.Author.Needs.{needs}
+use Rattle.search.proofs.Cells.{lacks-held, lacks-way, lacks-no}
 use Rattle.search.proofs.lacks_place.Statement.{statement}
 use Rattle.search.proofs.lacks_place.Tie as tie
-use Rattle.search.proofs.lacks_place.Reads as reads
-use Rattle.search.proofs.lacks_place.Lts as lts
-use Rattle.search.proofs.next_state.Reads as next-state-reads
-use Rattle.search.proofs.on_way.Reads as on-way-reads
-use Rattle.search.proofs.place.Reads as place-reads
 
--- src/lib.rt:141:8
 place-requires : tie.Need-place-requires
 place-requires c κs = search needs
 
--- src/lib.rt:142:9
 returns : tie.Need-returns
 returns c = sym (lacks-held _ _ _ _ _ _ _ (sym (c .before .place .ensures) ∙ c .if1 .taken))
 
--- src/lib.rt:144:24
 next-state-requires : tie.Need-next-state-requires
 next-state-requires c κs = search needs
 
--- src/lib.rt:144:8
 place-requires-2 : tie.Need-place-requires-2
 place-requires-2 c κs = search needs
 
--- src/lib.rt:145:9
 on-way-requires : tie.Need-on-way-requires
 on-way-requires c κs = search needs
 
--- src/lib.rt:145:9
 returns-2 : tie.Need-returns-2
 returns-2 c = c .on-way .ensures ∙ sym (lacks-way _ _ _ _ _ _ _ (sym (c .before .before .before .before .before .place .ensures) ∙ c .before .before .before .before .if1 .left) (rw (c .before .before .before .next-state .ensures) at (sym (c .before .before .place2 .ensures) ∙ c .before .if2 .taken)))
 
--- src/lib.rt:128:1
 returns-3 : tie.Need-returns-3
 returns-3 c = sym (lacks-no _ _ _ _ _ _ _ (rw (c .before .before .next-state .ensures) at (sym (c .before .place2 .ensures) ∙ c .if2 .left)))
 

@@ -1,33 +1,25 @@
-use Rattle.search.proofs.Cells.{next-in, next-no-state, next-no-label}
+-- `next_state` meets its contract. Assumes nothing.
 use mathlib.Core.Path.{sym, _∙_}
 use borrow.Author.Needs.{needs}
+use Rattle.search.proofs.Cells.{next-in, next-no-state, next-no-label}
 use Rattle.search.proofs.next_state.Statement.{statement}
 use Rattle.search.proofs.next_state.Tie as tie
-use Rattle.search.proofs.next_state.Reads as reads
-use Rattle.search.proofs.next_state.Lts as lts
-use Rattle.search.proofs.cell.Reads as cell-reads
 
--- src/lib.rt:49:32
 mul-cell : tie.Need-mul-cell
 mul-cell c = search needs
 
--- src/lib.rt:49:32
 add-cell : tie.Need-add-cell
 add-cell c = search needs
 
--- src/lib.rt:49:13
 cell-requires : tie.Need-cell-requires
 cell-requires c κs = search needs
 
--- src/lib.rt:49:13
 returns : tie.Need-returns
 returns c = c .cell .ensures ∙ sym (next-in _ _ _ (c .before .before .if1 .taken) (c .before .if2 .taken))
 
--- src/lib.rt:44:1
 returns-2 : tie.Need-returns-2
 returns-2 c = sym (next-no-label _ _ _ (c .if2 .left))
 
--- src/lib.rt:44:1
 returns-3 : tie.Need-returns-3
 returns-3 c = sym (next-no-state _ _ _ (c .if1 .left))
 

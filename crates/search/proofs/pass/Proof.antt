@@ -1,17 +1,14 @@
-use Rattle.search.proofs.Cells.{kept-same, kept-on}
-use Rattle.search.specs.Steps.{Kept}
-use lib.ListN.{length}
-use borrow.Author.Needs.{needs}
-use mathlib.Core.Path.{_≡_, refl, sym, _∙_}
+-- `pass` meets its contract: the table keeps what it held. Assumes nothing.
+use Prim.Native.Nat.{_-_}
+use mathlib.Core.Path.{_≡_, refl}
 use mathlib.Core.Logic.{⊎-elim}
 use native.Mathlib.Omega.{arith}
-use Prim.Native.Nat.{ℕ, _≤_, _<_, _-_, _+_}
+use lib.ListN.{length}
+use borrow.Author.Needs.{needs}
+use Rattle.search.specs.Steps.{Kept}
+use Rattle.search.proofs.Cells.{kept-same, kept-on}
 use Rattle.search.proofs.pass.Statement.{statement}
 use Rattle.search.proofs.pass.Tie as tie
-use Rattle.search.proofs.pass.Reads as reads
-use Rattle.search.proofs.pass.Lts as lts
-use Rattle.search.proofs.mark_row.Reads as mark-row-reads
-use Rattle.search.proofs.row_lacks.Reads as row-lacks-reads
 
 abbrev Inv-loop : tie.InvT-loop
 Inv-loop edges delta goal order cutting free n out₀ p₀ out p = (n ≡ length edges) × (length out ≡ 1024) × Kept out₀ out
@@ -19,79 +16,60 @@ Inv-loop edges delta goal order cutting free n out₀ p₀ out p = (n ≡ length
 abbrev μ-loop : tie.MeasureT-loop
 μ-loop edges delta goal order cutting free n out₀ p₀ out p = n - p
 
--- src/lib.rt:233:5
 loop-holds : tie.Need-loop-holds Inv-loop μ-loop
 loop-holds c = (refl, omega arith, kept-same _)
 
--- src/lib.rt:234:12
 sub-if1 : tie.Need-sub-if1 Inv-loop μ-loop
 sub-if1 c = omega arith
 
--- src/lib.rt:235:13
 returns : tie.Need-returns Inv-loop μ-loop
 returns c = c .before .before .loop .inv .2
 
--- src/lib.rt:237:26
 add-from : tie.Need-add-from Inv-loop μ-loop
 add-from c = omega arith
 
--- src/lib.rt:237:20
 mul-from : tie.Need-mul-from Inv-loop μ-loop
 mul-from c = omega arith
 
--- src/lib.rt:237:20
 shared-slice-read-from : tie.Need-shared-slice-read-from Inv-loop μ-loop
 shared-slice-read-from c = omega arith
 
--- src/lib.rt:238:27
 add-label : tie.Need-add-label Inv-loop μ-loop
 add-label c = omega arith
 
--- src/lib.rt:238:21
 mul-label : tie.Need-mul-label Inv-loop μ-loop
 mul-label c = omega arith
 
--- src/lib.rt:238:21
 shared-slice-read-label : tie.Need-shared-slice-read-label Inv-loop μ-loop
 shared-slice-read-label c = omega arith
 
--- src/lib.rt:239:24
 add-to : tie.Need-add-to Inv-loop μ-loop
 add-to c = omega arith
 
--- src/lib.rt:239:18
 mul-to : tie.Need-mul-to Inv-loop μ-loop
 mul-to c = omega arith
 
--- src/lib.rt:239:18
 shared-slice-read-to : tie.Need-shared-slice-read-to Inv-loop μ-loop
 shared-slice-read-to c = omega arith
 
--- src/lib.rt:240:57
 slice-aggregate-row-lacks : tie.Need-slice-aggregate-row-lacks Inv-loop μ-loop
 slice-aggregate-row-lacks c = omega arith
 
--- src/lib.rt:240:12
 row-lacks-requires : tie.Need-row-lacks-requires Inv-loop μ-loop
 row-lacks-requires c κs = search needs
 
--- src/lib.rt:241:19
 mark-row-requires : tie.Need-mark-row-requires Inv-loop μ-loop
 mark-row-requires c κs = search needs
 
--- src/lib.rt:243:9
 add-p : tie.Need-add-p Inv-loop μ-loop
 add-p c = omega arith
 
--- src/lib.rt:233:5
 loop-less : tie.Need-loop-less Inv-loop μ-loop
 loop-less c = omega arith
 
--- src/lib.rt:233:5
 loop-again : tie.Need-loop-again Inv-loop μ-loop
 loop-again c = ⊎-elim (λ w. (refl, rw (w .2) (omega arith), rw (w .2) (kept-on _ _ _ (c .before .before .before .before .before .before .before .before .loop .inv .2) (w .1 .ensures)))) (λ w. (refl, rw (w .1) (c .before .before .before .before .before .before .before .before .loop .inv .1), rw (w .1) (c .before .before .before .before .before .before .before .before .loop .inv .2))) (c .if2 .came)
 
--- src/lib.rt:219:1
 returns-2 : tie.Need-returns-2 Inv-loop μ-loop
 returns-2 c = c .before .loop .inv .2
 

@@ -1,35 +1,27 @@
-use Rattle.search.proofs.Cells.{place-in, place-no-scope, place-no-state}
+-- `place` meets its contract. Assumes nothing.
+use Prim.Native.Nat.{ℕ}
 use mathlib.Core.Path.{sym, ap, _∙_}
 use lib.Dec.{eqb}
-use Prim.Native.Nat.{ℕ}
 use borrow.Author.Needs.{needs}
+use Rattle.search.proofs.Cells.{place-in, place-no-scope, place-no-state}
 use Rattle.search.proofs.place.Statement.{statement}
 use Rattle.search.proofs.place.Tie as tie
-use Rattle.search.proofs.place.Reads as reads
-use Rattle.search.proofs.place.Lts as lts
-use Rattle.search.proofs.byte.Reads as byte-reads
 
--- src/lib.rt:37:28
 mul-byte : tie.Need-mul-byte
 mul-byte c = search needs
 
--- src/lib.rt:37:28
 add-byte : tie.Need-add-byte
 add-byte c = search needs
 
--- src/lib.rt:37:20
 byte-requires : tie.Need-byte-requires
 byte-requires c κs = search needs
 
--- src/lib.rt:37:13
 returns : tie.Need-returns
 returns c = ap (λ (x : ℕ). eqb x 1) (c .byte .ensures) ∙ sym (place-in _ _ _ (c .before .before .if1 .taken) (c .before .if2 .taken))
 
--- src/lib.rt:32:1
 returns-2 : tie.Need-returns-2
 returns-2 c = sym (place-no-state _ _ _ (c .if2 .left))
 
--- src/lib.rt:32:1
 returns-3 : tie.Need-returns-3
 returns-3 c = sym (place-no-scope _ _ _ (c .if1 .left))
 

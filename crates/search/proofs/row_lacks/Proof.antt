@@ -1,18 +1,15 @@
-use borrow.Author.Tests.{not-true, not-false}
-use Rattle.search.specs.Steps.{lacks, wayOf, hopTo, RowClosed}
-use Rattle.search.specs.Tables.{placeFlag}
+-- `row_lacks` meets its contract: no state passed is one that the table lacks. Assumes nothing.
+use Prim.Native.Nat.{ℕ, _<_, _-_}
+use mathlib.Core.Bool.{false, true≢false}
+use mathlib.Core.Path.{_≡_, sym, _∙_}
+use native.Mathlib.Omega.{arith}
+use borrow.Author.Tests.{not-true}
 use borrow.Author.Needs.{needs}
 use borrow.Author.Count.{below-more}
-use mathlib.Core.Bool.{true, false, true≢false}
-use mathlib.Core.Path.{_≡_, refl, sym, _∙_}
-use native.Mathlib.Omega.{arith}
-use Prim.Native.Nat.{ℕ, _≤_, _<_, _-_, _+_}
+use Rattle.search.specs.Steps.{lacks, wayOf, hopTo}
+use Rattle.search.specs.Tables.{placeFlag}
 use Rattle.search.proofs.row_lacks.Statement.{statement}
 use Rattle.search.proofs.row_lacks.Tie as tie
-use Rattle.search.proofs.row_lacks.Reads as reads
-use Rattle.search.proofs.row_lacks.Lts as lts
-use Rattle.search.proofs.is_free.Reads as is-free-reads
-use Rattle.search.proofs.lacks_place.Reads as lacks-place-reads
 
 abbrev Inv-loop : tie.InvT-loop
 Inv-loop delta goal order cutting live from label to q₀ q = (k : ℕ) → k < q → lacks delta (wayOf goal order cutting) (placeFlag live) from (hopTo label to) k ≡ false
@@ -20,43 +17,33 @@ Inv-loop delta goal order cutting live from label to q₀ q = (k : ℕ) → k < 
 abbrev μ-loop : tie.MeasureT-loop
 μ-loop delta goal order cutting live from label to q₀ q = 16 - q
 
--- src/lib.rt:165:9
 returns : tie.Need-returns Inv-loop μ-loop
 returns c = λ e below f. absurd (omega arith)
 
--- src/lib.rt:167:9
 is-free-requires : tie.Need-is-free-requires Inv-loop μ-loop
 is-free-requires c κs = search needs
 
--- src/lib.rt:168:9
 returns-2 : tie.Need-returns-2 Inv-loop μ-loop
 returns-2 c = λ e below f. absurd (true≢false (sym f ∙ sym (c .before .is-free .ensures) ∙ not-true _ (c .if2 .taken)))
 
--- src/lib.rt:171:5
 loop-holds : tie.Need-loop-holds Inv-loop μ-loop
 loop-holds c = λ k h. absurd (omega arith)
 
--- src/lib.rt:172:12
 lacks-place-requires : tie.Need-lacks-place-requires Inv-loop μ-loop
 lacks-place-requires c κs = search needs
 
--- src/lib.rt:173:13
 returns-3 : tie.Need-returns-3 Inv-loop μ-loop
 returns-3 c = λ e. absurd (true≢false e)
 
--- src/lib.rt:175:9
 add-q : tie.Need-add-q Inv-loop μ-loop
 add-q c = omega arith
 
--- src/lib.rt:171:5
 loop-less : tie.Need-loop-less Inv-loop μ-loop
 loop-less c = omega arith
 
--- src/lib.rt:171:5
 loop-again : tie.Need-loop-again Inv-loop μ-loop
 loop-again c = below-more _ _ (c .before .before .before .loop .inv) (sym (c .before .lacks-place .ensures) ∙ c .if3 .left)
 
--- src/lib.rt:151:1
 returns-4 : tie.Need-returns-4 Inv-loop μ-loop
 returns-4 c = λ e below f k h. c .before .loop .inv k (omega arith)
 

@@ -1,17 +1,12 @@
-use lib.Seq.{getD-set-same, getD-set-other}
-use Rattle.search.proofs.Cells.{kept-cells, cells-more}
+-- `start_table` meets its contract: each cell passed is the one of `seek`. Assumes nothing.
+use Prim.Native.Nat.{ℕ, _<_, _-_}
+use mathlib.Core.Path.{_≡_, _∙_}
+use native.Mathlib.Omega.{arith}
 use lib.ListN.{length, getD, length-set}
 use borrow.Author.Needs.{needs}
-use borrow.Author.Count.{below-more}
-use mathlib.Core.Path.{_≡_, refl, sym, _∙_}
-use native.Mathlib.Omega.{arith}
-use Prim.Native.Nat.{ℕ, _≤_, _<_, _-_, _+_}
+use Rattle.search.proofs.Cells.{kept-cells, cells-more}
 use Rattle.search.proofs.start_table.Statement.{statement}
 use Rattle.search.proofs.start_table.Tie as tie
-use Rattle.search.proofs.start_table.Reads as reads
-use Rattle.search.proofs.start_table.Lts as lts
-use Rattle.search.proofs.byte.Reads as byte-reads
-use Rattle.search.proofs.filled.Reads as filled-reads
 
 abbrev Inv-loop : tie.InvT-loop
 Inv-loop seek out₀ i₀ out i = (length out ≡ 1024) × ((k : ℕ) → k < i → getD out k 0 ≡ getD seek k 0)
@@ -19,35 +14,27 @@ Inv-loop seek out₀ i₀ out i = (length out ≡ 1024) × ((k : ℕ) → k < i 
 abbrev μ-loop : tie.MeasureT-loop
 μ-loop seek out₀ i₀ out i = 1024 - i
 
--- src/lib.rt:285:19
 filled-requires : tie.Need-filled-requires Inv-loop μ-loop
 filled-requires c κs = search needs
 
--- src/lib.rt:287:5
 loop-holds : tie.Need-loop-holds Inv-loop μ-loop
 loop-holds c = (omega arith, λ k h. absurd (omega arith))
 
--- src/lib.rt:288:27
 byte-requires : tie.Need-byte-requires Inv-loop μ-loop
 byte-requires c κs = search needs
 
--- src/lib.rt:288:9
 array-write-out : tie.Need-array-write-out Inv-loop μ-loop
 array-write-out c = omega arith
 
--- src/lib.rt:289:9
 add-i : tie.Need-add-i Inv-loop μ-loop
 add-i c = omega arith
 
--- src/lib.rt:287:5
 loop-less : tie.Need-loop-less Inv-loop μ-loop
 loop-less c = omega arith
 
--- src/lib.rt:287:5
 loop-again : tie.Need-loop-again Inv-loop μ-loop
 loop-again c = (simp length-set (c .before .before .loop .inv .0), cells-more (λ (k x : ℕ). x ≡ getD (c .before .before .before .before .before .args .seek .now) k 0) (c .before .before .loop .out) (c .before .before .loop .i) (c .byte .result) (omega arith) (c .before .before .loop .inv .1) (c .byte .ensures))
 
--- src/lib.rt:282:1
 returns : tie.Need-returns Inv-loop μ-loop
 returns c = kept-cells _ _ (λ k h e. c .before .loop .inv .1 k (omega arith) ∙ e)
 

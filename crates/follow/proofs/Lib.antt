@@ -1,0 +1,5 @@
+-- What the proofs of several functions use.
+pub mod PourLaws
+pub mod RowLaws
+pub mod FollowLaws
+pub mod CountLaws

@@ -1,0 +1,93 @@
+-- Laws of the tests that admit a row, as the code makes them. Assumes nothing.
+use Prim.Native.Nat.{ℕ, zero, suc, _+_, _-_, _*_, _%_, _≤_, _<_}
+use mathlib.Core.Path.{_≡_, refl, sym, ap, _∙_}
+use mathlib.Core.List.{List, [], _∷_, _++_}
+use mathlib.Core.Bool.{Bool, true, false, not, _&&_, _||_}
+use native.Mathlib.Omega.{arith}
+use borrow.Author.Tests.{lt-ltb, le-ltb, eq-eqb, ne-eqb, eqb-true, eqb-false}
+use lib.Dec.{eqb, ltb}
+use lib.ListN.{length, getD}
+use lib.ListN.{drop}
+use native.Mathlib.Nat.{sub-zero}
+use lib.Dec.{eqb·zero-suc, eqb·suc-suc}
+use Rattle.graph_file.specs.declared.rows.Counts.{Counts}
+use Rattle.graph_file.specs.Format.{Sequence, ascending, once, free, sectionAt}
+use Rattle.graph_file.specs.Admission.{Row, value, rowOf, inRange, keyLess, listed, follows, unless, admission}
+use Rattle.graph_file.specs.Line.{place}
+use Rattle.graph_file.specs.Table.{formatBytes, keyStep, keyAt, itemsAt, rowPlace, sequenceNumber, lettersAt, lastAt, sofarAt}
+use Rattle.graph_file.proofs.FormatLaws.{keys-step, key-more, key-last, row-items}
+use Rattle.graph_file.proofs.RowLaws.{place-hit, place-miss, letters-length}
+
+-- the key at a place of the format, place by place: less, equal so far, greater, and at its end
+module _ (o x : ℕ) (a b : Row) (e : x ≡ getD formatBytes o 10) (n : x ≡ 10 → ⊥) where
+  pub key-less : value a (x % 8) < value b (x % 8) → keyLess (keyAt o) a b ≡ true
+  unfolding keyLess
+  key-less h = rw (keys-step o, ← e, key-more x (keyAt (o + 1)) n, lt-ltb (value a (x % 8)) (value b (x % 8)) h)
+
+  pub key-equal : value a (x % 8) ≡ value b (x % 8) → keyLess (keyAt (o + 1)) a b ≡ keyLess (keyAt o) a b
+  unfolding keyLess
+  key-equal h = sym (rw (keys-step o, ← e, key-more x (keyAt (o + 1)) n, le-ltb (value a (x % 8)) (value b (x % 8)) (omega arith), eq-eqb (value a (x % 8)) (value b (x % 8)) h))
+
+  pub key-greater : value b (x % 8) ≤ value a (x % 8) → (value a (x % 8) ≡ value b (x % 8) → ⊥) → keyLess (keyAt o) a b ≡ false
+  unfolding keyLess
+  key-greater h k = rw (keys-step o, ← e, key-more x (keyAt (o + 1)) n, le-ltb (value a (x % 8)) (value b (x % 8)) h, ne-eqb (value a (x % 8)) (value b (x % 8)) k)
+
+pub key-end : (o x : ℕ) (a b : Row) → x ≡ getD formatBytes o 10 → x ≡ 10 → keyLess (keyAt o) a b ≡ false
+unfolding keyLess
+key-end o x a b e n = rw (keys-step o, ← e, key-last x (keyAt (o + 1)) n)
+
+-- the row before, where the section has rows
+pub last-row : (n p : ℕ) (t : List ℕ) → (n ≡ 0 → ⊥) → lastAt n p t ≡ rowOf (drop (p - 6) t)
+unfolding lastAt
+last-row n p t h = rw (ne-eqb n 0 h, lastAt)
+
+listed-hit : (x y : ℕ) (l : List ℕ) → eqb y x ≡ true → listed x (y ∷ l) ≡ true
+unfolding listed
+listed-hit x y l e = rw e
+
+listed-miss : (x y : ℕ) (l : List ℕ) → eqb y x ≡ false → listed x (y ∷ l) ≡ listed x l
+unfolding listed
+listed-miss x y l e = rw e
+
+-- a letter is listed where its place is not the end of the list
+pub listed-place : (x : ℕ) (l : List ℕ) → eqb (place x l) (length l) ≡ not (listed x l)
+unfolding listed place
+listed-place x [] = refl
+listed-place x (y ∷ l) = go (eqb y x) refl (listed-place x l)
+  where
+    go : (b : Bool) → eqb y x ≡ b → eqb (place x l) (length l) ≡ not (listed x l) → eqb (place x (y ∷ l)) (suc (length l)) ≡ not (listed x (y ∷ l))
+    go true e ih = rw (place-hit x y l (eqb-true y x e), listed-hit x y l e) (eqb·zero-suc (length l))
+    go false e ih = rw (place-miss x y l (eqb-false y x e), listed-miss x y l e) (eqb·suc-suc (place x l) (length l) ∙ ih)
+
+pub letter-unlisted : (x n : ℕ) (t : List ℕ) → eqb (place x (lettersAt n t)) n ≡ not (listed x (lettersAt n t))
+letter-unlisted x n t = rw (letters-length n t) at (listed-place x (lettersAt n t))
+
+-- how rows follow, by the sequence's number
+module _ (q : Sequence) (key letters : List ℕ) (rows : ℕ) (last row : Row) where
+  pub follows-ascending : sequenceNumber q ≡ 0 → follows q key letters rows last row ≡ (eqb rows 0 || keyLess key last row)
+  unfolding follows sequenceNumber
+  follows-ascending = elim q [ ascending ↦ λ e. refl | once ↦ λ e. absurd (omega arith) | free ↦ λ e. absurd (omega arith) ]
+
+  pub follows-once : sequenceNumber q ≡ 1 → follows q key letters rows last row ≡ not (listed (value row 0) letters)
+  unfolding follows sequenceNumber
+  follows-once = elim q [ ascending ↦ λ e. absurd (omega arith) | once ↦ λ e. refl | free ↦ λ e. absurd (omega arith) ]
+
+  pub follows-free : (sequenceNumber q ≡ 0 → ⊥) → (sequenceNumber q ≡ 1 → ⊥) → follows q key letters rows last row ≡ true
+  unfolding follows sequenceNumber
+  follows-free = elim q [ ascending ↦ λ e f. absurd (e refl) | once ↦ λ e f. absurd (f refl) | free ↦ λ e f. refl ]
+
+-- the refusals of the row at place p of a table, in their sequence
+module _ (k : ℕ) (t : List ℕ) (p : ℕ) (c : Counts) where
+  pub refused-full : sectionAt k .most ≤ c .rows → admission (sectionAt k) (sofarAt t p c) (rowOf (drop p t)) ≡ 5
+  unfolding admission sofarAt unless
+  refused-full h = rw (le-ltb (c .rows) (sectionAt k .most) h)
+
+  module _ (room : c .rows < sectionAt k .most) where
+    pub refused-range : inRange (c .labels) (c .scopes) (itemsAt (rowPlace k)) (rowOf (drop p t)) ≡ false → admission (sectionAt k) (sofarAt t p c) (rowOf (drop p t)) ≡ 3
+    unfolding admission sofarAt unless
+    refused-range e = rw (lt-ltb (c .rows) (sectionAt k .most) room, letters-length (c .labels) (drop 1 t), ← row-items k, e)
+
+    module _ (ranged : inRange (c .labels) (c .scopes) (itemsAt (rowPlace k)) (rowOf (drop p t)) ≡ true) where
+      pub follows-last : {b : Bool} → follows (sectionAt k .sequence) (sectionAt k .key) (lettersAt (c .labels) (drop 1 t)) (c .rows) (lastAt (c .rows) p t) (rowOf (drop p t)) ≡ b → admission (sectionAt k) (sofarAt t p c) (rowOf (drop p t)) ≡ unless b 4 0
+      unfolding admission sofarAt unless
+      follows-last e = rw (lt-ltb (c .rows) (sectionAt k .most) room, letters-length (c .labels) (drop 1 t), ← row-items k, ranged, e)

@@ -1,0 +1,178 @@
+-- An admitted table is an accepted scope graph (specs/Accepted). Assumes nothing.
+use Prim.Native.Nat.{ℕ, _<_}
+use mathlib.Core.Path.{_≡_, refl, sym, ap, subst}
+use mathlib.Core.Bool.{true, _&&_}
+use mathlib.Core.Logic.{inl, inr, ⊎-elim}
+use mathlib.Core.List.{List, [], _∷_, map}
+use native.Mathlib.Omega.{arith}
+use lib.Dec.{leb}
+use lib.ListN.{length, getD, length-map}
+use borrow.Author.Tests.{ltb-true, leb-true}
+use Rattle.scope_graph.specs.Language.{_∈_, Language}
+use Rattle.scope_graph.specs.Rows.{OrderPair, Transition, PackedName, Rules, RulesPass, language}
+use Rattle.scope_graph.specs.Graph.{Edge, Declaration, InRange, Query, OpenPair}
+use Rattle.scope_graph.specs.Completion.{PairBefore}
+use Rattle.scope_graph.specs.Order.{endOf}
+use Rattle.scope_graph.specs.Listing.{Pairwise, EdgeBefore, MarkBefore, Accepted}
+use Rattle.scope_graph.proofs.Lists.{here, there, and-left, and-right, map-elim}
+use Rattle.scope_graph.proofs.Rows.{language-laws}
+use Rattle.graph_file.specs.Format.{Kind, state, scope, mark, count, label, end, field, ascending, labels, pairs, transitions, accepts, scopeCount, edges, declarations, openPairs, queries, sections, sectionAt, labelSection, pairSection, transitionSection, acceptSection, countSection, edgeSection, declarationSection, openSection, querySection}
+use Rattle.graph_file.specs.Admission.{Row, value, blank, kindInRange, itemInRange, inRange}
+use Rattle.graph_file.specs.Decode.{rowsIn, lettersOf, orderPairOf, transitionOf, rulesOf, nameAt, edgeOf, declarationOf, openPairOf, queryOf, scopesOf, graphOf, opensOf, queriesOf}
+use Rattle.graph_file.specs.Accepted.{EndListed, TransitionBefore, AcceptedTable, ReadAccepted, WrittenAccepted}
+use Rattle.graph_file.proofs.DecodeWay.{AdmittedTable, read-admitted, written-admitted}
+use Rattle.graph_file.proofs.DecodeRows.{item-in, KeyBefore}
+use Rattle.graph_file.proofs.DecodeTable.{table-limit, table-count, table-in-range, table-ascends, table-order, table-letters}
+use Rattle.graph_file.proofs.DecodePlaces.{table-rows, table-length, table-most}
+use Rattle.graph_file.proofs.DecodeOrder.{endOf-before, endOf-listed, order-passes}
+
+-- what holds of every row holds of what it stands for
+each : {B : Type 0} (f : Row → B) (P : B → Type 0) (rows : List Row) → ((row : Row) → row ∈ rows → P (f row)) → (b : B) → b ∈ map f rows → P b
+each f P rows h b m = let r = map-elim f rows m in subst P (sym (r .2)) (h (r .0) (r .1))
+
+pairwise-map : {B : Type 0} (f : Row → B) (R : Row → Row → Type 0) (S : B → B → Type 0) (rows : List Row) → ((a b : Row) → R a b → S (f a) (f b))
+    → Pairwise R rows → Pairwise S (map f rows)
+pairwise-map f R S [] h p = tt
+pairwise-map f R S (row ∷ rows) h p = (each f (S (f row)) rows (λ b m. h row b (p .0 b m)), pairwise-map f R S rows h (p .1))
+
+-- the orders of the rules, from the orders by key
+edge-key : (r : Rules) (a b : Row) → KeyBefore (sectionAt edgeSection .key) a b → EdgeBefore (language r) (edgeOf r a) (edgeOf r b)
+unfolding sectionAt sections edges edgeOf
+edge-key r a b k =
+    ⊎-elim (λ l. inl l)
+    (λ e. inr (e .0, ⊎-elim (λ l. inl l) (λ f. inr (f .0, ⊎-elim (λ l. l) (λ g. absurd (g .1)) (f .1))) (e .1)))
+    k
+
+mark-key : (r : Rules) (a b : Row) → KeyBefore (sectionAt declarationSection .key) a b → MarkBefore (language r) (declarationOf r a) (declarationOf r b)
+unfolding sectionAt sections declarations declarationOf nameAt
+mark-key r a b k at named =
+    let high : value a 1 ≡ value b 1 = ap (λ (n : PackedName). n .high) named in
+    let low : value a 2 ≡ value b 2 = ap (λ (n : PackedName). n .low) named in
+    ⊎-elim (λ l. absurd (omega arith))
+    (λ e. ⊎-elim (λ l. absurd (omega arith)) (λ f. ⊎-elim (λ l. absurd (omega arith)) (λ g. ⊎-elim (λ l. l) (λ h. absurd (h .1)) (g .1)) (f .1)) (e .1))
+    k
+
+transition-key : (a b : Row) → KeyBefore (sectionAt transitionSection .key) a b → TransitionBefore (transitionOf a) (transitionOf b)
+unfolding sectionAt sections transitions transitionOf
+transition-key a b k = ⊎-elim (λ l. inl l) (λ e. inr (e .0, ⊎-elim (λ l. l) (λ f. absurd (f .1)) (e .1))) k
+
+open-key : (r : Rules) (a b : Row) → KeyBefore (sectionAt openSection .key) a b → PairBefore (language r) (openPairOf r a) (openPairOf r b)
+unfolding sectionAt sections openPairs openPairOf
+open-key r a b k =
+    ⊎-elim (λ l. inl l) (λ e. inr (e .0, ⊎-elim (λ l. endOf-before (value a 1) (value b 1) l) (λ f. absurd (f .1)) (e .1))) k
+
+module _ (cells : List ℕ) (t : AdmittedTable cells) where
+  -- a field of a row is in its range
+  field-in : (k : ℕ) → k < 9 → (kind : Kind) (c : ℕ) → field kind c ∈ sectionAt k .row → (row : Row) → row ∈ rowsIn k cells
+      → kindInRange (length (lettersOf cells)) (scopesOf cells) kind (value row c) ≡ true
+  unfolding inRange itemInRange
+  field-in k h kind c m row r = item-in _ (sectionAt k .row) (field kind c) m (table-in-range cells t k h row r)
+
+  module _ (k : ℕ) (h : k < 9) (c : ℕ) where
+    scope-in : field scope c ∈ sectionAt k .row → (row : Row) → row ∈ rowsIn k cells → value row c < scopesOf cells
+    unfolding kindInRange
+    scope-in m row r = ltb-true _ _ (field-in k h scope c m row r)
+
+    label-in : field label c ∈ sectionAt k .row → (row : Row) → row ∈ rowsIn k cells → value row c < length (lettersOf cells)
+    unfolding kindInRange
+    label-in m row r = ltb-true _ _ (field-in k h label c m row r)
+
+    state-in : field state c ∈ sectionAt k .row → (row : Row) → row ∈ rowsIn k cells → value row c < 16
+    unfolding kindInRange
+    state-in m row r = ltb-true _ _ (field-in k h state c m row r)
+
+    mark-in : field mark c ∈ sectionAt k .row → (row : Row) → row ∈ rowsIn k cells → value row c < 65536
+    unfolding kindInRange
+    mark-in m row r = ltb-true _ _ (field-in k h mark c m row r)
+
+    end-in : field end c ∈ sectionAt k .row → (row : Row) → row ∈ rowsIn k cells → EndListed (length (lettersOf cells)) (endOf (value row c))
+    unfolding kindInRange
+    end-in m row r = endOf-listed _ _ (leb-true _ _ (field-in k h end c m row r))
+
+  count-in : (leb 1 (scopesOf cells) && leb (scopesOf cells) 64) ≡ true
+  unfolding sectionAt sections scopeCount kindInRange scopesOf
+  count-in = field-in countSection (omega arith) count 0 here (getD (rowsIn countSection cells) 0 blank) (rw (table-count cells t) here)
+
+  rules-pass : RulesPass (rulesOf cells)
+  unfolding rulesOf transitionOf sectionAt sections transitions
+  rules-pass = record {
+    order = order-passes (rowsIn pairSection cells) (table-order cells t);
+    labels = each transitionOf (λ (x : Transition). x .label < length (lettersOf cells)) (rowsIn transitionSection cells)
+        (label-in transitionSection (omega arith) 1 (there (there here)));
+    states = each transitionOf (λ (x : Transition). x .next < 16) (rowsIn transitionSection cells)
+        (state-in transitionSection (omega arith) 2 (there (there (there (there here)))));
+  }
+
+  abbrev L : Language
+  L = language (rulesOf cells)
+
+  abbrev asEdge : Row → Edge L
+  asEdge = edgeOf (rulesOf cells)
+
+  abbrev asDeclaration : Row → Declaration L
+  asDeclaration = declarationOf (rulesOf cells)
+
+  abbrev asOpenPair : Row → OpenPair L
+  asOpenPair = openPairOf (rulesOf cells)
+
+  in-range : InRange L (graphOf cells)
+  unfolding graphOf edgeOf declarationOf rulesOf sectionAt sections edges declarations
+  in-range = record {
+    from-scope = each asEdge (λ (e : Edge L). e .from < scopesOf cells) (rowsIn edgeSection cells) (scope-in edgeSection (omega arith) 0 here);
+    to-scope = each asEdge (λ (e : Edge L). e .to < scopesOf cells) (rowsIn edgeSection cells)
+        (scope-in edgeSection (omega arith) 2 (there (there (there (there here)))));
+    listed = each asEdge (λ (e : Edge L). e .step < length (lettersOf cells)) (rowsIn edgeSection cells)
+        (label-in edgeSection (omega arith) 1 (there (there here)));
+    at-scope = each asDeclaration (λ (d : Declaration L). d .at < scopesOf cells) (rowsIn declarationSection cells)
+        (scope-in declarationSection (omega arith) 0 here);
+    together = λ e f m n p q. tt;
+  }
+
+  -- a section that is to ascend, in the order of what its rows stand for
+  ascend : {B : Type 0} (f : Row → B) (S : B → B → Type 0) (k : ℕ) → k < 9 → sectionAt k .sequence ≡ ascending
+      → ((a b : Row) → KeyBefore (sectionAt k .key) a b → S (f a) (f b)) → Pairwise S (map f (rowsIn k cells))
+  ascend f S k h e s = pairwise-map f (KeyBefore (sectionAt k .key)) S (rowsIn k cells) s (table-ascends cells t k h e)
+
+  accepted : (q : Query L) → q .start < scopesOf cells → Accepted L (graphOf cells) (opensOf cells) q
+  unfolding graphOf opensOf sectionAt sections edges declarations openPairs
+  accepted q s = record {
+    laws = language-laws (rulesOf cells) rules-pass;
+    in-range = in-range;
+    edges-ascend = ascend asEdge (EdgeBefore L) edgeSection (omega arith) refl (edge-key (rulesOf cells));
+    declarations-ascend = ascend asDeclaration (MarkBefore L) declarationSection (omega arith) refl (mark-key (rulesOf cells));
+    opens-ascend = ascend asOpenPair (PairBefore L) openSection (omega arith) refl (open-key (rulesOf cells));
+    starts = s;
+  }
+
+  pub table-accepted : AcceptedTable cells
+  unfolding rulesOf graphOf opensOf queriesOf orderPairOf transitionOf declarationOf openPairOf queryOf lettersOf sectionAt sections labels pairs transitions accepts declarations openPairs queries
+  table-accepted = record {
+    rules = rules-pass;
+    accepted = accepted;
+    starts = each (queryOf (rulesOf cells)) (λ (q : Query L). q .start < scopesOf cells) (rowsIn querySection cells)
+        (scope-in querySection (omega arith) 0 here);
+    transitions-ascend = ascend transitionOf TransitionBefore transitionSection (omega arith) refl transition-key;
+    limits = table-limit cells t;
+    labels = rw (length-map (rowsIn labelSection cells) (λ (row : Row). value row 0)) (table-limit cells t labelSection (omega arith));
+    letters = table-letters cells t;
+    scopes-least = leb-true _ _ (and-left _ _ count-in);
+    scopes-most = leb-true _ _ (and-right (leb 1 (scopesOf cells)) _ count-in);
+    order-ends = each orderPairOf (λ (p : OrderPair). EndListed (length (lettersOf cells)) (p .less) × EndListed (length (lettersOf cells)) (p .more)) (rowsIn pairSection cells)
+        (λ row m. (end-in pairSection (omega arith) 0 here row m, end-in pairSection (omega arith) 1 (there (there here)) row m));
+    states = each transitionOf (λ (x : Transition). x .state < 16) (rowsIn transitionSection cells) (state-in transitionSection (omega arith) 0 here);
+    accepts = each (λ (row : Row). value row 0) (λ s. s < 16) (rowsIn acceptSection cells) (state-in acceptSection (omega arith) 0 here);
+    marks = each asDeclaration (λ (d : Declaration L). d .mark < 65536) (rowsIn declarationSection cells)
+        (mark-in declarationSection (omega arith) 3 (there (there (there (there here)))));
+    open-at = each asOpenPair (λ (o : OpenPair L). o .at < scopesOf cells) (rowsIn openSection cells) (scope-in openSection (omega arith) 0 here);
+    open-end = each asOpenPair (λ (o : OpenPair L). EndListed (length (lettersOf cells)) (o .end)) (rowsIn openSection cells)
+        (end-in openSection (omega arith) 1 (there (there here)));
+    places = table-rows cells t;
+    size = table-length cells t;
+    size-most = table-most cells t;
+  }
+
+pub read-accepted : ReadAccepted
+read-accepted text cells e = table-accepted cells (read-admitted text cells e)
+
+pub written-accepted : WrittenAccepted
+written-accepted cells text e = table-accepted cells (written-admitted cells text e)

@@ -1,0 +1,48 @@
+-- The scope graph of document 01's example, computed from its table by the definitions. Assumes nothing.
+use mathlib.Core.Path.{_≡_, refl}
+use mathlib.Core.List.{[], _∷_}
+use Rattle.scope_graph.specs.Language.{stop, by}
+use Rattle.scope_graph.specs.Rows.{PackedName}
+use Rattle.scope_graph.specs.Order.{endOf}
+use Rattle.graph_file.specs.Decode.{keptIf, rowsAmong, rowsIn, lettersOf, orderPairOf, transitionOf, rulesOf, nameAt, edgeOf, declarationOf, openPairOf, queryOf, scopesOf, graphOf, opensOf, queriesOf}
+use Rattle.graph_file.specs.Accepted.{AcceptedTable}
+use Rattle.graph_file.proofs.Examples.{exampleText, exampleCells, example-read}
+use Rattle.graph_file.proofs.DecodeAccepted.{read-accepted}
+
+-- `hours` and `service`
+hours : PackedName
+hours = record { high = 7525362636775489536; low = 0 }
+
+service : PackedName
+service = record { high = 8315178139909317888; low = 0 }
+
+-- I is label 0, P is label 1
+example-rules : rulesOf exampleCells
+    ≡ record {
+      labels = 2;
+      order = record { less = stop; more = by 0 } ∷ record { less = stop; more = by 1 } ∷ record { less = by 0; more = by 1 } ∷ [];
+      transitions = record { state = 0; label = 0; next = 1 } ∷ record { state = 0; label = 1; next = 0 } ∷ record { state = 1; label = 0; next = 1 } ∷ [];
+      accept = 0 ∷ 1 ∷ [];
+    }
+unfolding endOf keptIf rowsAmong rowsIn lettersOf orderPairOf transitionOf rulesOf
+example-rules = refl
+
+example-graph : graphOf exampleCells
+    ≡ record {
+      scopes = 5;
+      edges = record { from = 1; step = 1; to = 0 } ∷ record { from = 2; step = 0; to = 4 } ∷ record { from = 2; step = 1; to = 1 } ∷ record { from = 3; step = 1; to = 1 } ∷ [];
+      declarations = record { at = 0; name = hours; mark = 5 } ∷ record { at = 1; name = service; mark = 10 } ∷ record { at = 2; name = service; mark = 21 } ∷ record { at = 4; name = hours; mark = 40 } ∷ [];
+    }
+unfolding hours service keptIf rowsAmong rowsIn nameAt edgeOf declarationOf scopesOf graphOf
+example-graph = refl
+
+example-opens : opensOf exampleCells ≡ record { at = 3; end = stop } ∷ []
+unfolding endOf keptIf rowsAmong rowsIn openPairOf opensOf
+example-opens = refl
+
+example-queries : queriesOf exampleCells ≡ record { start = 2; name = service } ∷ record { start = 3; name = service } ∷ record { start = 2; name = hours } ∷ []
+unfolding hours service keptIf rowsAmong rowsIn nameAt queryOf queriesOf
+example-queries = refl
+
+example-accepted : AcceptedTable exampleCells
+example-accepted = read-accepted exampleText exampleCells example-read

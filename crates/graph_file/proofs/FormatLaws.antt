@@ -1,0 +1,168 @@
+-- The fixed string holds the nine sections' names lines, rows and keys, at the places given. Assumes nothing.
+use Prim.Native.Nat.{ℕ, zero, suc, _+_, _-_, _/_, _%_, _≤_, _<_}
+use mathlib.Core.Path.{_≡_, refl, sym, ap, _∙_}
+use mathlib.Core.List.{List, [], _∷_, _++_, map}
+use mathlib.Core.Bool.{Bool, true, false, _&&_}
+use native.Mathlib.Omega.{arith}
+use native.Mathlib.Numerals.{add-one}
+use lib.Dec.{eqb, ltb, leb}
+use borrow.Author.Tests.{eq-eqb, ne-eqb, lt-ltb, le-ltb}
+use lib.ListN.{length, getD, drop, List·getD-eq-default, List·getD-map, drop-of-length-le}
+use lib.Seq.{drop-cons}
+use Rattle.graph_file.specs.Format.{Kind, name, Item, byte, field, everyItem, Section, labels, pairs, transitions, accepts, scopeCount, edges, declarations, openPairs, queries, pastLast, sections, sectionAt}
+use Rattle.graph_file.specs.Table.{kindNumber, code, kindOf, itemOf, layout, layouts, formatBytes, lineStep, lineOf, itemsAt, keyStep, keyOf, keyAt, namesPlace, rowPlace, keyPlace, sequenceNumber}
+
+-- the line at each section's places is its names line, its row, and the key there its key
+pub names-items : (k : ℕ) → itemsAt (namesPlace k) ≡ map byte (sectionAt k .names)
+unfolding labels pairs transitions accepts scopeCount edges declarations openPairs queries pastLast sections sectionAt kindNumber code kindOf itemOf layout layouts formatBytes lineStep lineOf itemsAt namesPlace
+names-items zero = refl
+names-items (suc zero) = refl
+names-items (suc (suc zero)) = refl
+names-items (suc (suc (suc zero))) = refl
+names-items (suc (suc (suc (suc zero)))) = refl
+names-items (suc (suc (suc (suc (suc zero))))) = refl
+names-items (suc (suc (suc (suc (suc (suc zero)))))) = refl
+names-items (suc (suc (suc (suc (suc (suc (suc zero))))))) = refl
+names-items (suc (suc (suc (suc (suc (suc (suc (suc zero)))))))) = refl
+names-items (suc (suc (suc (suc (suc (suc (suc (suc (suc k))))))))) = refl
+
+pub row-items : (k : ℕ) → itemsAt (rowPlace k) ≡ sectionAt k .row
+unfolding labels pairs transitions accepts scopeCount edges declarations openPairs queries pastLast sections sectionAt kindNumber code kindOf itemOf layout layouts formatBytes lineStep lineOf itemsAt rowPlace
+row-items zero = refl
+row-items (suc zero) = refl
+row-items (suc (suc zero)) = refl
+row-items (suc (suc (suc zero))) = refl
+row-items (suc (suc (suc (suc zero)))) = refl
+row-items (suc (suc (suc (suc (suc zero))))) = refl
+row-items (suc (suc (suc (suc (suc (suc zero)))))) = refl
+row-items (suc (suc (suc (suc (suc (suc (suc zero))))))) = refl
+row-items (suc (suc (suc (suc (suc (suc (suc (suc zero)))))))) = refl
+row-items (suc (suc (suc (suc (suc (suc (suc (suc (suc k))))))))) = refl
+
+pub key-items : (k : ℕ) → keyAt (keyPlace k) ≡ sectionAt k .key
+unfolding labels pairs transitions accepts scopeCount edges declarations openPairs queries pastLast sections sectionAt kindNumber code kindOf itemOf layout layouts formatBytes keyStep keyOf keyAt keyPlace
+key-items zero = refl
+key-items (suc zero) = refl
+key-items (suc (suc zero)) = refl
+key-items (suc (suc (suc zero))) = refl
+key-items (suc (suc (suc (suc zero)))) = refl
+key-items (suc (suc (suc (suc (suc zero))))) = refl
+key-items (suc (suc (suc (suc (suc (suc zero)))))) = refl
+key-items (suc (suc (suc (suc (suc (suc (suc zero))))))) = refl
+key-items (suc (suc (suc (suc (suc (suc (suc (suc zero)))))))) = refl
+key-items (suc (suc (suc (suc (suc (suc (suc (suc (suc k))))))))) = refl
+
+-- a number of each section, listed
+field-at : (f : Section → ℕ) (k : ℕ) → getD (map f sections) k (f pastLast) ≡ f (sectionAt k)
+unfolding sectionAt
+field-at f k = List·getD-map f sections k pastLast
+
+abbrev pub mosts : List ℕ
+mosts = 8 ∷ 36 ∷ 128 ∷ 16 ∷ 1 ∷ 512 ∷ 512 ∷ 576 ∷ 256 ∷ []
+
+pub most-at : (k : ℕ) → getD mosts k 0 ≡ sectionAt k .most
+unfolding labels pairs transitions accepts scopeCount edges declarations openPairs queries pastLast sections
+most-at k = field-at (λ s. s .most) k
+
+abbrev pub leasts : List ℕ
+leasts = 0 ∷ 0 ∷ 0 ∷ 0 ∷ 1 ∷ 0 ∷ 0 ∷ 0 ∷ 0 ∷ []
+
+pub least-at : (k : ℕ) → getD leasts k 0 ≡ sectionAt k .least
+unfolding labels pairs transitions accepts scopeCount edges declarations openPairs queries pastLast sections
+least-at k = field-at (λ s. s .least) k
+
+abbrev pub sequences : List ℕ
+sequences = 1 ∷ 0 ∷ 0 ∷ 0 ∷ 2 ∷ 0 ∷ 0 ∷ 0 ∷ 2 ∷ []
+
+pub sequence-at : (k : ℕ) → getD sequences k 2 ≡ sequenceNumber (sectionAt k .sequence)
+unfolding labels pairs transitions accepts scopeCount edges declarations openPairs queries pastLast sections sequenceNumber
+sequence-at k = field-at (λ s. sequenceNumber (s .sequence)) k
+
+-- the fixed string has 152 bytes
+pub format-length : length formatBytes ≡ 152
+unfolding labels pairs transitions accepts scopeCount edges declarations openPairs queries pastLast sections kindNumber code layout layouts formatBytes
+format-length = refl
+
+-- one item, and the line after it
+line-step : (l : List ℕ) (o : ℕ) → lineOf (drop o l) ≡ lineStep (getD l o 10) (lineOf (drop (suc o) l))
+unfolding lineOf lineStep
+line-step [] zero = refl
+line-step [] (suc o) = refl
+line-step (x ∷ l) zero = refl
+line-step (x ∷ l) (suc o) = line-step l o
+
+pub items-step : (o : ℕ) → itemsAt o ≡ lineStep (getD formatBytes o 10) (itemsAt (o + 1))
+unfolding itemsAt
+items-step o = rw (add-one o) (line-step formatBytes o)
+
+key-step : (l : List ℕ) (o : ℕ) → keyOf (drop o l) ≡ keyStep (getD l o 10) (keyOf (drop (suc o) l))
+unfolding keyOf keyStep
+key-step [] zero = refl
+key-step [] (suc o) = refl
+key-step (x ∷ l) zero = refl
+key-step (x ∷ l) (suc o) = key-step l o
+
+pub keys-step : (o : ℕ) → keyAt o ≡ keyStep (getD formatBytes o 10) (keyAt (o + 1))
+unfolding keyAt
+keys-step o = rw (add-one o) (key-step formatBytes o)
+
+-- an item that ends no line stands within the string
+within : (l : List ℕ) (o : ℕ) → (getD l o 10 ≡ 10 → ⊥) → o < length l
+within [] o h = absurd (h refl)
+within (x ∷ l) zero h = omega arith
+within (x ∷ l) (suc o) h = let w : o < length l = within l o h in omega arith
+
+pub within-format : (o : ℕ) → (getD formatBytes o 10 ≡ 10 → ⊥) → o < 152
+within-format o h = let w : o < length formatBytes = within formatBytes o h in omega (arith, format-length)
+
+-- a kind's number that is none of the first seven is read as a name
+pub kind-name : (n : ℕ) → (n ≡ 0 → ⊥) → (n ≡ 1 → ⊥) → (n ≡ 2 → ⊥) → (n ≡ 3 → ⊥) → (n ≡ 4 → ⊥) → (n ≡ 5 → ⊥) → (n ≡ 6 → ⊥) → kindOf n ≡ name
+unfolding kindOf
+kind-name zero a b c d e f g = absurd (a refl)
+kind-name (suc zero) a b c d e f g = absurd (b refl)
+kind-name (suc (suc zero)) a b c d e f g = absurd (c refl)
+kind-name (suc (suc (suc zero))) a b c d e f g = absurd (d refl)
+kind-name (suc (suc (suc (suc zero)))) a b c d e f g = absurd (e refl)
+kind-name (suc (suc (suc (suc (suc zero))))) a b c d e f g = absurd (f refl)
+kind-name (suc (suc (suc (suc (suc (suc zero)))))) a b c d e f g = absurd (g refl)
+kind-name (suc (suc (suc (suc (suc (suc (suc n))))))) a b c d e f g = refl
+
+pub line-more : (x : ℕ) (items : List Item) → (x ≡ 10 → ⊥) → lineStep x items ≡ itemOf x ∷ items
+unfolding lineStep
+line-more x items n = rw (ne-eqb x 10 n, lineStep)
+
+pub line-last : (x : ℕ) (items : List Item) → x ≡ 10 → lineStep x items ≡ byte 10 ∷ []
+unfolding lineStep
+line-last x items n = rw n
+
+pub key-more : (x : ℕ) (key : List ℕ) → (x ≡ 10 → ⊥) → keyStep x key ≡ x % 8 ∷ key
+unfolding keyStep
+key-more x key n = rw (ne-eqb x 10 n, keyStep)
+
+pub key-last : (x : ℕ) (key : List ℕ) → x ≡ 10 → keyStep x key ≡ []
+unfolding keyStep
+key-last x key n = rw n
+
+-- a test of every item at a place of the format goes on item by item
+every-step : (f : Item → Bool) (o x : ℕ) → x ≡ getD formatBytes o 10 → (x ≡ 10 → ⊥) → everyItem f (itemsAt o) ≡ (f (itemOf x) && everyItem f (itemsAt (o + 1)))
+unfolding everyItem
+every-step f o x e n = rw (items-step o, ← e, line-more x (itemsAt (o + 1)) n)
+
+pub every-true : (f : Item → Bool) (o x : ℕ) → x ≡ getD formatBytes o 10 → (x ≡ 10 → ⊥) → f (itemOf x) ≡ true → everyItem f (itemsAt (o + 1)) ≡ everyItem f (itemsAt o)
+every-true f o x e n t = sym (every-step f o x e n ∙ rw t)
+
+pub every-false : (f : Item → Bool) (o x : ℕ) → x ≡ getD formatBytes o 10 → (x ≡ 10 → ⊥) → f (itemOf x) ≡ false → everyItem f (itemsAt o) ≡ false
+every-false f o x e n t = every-step f o x e n ∙ rw t
+
+pub every-end : (f : Item → Bool) (o x : ℕ) → x ≡ getD formatBytes o 10 → x ≡ 10 → f (byte 10) ≡ true → everyItem f (itemsAt o) ≡ true
+unfolding everyItem
+every-end f o x e n t = rw (items-step o, ← e, line-last x (itemsAt (o + 1)) n, t)
+
+-- the item of a code
+pub item-byte : (x : ℕ) → x < 128 → itemOf x ≡ byte x
+unfolding itemOf
+item-byte x h = rw (lt-ltb x 128 h, itemOf)
+
+pub item-field : (x : ℕ) → 128 ≤ x → itemOf x ≡ field (kindOf ((x - 128) / 8)) (x % 8)
+unfolding itemOf
+item-field x h = rw (le-ltb x 128 h, itemOf)

@@ -1,0 +1,104 @@
+-- The two promises that tie reading and writing together, proved. Assumes nothing.
+use Prim.Native.Nat.{ℕ, _≤_}
+use mathlib.Core.Path.{_≡_, refl, sym, ap, _∙_}
+use mathlib.Core.List.{List, [], _∷_}
+use mathlib.Core.Bool.{Bool, true, false}
+use native.Mathlib.Omega.{arith}
+use lib.Dec.{ltb}
+use lib.ListN.{length, drop}
+use borrow.Author.Tests.{eqb-true, leb-true, le-ltb}
+use Rattle.text_field.proofs.ByteLaws.{clash}
+use Rattle.graph_file.specs.Format.{form}
+use Rattle.graph_file.specs.Outcome.{Outcome, refused, done, andThen}
+use Rattle.graph_file.specs.File.{Stage, whole, reading, writing, readStage, madeOf, readCells, hasForm, writeText}
+use Rattle.graph_file.specs.Inverse.{ReadThenWritten, WrittenThenRead}
+use Rattle.graph_file.proofs.InverseOutcome.{done-same, not-done, went}
+use Rattle.graph_file.proofs.InverseTable.{room, room-enough}
+use Rattle.graph_file.proofs.InverseWays.{whole-back}
+use Rattle.graph_file.proofs.InverseReading.{reading-mirrored}
+use Rattle.graph_file.proofs.InverseWriting.{writing-mirrored, written-fits}
+
+stage-long : (text : List ℕ) → ltb 32768 (length text) ≡ true → readStage text ≡ refused 1
+unfolding readStage
+stage-long text h = rw (h, readStage)
+
+stage-short : (text : List ℕ) → ltb 32768 (length text) ≡ false → readStage text ≡ whole reading (form ∷ []) text
+unfolding readStage
+stage-short text h = rw (h, readStage)
+
+text-formed : (cells : List ℕ) → hasForm cells ≡ true → writeText cells ≡ madeOf (whole writing [] (drop 1 cells))
+unfolding writeText
+text-formed cells h = rw (h, writeText)
+
+text-unformed : (cells : List ℕ) → hasForm cells ≡ false → writeText cells ≡ refused 2
+unfolding writeText
+text-unformed cells h = rw (h, writeText)
+
+form-first : (cells : List ℕ) → hasForm cells ≡ true → cells ≡ form ∷ drop 1 cells
+unfolding hasForm
+form-first [] h = absurd (clash h refl)
+form-first (x ∷ cells) h = ap (λ (z : ℕ). z ∷ cells) (eqb-true x 0 h)
+
+-- a stage whose product was made
+record Made (o : Outcome Stage) (s : List ℕ) : Type 0 where
+  stage : Stage
+  came : o ≡ done stage
+  product : stage .made ≡ s
+
+made : (o : Outcome Stage) (s : List ℕ) → madeOf o ≡ done s → Made o s
+unfolding madeOf
+made o s e = let a = went o (λ g. done (g .made)) s e in record { stage = a .gained; came = a .before; product = done-same (a .gained .made) s (a .after) }
+
+made-of : (o : Outcome Stage) (g : Stage) → o ≡ done g → madeOf o ≡ done (g .made)
+unfolding madeOf andThen
+made-of o g e = rw e
+
+-- a table's cells: their form, and the rows
+cells-written : (rows : List ℕ) → writeText (form ∷ rows) ≡ madeOf (whole writing [] rows)
+unfolding hasForm
+cells-written rows = text-formed (form ∷ rows) refl
+
+-- what was read is written back byte for byte
+pub read-then-written : ReadThenWritten
+unfolding readCells
+read-then-written text cells e = by (ltb 32768 (length text)) refl (made (readStage text) cells e)
+  where
+    by : (t : Bool) → ltb 32768 (length text) ≡ t → Made (readStage text) cells → writeText cells ≡ done text
+    by true t m = absurd (not-done 1 (m .stage) (sym (stage-long text t) ∙ m .came))
+    by false t m =
+        let b = whole-back reading writing reading-mirrored (form ∷ []) text (m .stage) (sym (stage-short text t) ∙ m .came)
+        in ap writeText (sym (m .product) ∙ b .grown) ∙ cells-written (b .made) ∙ made-of (whole writing [] (b .made)) (record { sofar = m .stage .sofar; made = text; rest = [] }) (b .back [])
+
+-- What was written goes back whole, and takes no more than the sections' room.
+record Written (cells text : List ℕ) : Type 0 where
+  stage : Stage
+  back : whole reading (form ∷ []) text ≡ done stage
+  product : stage .made ≡ cells
+  short : length text ≤ room 9 0
+
+written : (cells text : List ℕ) → writeText cells ≡ done text → Written cells text
+written cells text e = by (hasForm cells) refl
+  where
+    by : (t : Bool) → hasForm cells ≡ t → Written cells text
+    by true t =
+        let m = made (whole writing [] (drop 1 cells)) text (sym (text-formed cells t) ∙ e)
+        in let b = whole-back writing reading writing-mirrored [] (drop 1 cells) (m .stage) (m .came)
+        in let z : b .made ≡ text = sym (b .grown) ∙ m .product
+        in record {
+          stage = record { sofar = m .stage .sofar; made = form ∷ drop 1 cells; rest = [] };
+          back = ap (whole reading (form ∷ [])) (sym z) ∙ b .back (form ∷ []);
+          product = sym (form-first cells t);
+          short = rw z at (written-fits (b .made) (b .outer));
+        }
+    by false t = absurd (not-done 2 text (sym (text-unformed cells t) ∙ e))
+
+-- no text that was written is too long to be read
+pub written-short : (cells text : List ℕ) → writeText cells ≡ done text → length text ≤ 32768
+written-short cells text e = omega (arith, leb-true (room 9 0) 32768 room-enough, written cells text e .short)
+
+-- what was written is read back cell for cell
+pub written-then-read : WrittenThenRead
+unfolding readCells
+written-then-read cells text e =
+    let w = written cells text e
+    in made-of (readStage text) (w .stage) (stage-short text (le-ltb 32768 (length text) (written-short cells text e)) ∙ w .back) ∙ ap done (w .product)

@@ -1,0 +1,184 @@
+-- Reading mirrors writing: the text that cells were written as is read into those cells, and is short enough to be read. Assumes nothing.
+use Prim.Native.Nat.{ℕ, suc, _+_, _*_, _≤_, _<_}
+use mathlib.Core.Path.{_≡_, refl, sym, ap, _∙_}
+use mathlib.Core.List.{List, [], _∷_, _++_}
+use mathlib.Core.Bool.{Bool, true, false, not}
+use native.Mathlib.Nat.{suc-mul}
+use native.Mathlib.Omega.{arith}
+use lib.Dec.{eqb, ltb}
+use lib.ListN.{length, drop, length-append}
+use borrow.Author.Tests.{eqb-true, ltb-false, not-false}
+use Rattle.text_field.specs.Bytes.{within, isDigit, isCapital, isLower}
+use Rattle.text_field.specs.Number.{numberHere}
+use Rattle.text_field.proofs.ByteLaws.{clash, within-bounds, within-below, digit-bounds}
+use Rattle.text_field.proofs.NumberLaws.{first-off}
+use Rattle.graph_file.specs.Format.{Kind, state, scope, mark, count, letter, label, end, name, Item, byte, field, valuesOf, sectionAt}
+use Rattle.graph_file.specs.Outcome.{done, andThen, refuseIf}
+use Rattle.graph_file.specs.Admission.{Row, rowOf, blank, Sofar, inRange}
+use Rattle.graph_file.specs.Line.{Reading, numberTaken, byteTaken, place, endTaken, first, readField, readItem, placeOf, readItems, lineText, formed}
+use Rattle.graph_file.specs.File.{Piece, readNames, rowFollows, readRow, reading, writeNames, cellsFollow, writeRow, writing}
+use Rattle.graph_file.proofs.InverseOutcome.{done-same, not-done, went, passed}
+use Rattle.graph_file.proofs.InverseTable.{startsRow, startsNames, longest, room, section-fine}
+use Rattle.graph_file.proofs.InverseField.{end-label}
+use Rattle.graph_file.proofs.InverseLine.{byte-found, line-again}
+use Rattle.graph_file.proofs.InverseNames.{names-again}
+use Rattle.graph_file.proofs.InverseSofar.{Sound, Admitted, line-width}
+use Rattle.graph_file.proofs.InverseWays.{RowBack, Mirror}
+use lib.Seq.{sets}
+
+-- a digit, the end mark or a capital is no lower-case letter
+not-lower : (x : ℕ) → x < 97 → not (isLower x) ≡ true
+unfolding isLower
+not-lower x h = rw (within-below 97 122 x h)
+
+number-starts : (text : List ℕ) (r : Reading) → numberTaken (numberHere text) text ≡ done r → rowFollows text ≡ true
+unfolding numberTaken numberHere rowFollows
+number-starts [] r e = absurd (not-done 2 r e)
+number-starts (x ∷ text) r e = by (isDigit x) refl
+  where
+    by : (t : Bool) → isDigit x ≡ t → not (isLower x) ≡ true
+    by true t = let b = digit-bounds x t in not-lower x (omega arith)
+    by false t = absurd (not-done 2 r (rw (first-off x text t) at e))
+
+capital-starts : (v : ℕ) (text : List ℕ) (r : Reading) → byteTaken (isCapital (first text)) v text ≡ done r → rowFollows text ≡ true
+unfolding byteTaken rowFollows isCapital
+capital-starts v [] r e = absurd (not-done 2 r (unfold within in e))
+capital-starts v (x ∷ text) r e = by (within 65 90 x) refl
+  where
+    by : (t : Bool) → within 65 90 x ≡ t → not (isLower x) ≡ true
+    by true t = let b = within-bounds 65 90 x t in not-lower x (omega arith)
+    by false t = absurd (not-done 2 r (rw t at e))
+
+end-starts : (letters text : List ℕ) (r : Reading) → endTaken letters (first text) text ≡ done r → rowFollows text ≡ true
+end-starts letters text r e = by (eqb (first text) 36) refl
+  where
+    mark-starts : (s : List ℕ) → first s ≡ 36 → rowFollows s ≡ true
+    mark-starts [] h = absurd (omega arith)
+    mark-starts (x ∷ s) h = unfold rowFollows in not-lower x (omega arith)
+
+    by : (t : Bool) → eqb (first text) 36 ≡ t → rowFollows text ≡ true
+    by true t = mark-starts text (eqb-true (first text) 36 t)
+    by false t = capital-starts (suc (place (first text) letters)) text r (sym (end-label letters (first text) text t) ∙ e)
+
+field-starts : (letters : List ℕ) (k : Kind) (text : List ℕ) (r : Reading) → eqb (valuesOf k) 1 ≡ true → readField letters k text ≡ done r
+    → rowFollows text ≡ true
+unfolding readField valuesOf
+field-starts letters state text r h e = number-starts text r e
+field-starts letters scope text r h e = number-starts text r e
+field-starts letters mark text r h e = number-starts text r e
+field-starts letters count text r h e = number-starts text r e
+field-starts letters letter text r h e = capital-starts (first text) text r e
+field-starts letters label text r h e = capital-starts (place (first text) letters) text r e
+field-starts letters end text r h e = end-starts letters text r e
+field-starts letters name text r h e = absurd (clash h refl)
+
+-- a text that was read as a row does not begin with a lower-case letter
+row-starts : (letters : List ℕ) (items : List Item) (acc : Row) (text : List ℕ) (r : Reading) → startsRow items ≡ true
+    → readItems letters items acc text ≡ done r → rowFollows text ≡ true
+unfolding startsRow readItems rowFollows readItem
+row-starts letters [] acc text r h e = absurd (clash h refl)
+row-starts letters (byte b ∷ items) acc text r h e =
+    let a = went (readItem letters (byte b) text) (λ t. readItems letters items (sets acc (placeOf (byte b)) (t .values)) (t .rest)) r e
+    in rw (byte-found letters b text (a .gained) (a .before) .0) h
+row-starts letters (field k c ∷ items) acc text r h e =
+    let a = went (readItem letters (field k c) text) (λ t. readItems letters items (sets acc (placeOf (field k c)) (t .values)) (t .rest)) r e
+    in field-starts letters k text (a .gained) h (a .before)
+
+-- a names line begins with a lower-case letter
+names-start : (bs t : List ℕ) → startsNames bs ≡ true → rowFollows (bs ++ t) ≡ false
+unfolding startsNames rowFollows
+names-start [] t h = absurd (clash h refl)
+names-start (b ∷ bs) t h = rw h
+
+-- what writing a row makes and leaves
+record RowWritten (k : ℕ) (letters s : List ℕ) (p : Piece) : Type 0 where
+  stands : s ≡ (k ∷ rowOf s) ++ drop 6 s
+  proper : formed (sectionAt k .row) (rowOf s) ≡ true
+  piece : p ≡ record { row = rowOf s; made = lineText letters (sectionAt k .row) (rowOf s); rest = drop 6 s }
+
+six : (k : ℕ) (s : List ℕ) → 6 ≤ length s → cellsFollow k s ≡ true → s ≡ (k ∷ rowOf s) ++ drop 6 s
+unfolding cellsFollow rowOf
+six k [] h e = absurd (omega arith)
+six k (x ∷ []) h e = absurd (omega arith)
+six k (x ∷ a ∷ []) h e = absurd (omega arith)
+six k (x ∷ a ∷ b ∷ []) h e = absurd (omega arith)
+six k (x ∷ a ∷ b ∷ c ∷ []) h e = absurd (omega arith)
+six k (x ∷ a ∷ b ∷ c ∷ d ∷ []) h e = absurd (omega arith)
+six k (x ∷ a ∷ b ∷ c ∷ d ∷ f ∷ s) h e = ap (λ (z : ℕ). z ∷ a ∷ b ∷ c ∷ d ∷ f ∷ s) (eqb-true x k e)
+
+row-written : (k : ℕ) (letters s : List ℕ) (p : Piece) → cellsFollow k s ≡ true → writeRow k letters s ≡ done p → RowWritten k letters s p
+unfolding writeRow
+row-written k letters s p h e =
+    let made : Piece = record { row = rowOf s; made = lineText letters (sectionAt k .row) (rowOf s); rest = drop 6 s }
+    in let a = passed (ltb (length s) 6) 2 (refuseIf (not (formed (sectionAt k .row) (rowOf s))) 2 (done made)) p e
+    in let b = passed (not (formed (sectionAt k .row) (rowOf s))) 2 (done made) p (a .1)
+    in record { stands = six k s (ltb-false (length s) 6 (a .0)) h; proper = not-false (formed (sectionAt k .row) (rowOf s)) (b .0); piece = sym (done-same made p (b .1)) }
+
+rowOf-five : (s : List ℕ) → length (rowOf s) ≡ 5
+unfolding rowOf
+rowOf-five s = refl
+
+names-piece : (k : ℕ) (s : List ℕ) (p : Piece) → writeNames k s ≡ done p → p ≡ record { row = blank; made = sectionAt k .names; rest = s }
+unfolding writeNames
+names-piece k s p e = sym (done-same (record { row = blank; made = sectionAt k .names; rest = s }) p e)
+
+names-read : (k : ℕ) (t : List ℕ) → readNames k (sectionAt k .names ++ t) ≡ done (record { row = blank; made = []; rest = t })
+unfolding readNames andThen
+names-read k t = rw (names-again (sectionAt k .names) t)
+
+-- a text that begins at a names line or is at its end, and is no longer than the sections' room
+abbrev Outer : ℕ → ℕ → List ℕ → Type 0
+Outer left k t = (rowFollows t ≡ false) × (length t ≤ room left k)
+
+-- at most n lines of section k and the sections after it
+abbrev Inner : ℕ → ℕ → ℕ → List ℕ → Type 0
+Inner left k n t = length t ≤ n * longest (sectionAt k .row) + room left (suc k)
+
+mirrored : (k : ℕ) (st : Sofar) (s : List ℕ) (p : Piece) → k < 9 → Sound st → cellsFollow k s ≡ true → writeRow k (st .letters) s ≡ done p
+    → Admitted (sectionAt k) st (p .row) → RowBack reading k (st .letters) s p
+unfolding reading readRow andThen
+mirrored k st s p l S h e A =
+    let r = row-written k (st .letters) s p h e
+    in let ranges : inRange (length (st .letters)) (st .scopes) (sectionAt k .row) (rowOf s) ≡ true = rw (r .piece) at (A .ranges)
+    in let f = section-fine k l
+    in let back : (t : List ℕ) → readItems (st .letters) (sectionAt k .row) blank (lineText (st .letters) (sectionAt k .row) (rowOf s) ++ t) ≡ done (record { values = rowOf s; rest = t }) = λ t. line-again (st .letters) (S .letters) (st .scopes) (sectionAt k .row) (rowOf s) t (f .line) (rowOf-five s) (r .proper) ranges
+    in rw (r .piece) (record {
+      used = k ∷ rowOf s;
+      whole = r .stands;
+      formed = r .proper;
+      more = λ t. row-starts (st .letters) (sectionAt k .row) blank (lineText (st .letters) (sectionAt k .row) (rowOf s) ++ t) (record { values = rowOf s; rest = t }) (f .row-first) (back t);
+      back = λ t. rw (back t);
+    })
+
+line-inner : (left k n : ℕ) (st : Sofar) (s : List ℕ) (p : Piece) (t : List ℕ) → Sound st → cellsFollow k s ≡ true
+    → writeRow k (st .letters) s ≡ done p → Admitted (sectionAt k) st (p .row) → Inner left k n t → Inner left k (suc n) (p .made ++ t)
+unfolding inRange
+line-inner left k n st s p t S h e A i =
+    let q = row-written k (st .letters) s p h e .piece
+    in let g = line-width (st .letters) (st .scopes) (sectionAt k .row) (rowOf s) (S .few) (rw q at (A .ranges))
+    in rw q (omega (arith, length-append (lineText (st .letters) (sectionAt k .row) (rowOf s)) t, suc-mul n (longest (sectionAt k .row))))
+
+names-outer : (left k : ℕ) (s : List ℕ) (p : Piece) (t : List ℕ) → k < 9 → writeNames k s ≡ done p → Inner left k (sectionAt k .most) t
+    → Outer (suc left) k (p .made ++ t)
+unfolding room
+names-outer left k s p t l e i = rw (names-piece k s p e) (names-start (sectionAt k .names) t (section-fine k l .names-first), omega (arith, length-append (sectionAt k .names) t))
+
+pub writing-mirrored : Mirror writing reading
+unfolding reading writing room rowFollows
+writing-mirrored =
+    record {
+      Outer = Outer;
+      Inner = Inner;
+      ended = λ k. (refl, omega arith);
+      resting = λ left k n t o. let h = o .1 in omega arith;
+      halts = λ left k t o. o .0;
+      names = λ k s p e. rw (names-piece k s p e) (record { used = []; whole = refl; back = λ t. names-read k t });
+      names-outer = names-outer;
+      row = mirrored;
+      row-inner = line-inner;
+    }
+
+-- the nine sections' text is no longer than their room
+pub written-fits : (t : List ℕ) → writing-mirrored .Outer 9 0 t → length t ≤ room 9 0
+unfolding writing-mirrored
+written-fits t o = o .1

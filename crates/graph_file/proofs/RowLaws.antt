@@ -1,0 +1,86 @@
+-- Laws of the rows of a table. Assumes nothing.
+use Prim.Native.Nat.{ℕ, zero, suc, _+_, _-_, _*_, _≤_, _<_}
+use mathlib.Core.Path.{_≡_, refl, sym, ap, _∙_}
+use mathlib.Core.List.{List, [], _∷_, _++_, map}
+use mathlib.Core.Bool.{Bool, true, false}
+use native.Mathlib.Omega.{arith}
+use lib.ListN.{length, getD, drop, drop-of-length-le}
+use lib.Seq.{getD-drop, drop-drop}
+use lib.Dec.{eqb}
+use native.Mathlib.Nat.{sub-zero, zero-add, add-zero}
+use borrow.Author.Tests.{eq-eqb, ne-eqb}
+use Rattle.graph_file.specs.Admission.{Row, value, rowOf}
+use Rattle.graph_file.specs.Line.{place}
+use Rattle.graph_file.specs.Order.{someRow}
+use Rattle.graph_file.specs.Table.{rowsAt, lettersAt}
+
+-- the row at a place, cell by cell
+pub row-cells : (t : List ℕ) (p : ℕ) → rowOf (drop p t) ≡ getD t (p + 1) 0 ∷ getD t (p + 2) 0 ∷ getD t (p + 3) 0 ∷ getD t (p + 4) 0 ∷ getD t (p + 5) 0 ∷ []
+unfolding rowOf
+row-cells t p = rw (getD-drop p t 1 0, getD-drop p t 2 0, getD-drop p t 3 0, getD-drop p t 4 0, getD-drop p t 5 0)
+
+-- past the table's end a row has no value
+pub row-none : (t : List ℕ) (p : ℕ) → length t ≤ p → rowOf (drop p t) ≡ 0 ∷ 0 ∷ 0 ∷ 0 ∷ 0 ∷ []
+unfolding rowOf
+row-none t p h = rw (drop-of-length-le t {i = p} h)
+
+-- of n rows from place f on, those from the i-th on: the i-th and those after it
+pub rows-step : (t : List ℕ) (f n i : ℕ) → i < n → rowsAt (n - i) (drop (f + 6 * i) t) ≡ rowOf (drop (f + 6 * i) t) ∷ rowsAt (n - (i + 1)) (drop (f + 6 * (i + 1)) t)
+unfolding rowsAt
+rows-step t f n i h =
+    let e : n - i ≡ suc (n - (i + 1)) = omega arith in
+    let d : f + 6 * (i + 1) ≡ f + 6 * i + 6 = omega arith in
+    rw (e, d, ← drop-drop 6 (f + 6 * i) t)
+
+pub rows-end : (t : List ℕ) (f n i : ℕ) → n ≤ i → rowsAt (n - i) (drop (f + 6 * i) t) ≡ []
+unfolding rowsAt
+rows-end t f n i h = let e : n - i ≡ 0 = omega arith in rw e
+
+-- the same of the labels' letters
+letters-step : (t : List ℕ) (n i : ℕ) → i < n → lettersAt (n - i) (drop (1 + 6 * i) t) ≡ getD t (1 + 6 * i + 1) 0 ∷ lettersAt (n - (i + 1)) (drop (1 + 6 * (i + 1)) t)
+unfolding lettersAt rowOf
+letters-step t n i h = rw (rows-step t 1 n i h, getD-drop (1 + 6 * i) t 1 0)
+
+pub place-hit : (x y : ℕ) (l : List ℕ) → y ≡ x → place x (y ∷ l) ≡ 0
+unfolding place
+place-hit x y l e = rw (eq-eqb y x e, place)
+
+pub place-miss : (x y : ℕ) (l : List ℕ) → (y ≡ x → ⊥) → place x (y ∷ l) ≡ suc (place x l)
+unfolding place
+place-miss x y l e = rw (ne-eqb y x e, place)
+
+-- where the i-th letter is x, where it is not, and after the last one
+pub letter-hit : (x : ℕ) (t : List ℕ) (n i : ℕ) → i < n → getD t (1 + 6 * i + 1) 0 ≡ x → place x (lettersAt (n - i) (drop (1 + 6 * i) t)) ≡ 0
+letter-hit x t n i h e = rw (letters-step t n i h) (place-hit x _ _ e)
+
+pub letter-miss : (x : ℕ) (t : List ℕ) (n i : ℕ) → i < n → (getD t (1 + 6 * i + 1) 0 ≡ x → ⊥) → place x (lettersAt (n - i) (drop (1 + 6 * i) t)) ≡ suc (place x (lettersAt (n - (i + 1)) (drop (1 + 6 * (i + 1)) t)))
+letter-miss x t n i h e = rw (letters-step t n i h) (place-miss x _ _ e)
+
+pub letter-none : (x : ℕ) (t : List ℕ) (n i : ℕ) → n ≤ i → place x (lettersAt (n - i) (drop (1 + 6 * i) t)) ≡ 0
+unfolding lettersAt place
+letter-none x t n i h = rw (rows-end t 1 n i h)
+
+pub letter-start : (x : ℕ) (t : List ℕ) (n : ℕ) → 0 + place x (lettersAt (n - 0) (drop (1 + 6 * 0) t)) ≡ place x (lettersAt n (drop 1 t))
+letter-start x t n = rw (sub-zero n, zero-add (place x (lettersAt n (drop 1 t))))
+
+pub rows-start : (t : List ℕ) (f n : ℕ) → rowsAt (n - 0) (drop (f + 6 * 0) t) ≡ rowsAt n (drop f t)
+rows-start t f n = rw (sub-zero n, add-zero f)
+
+pub letters-length : (n : ℕ) (t : List ℕ) → length (lettersAt n t) ≡ n
+unfolding lettersAt rowsAt
+letters-length zero t = refl
+letters-length (suc n) t = ap suc (letters-length n (drop 6 t))
+
+-- a test of some row of n from place f on goes on row by row
+module _ (test : Row → Bool) (t : List ℕ) (f n i : ℕ) where
+  pub some-hit : i < n → test (rowOf (drop (f + 6 * i) t)) ≡ true → someRow test (rowsAt (n - i) (drop (f + 6 * i) t)) ≡ true
+  unfolding someRow
+  some-hit h e = rw (rows-step t f n i h, e)
+
+  pub some-miss : i < n → test (rowOf (drop (f + 6 * i) t)) ≡ false → someRow test (rowsAt (n - (i + 1)) (drop (f + 6 * (i + 1)) t)) ≡ someRow test (rowsAt (n - i) (drop (f + 6 * i) t))
+  unfolding someRow
+  some-miss h e = sym (rw (rows-step t f n i h, e))
+
+  pub some-none : n ≤ i → someRow test (rowsAt (n - i) (drop (f + 6 * i) t)) ≡ false
+  unfolding someRow
+  some-none h = rw (rows-end t f n i h)

@@ -1,0 +1,160 @@
+-- Laws of reading a section, and the sections one after the other. Assumes nothing.
+use Prim.Native.Nat.{ℕ, zero, suc, _+_, _-_, _*_, _≤_, _<_}
+use mathlib.Core.Path.{_≡_, refl, sym, ap, _∙_}
+use mathlib.Core.List.{List, [], _∷_, _++_, map, append-nil}
+use mathlib.Core.Bool.{Bool, true, false, not}
+use native.Mathlib.Omega.{arith}
+use native.Mathlib.Numerals.{add-one}
+use borrow.Author.Tests.{lt-ltb, le-ltb}
+use lib.Dec.{eqb, ltb}
+use lib.ListN.{length, getD, take, drop, set, drop-of-length-le, length-drop}
+use lib.Seq.{take-all, drop-drop}
+use Rattle.graph_file.specs.declared.line.Line.{Line}
+use Rattle.graph_file.specs.declared.rows.Counts.{Counts}
+use Rattle.graph_file.specs.declared.reader.Part.{Part}
+use Rattle.graph_file.specs.Format.{Item, byte, Section, form, labels, pairs, transitions, accepts, scopeCount, edges, declarations, openPairs, queries, pastLast, sections, sectionAt}
+use Rattle.graph_file.specs.Outcome.{Outcome, refused, done, andThen, refuseIf}
+use Rattle.graph_file.specs.Admission.{Row, blank, Sofar, nothing, begun}
+use Rattle.graph_file.specs.Line.{Reading, readItems}
+use Rattle.graph_file.specs.File.{Piece, Way, Stage, throughRows, afterNames, enough, throughSection, isEmpty, throughSections, atStart, ordered, whole, readNames, reading, readStage}
+use Rattle.graph_file.specs.Order.{orderFault}
+use Rattle.graph_file.specs.Table.{itemsAt, namesPlace, rowsAt, lettersAt, pairsAt, lastAt, sofarAt}
+use Rattle.graph_file.specs.Reader.{lineOutcome, stageAt, refusedOr, partOutcome, Placed, RowsTaken, SectionTaken, roomBefore}
+use Rattle.graph_file.proofs.FormatLaws.{names-items}
+use Rattle.graph_file.proofs.LineLaws.{outcome-ok, outcome-not}
+use Rattle.graph_file.proofs.ReadLaws.{part-refused, part-done}
+
+-- the counts where a section begins
+abbrev pub fresh : Counts → Counts
+fresh c = record { labels = c .labels; pairs = c .pairs; scopes = c .scopes; rows = 0 }
+
+pub placed-fresh : (k n : ℕ) (c : Counts) → Placed k n c → Placed k n (fresh c)
+placed-fresh k n c p = record { early = p .early; first = p .first; within = p .within; rowed = omega (arith, p .within) }
+
+module _ (k n : ℕ) (t part : List ℕ) (c : Counts) (l : Line) (e : lineOutcome l part ≡ readItems (lettersAt 0 (drop 1 t)) (itemsAt (namesPlace k)) blank (drop 0 part)) where
+  named : readItems [] (map byte (sectionAt k .names)) blank part ≡ lineOutcome l part
+  unfolding lettersAt rowsAt
+  named = sym (e ∙ ap (λ (i : List Item). readItems [] i blank part) (names-items k))
+
+  -- another names line, or none
+  pub names-refused : l .ok ≡ false → refused 2 ≡ throughSection reading k (stageAt t n c part)
+  unfolding throughSection reading readNames stageAt andThen
+  names-refused p = sym (rw (named, outcome-not l part p))
+
+  -- the names line stands there
+  pub names-read : l .ok ≡ true → throughSection reading k (stageAt t n c part) ≡ andThen (throughRows reading (suc (sectionAt k .most)) k (stageAt t n (fresh c) (drop (l .next) part))) (enough k)
+  unfolding throughSection reading readNames stageAt andThen afterNames begun sofarAt lastAt
+  names-read p = rw (named, outcome-ok l part p, append-nil (take n t))
+
+  module _ (ok : l .ok ≡ true) (r : Part) (u : List ℕ) (h : partOutcome r u part ≡ throughRows reading (suc (sectionAt k .most)) k (stageAt t n (fresh c) (drop (l .next) part))) where
+    -- a row is refused
+    pub section-refused : (r .refusal ≡ 0 → ⊥) → partOutcome r u part ≡ throughSection reading k (stageAt t n c part)
+    unfolding andThen
+    section-refused z = part-refused r u part z ∙ sym (names-read ok ∙ rw (← h, part-refused r u part z))
+
+    section-end : r .refusal ≡ 0 → throughSection reading k (stageAt t n c part) ≡ enough k (stageAt u (r .cells) (r .counts) (drop (r .next) part))
+    unfolding andThen
+    section-end z = names-read ok ∙ rw (← h, part-done r u part z)
+
+    -- too few rows
+    pub section-few : r .refusal ≡ 0 → r .counts .rows < sectionAt k .least → refused 2 ≡ throughSection reading k (stageAt t n c part)
+    unfolding enough refuseIf stageAt sofarAt
+    section-few z f = sym (section-end z ∙ rw (lt-ltb (r .counts .rows) (sectionAt k .least) f))
+
+    -- the section is taken
+    pub section-done : r .refusal ≡ 0 → sectionAt k .least ≤ r .counts .rows → done (stageAt u (r .cells) (r .counts) (drop (r .next) part)) ≡ throughSection reading k (stageAt t n c part)
+    unfolding enough refuseIf stageAt sofarAt
+    section-done z f = sym (section-end z ∙ rw (le-ltb (r .counts .rows) (sectionAt k .least) f))
+
+-- the sections one after the other
+module _ (w : Way) (k left : ℕ) (g : Stage) where
+  pub sections-refused : (n : ℕ) → throughSection w k g ≡ refused n → throughSections w (suc left) k g ≡ refused n
+  unfolding throughSections andThen
+  sections-refused n e = rw e
+
+  pub sections-next : (h : Stage) → throughSection w k g ≡ done h → throughSections w left (k + 1) h ≡ throughSections w (suc left) k g
+  unfolding throughSections andThen
+  sections-next h e = sym (rw (e, add-one k))
+
+pub sections-more : (w : Way) (k : ℕ) (g : Stage) → k < 9 → throughSections w (9 - k) k g ≡ throughSections w (suc (9 - (k + 1))) k g
+sections-more w k g h = let e : 9 - k ≡ suc (9 - (k + 1)) = omega arith in rw e
+
+-- after the last section nothing is left, or something is
+pub sections-over : (w : Way) (k : ℕ) (g : Stage) → 9 ≤ k → g .rest ≡ [] → throughSections w (9 - k) k g ≡ done g
+unfolding throughSections refuseIf isEmpty
+sections-over w k g h e = let z : 9 - k ≡ 0 = omega arith in rw (z, throughSections, e)
+
+pub sections-left : (w : Way) (k : ℕ) (g : Stage) → 9 ≤ k → (x : ℕ) (xs : List ℕ) → g .rest ≡ x ∷ xs → throughSections w (9 - k) k g ≡ refused 2
+unfolding throughSections refuseIf isEmpty
+sections-left w k g h x xs e = let z : 9 - k ≡ 0 = omega arith in rw (z, throughSections, e)
+
+-- the counts fit the next section
+pub placed-next : (k n : ℕ) (c : Counts) → Placed k n c → Placed (k + 1) n c
+placed-next k n c p = record { early = λ h. p .early (omega arith); first = λ h. absurd (omega arith); within = p .within; rowed = p .rowed }
+
+-- the room of the sections above
+pub room-next : (k : ℕ) → roomBefore (k + 1) ≡ roomBefore k + 6 * sectionAt k .most
+unfolding roomBefore
+room-next k = rw (add-one k)
+
+pub room-below : (k : ℕ) → k ≤ 9 → roomBefore k ≤ 12271
+unfolding roomBefore labels pairs transitions accepts scopeCount edges declarations openPairs queries pastLast sections sectionAt
+room-below zero h = omega arith
+room-below (suc zero) h = omega arith
+room-below (suc (suc zero)) h = omega arith
+room-below (suc (suc (suc zero))) h = omega arith
+room-below (suc (suc (suc (suc zero)))) h = omega arith
+room-below (suc (suc (suc (suc (suc zero))))) h = omega arith
+room-below (suc (suc (suc (suc (suc (suc zero)))))) h = omega arith
+room-below (suc (suc (suc (suc (suc (suc (suc zero))))))) h = omega arith
+room-below (suc (suc (suc (suc (suc (suc (suc (suc zero)))))))) h = omega arith
+room-below (suc (suc (suc (suc (suc (suc (suc (suc (suc zero))))))))) h = omega arith
+room-below (suc (suc (suc (suc (suc (suc (suc (suc (suc (suc k)))))))))) h = absurd (omega arith)
+
+-- the empty table's stage
+pub start-stage : (t text : List ℕ) → 0 < length t → stageAt (set t 0 0) 1 (record { labels = 0; pairs = 0; scopes = 0; rows = 0 }) text ≡ atStart (form ∷ []) text
+unfolding stageAt atStart sofarAt nothing lettersAt pairsAt rowsAt lastAt
+start-stage [] text h = absurd (omega arith)
+start-stage (x ∷ t) text h = refl
+
+pub placed-start : Placed 0 1 (record { labels = 0; pairs = 0; scopes = 0; rows = 0 })
+placed-start = record { early = λ h. refl; first = λ h. refl; within = omega arith; rowed = omega arith }
+
+-- the rest of the text from a place on
+pub part-is : (s : List ℕ) (at : ℕ) → take (length s - at) (drop at s) ≡ drop at s
+part-is s at = take-all (length s - at) (drop at s) (omega (arith, length-drop at s))
+
+pub part-length : (s : List ℕ) (at : ℕ) → length (take (length s - at) (drop at s)) ≡ length s - at
+part-length s at = rw (part-is s at) (length-drop at s)
+
+pub section-whole : (k n : ℕ) (t u : List ℕ) (c : Counts) (r : Part) (s : List ℕ) (at : ℕ) → partOutcome r u (take (length s - at) (drop at s)) ≡ throughSection reading k (stageAt t n c (take (length s - at) (drop at s))) → partOutcome r u (drop at s) ≡ throughSection reading k (stageAt t n c (drop at s))
+section-whole k n t u c r s at e = rw (part-is s at) at e
+
+pub stage-part : (u : List ℕ) (n : ℕ) (c : Counts) (s : List ℕ) (at next : ℕ) → stageAt u n c (drop next (drop at s)) ≡ stageAt u n c (drop (at + next) s)
+stage-part u n c s at next = rw (drop-drop next at s)
+
+-- the whole file: too long, refused in a section, refused for its order, taken
+pub whole-long : (text : List ℕ) → 32768 < length text → refused 1 ≡ readStage text
+unfolding readStage
+whole-long text h = sym (rw (lt-ltb 32768 (length text) h, readStage))
+
+module _ (text u : List ℕ) (short : length text ≤ 32768) (r : Part) (h : partOutcome r u text ≡ throughSections reading 9 0 (atStart (form ∷ []) text)) where
+  whole-is : readStage text ≡ andThen (partOutcome r u text) ordered
+  unfolding readStage whole
+  whole-is = rw (le-ltb 32768 (length text) short, readStage, h)
+
+  pub whole-refused : (r .refusal ≡ 0 → ⊥) → partOutcome r u text ≡ readStage text
+  unfolding andThen
+  whole-refused z = part-refused r u text z ∙ sym (whole-is ∙ rw (part-refused r u text z))
+
+  whole-ordered : (b : Bool) → r .refusal ≡ 0 → orderFault (pairsAt (r .counts .labels) (r .counts .pairs) u) ≡ b → readStage text ≡ refuseIf b 6 (done (stageAt u (r .cells) (r .counts) (drop (r .next) text)))
+  unfolding andThen ordered stageAt sofarAt
+  whole-ordered b z e = whole-is ∙ rw (part-done r u text z, e)
+
+  pub whole-fault : r .refusal ≡ 0 → orderFault (pairsAt (r .counts .labels) (r .counts .pairs) u) ≡ true → refused 6 ≡ readStage text
+  unfolding refuseIf
+  whole-fault z e = sym (whole-ordered true z e)
+
+  pub whole-done : r .refusal ≡ 0 → orderFault (pairsAt (r .counts .labels) (r .counts .pairs) u) ≡ false → partOutcome r u text ≡ readStage text
+  unfolding refuseIf
+  whole-done z e = part-done r u text z ∙ sym (whole-ordered false z e)

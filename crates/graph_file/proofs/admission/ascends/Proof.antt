@@ -1,0 +1,53 @@
+use mathlib.Core.Path.{sym, _∙_}
+use borrow.Author.Tests.{eq-eqb, ne-eqb}
+use Rattle.graph_file.proofs.FormatLaws.{key-items}
+use Rattle.graph_file.proofs.AdmissionLaws.{last-row}
+use borrow.Author.Needs.{needs}
+use Rattle.graph_file.proofs.admission.ascends.Statement.{statement}
+use Rattle.graph_file.proofs.admission.ascends.Tie as tie
+use Rattle.graph_file.proofs.admission.ascends.Reads as reads
+use Rattle.graph_file.proofs.admission.ascends.Lts as lts
+use Rattle.graph_file.proofs.admission.key_less.Reads as key-less-reads
+use Rattle.graph_file.proofs.admission.row_before.Reads as row-before-reads
+use Rattle.graph_file.proofs.format.key_place.Reads as key-place-reads
+use Rattle.graph_file.proofs.rows.row_at.Reads as row-at-reads
+
+-- src/admission.rt:90:9
+returns : tie.Need-returns
+returns c = rw (eq-eqb (c .before .before .args .rows) 0 (c .if1 .taken))
+
+-- src/admission.rt:92:14
+key-place-requires : tie.Need-key-place-requires
+key-place-requires c κs = search needs
+
+-- src/admission.rt:92:42
+row-before-requires : tie.Need-row-before-requires
+row-before-requires c κs = search needs
+
+-- src/admission.rt:92:28
+row-at-requires : tie.Need-row-at-requires
+row-at-requires c κs = search needs
+
+-- src/admission.rt:92:58
+row-at-requires-2 : tie.Need-row-at-requires-2
+row-at-requires-2 c κs = search needs
+
+-- src/admission.rt:92:5
+key-less-requires : tie.Need-key-less-requires
+key-less-requires c κs = search needs
+
+-- src/admission.rt:86:1
+returns-2 : tie.Need-returns-2
+returns-2 c = let a = c .before .before .before .before .before .before .before .args in rw (ne-eqb (a .rows) 0 (c .before .before .before .before .before .if1 .left), last-row (a .rows) (a .p) (a .table .now) (c .before .before .before .before .before .if1 .left), ← key-items (a .k)) (cc)
+
+pub ascends-spec : {M : Type 1} → statement M
+ascends-spec =
+    tie.close
+    (tie.spec
+    returns
+    key-place-requires
+    row-before-requires
+    row-at-requires
+    row-at-requires-2
+    key-less-requires
+    returns-2)

@@ -1,0 +1,29 @@
+use mathlib.Core.Path.{sym, _∙_}
+use native.Mathlib.Omega.{arith}
+use lib.ListN.{List·getD-eq-default}
+use Rattle.text_field.proofs.ByteLaws.{getD-any}
+use Rattle.graph_file.proofs.FormatLaws.{mosts, most-at}
+use borrow.Author.Needs.{needs}
+use Rattle.graph_file.proofs.format.most.Statement.{statement}
+use Rattle.graph_file.proofs.format.most.Tie as tie
+use Rattle.graph_file.proofs.format.most.Reads as reads
+use Rattle.graph_file.proofs.format.most.Lts as lts
+
+-- src/format.rt:53:16
+mul-result : tie.Need-mul-result
+mul-result c = search needs
+
+-- src/format.rt:53:16
+array-read-result : tie.Need-array-read-result
+array-read-result c = search needs
+
+-- src/format.rt:50:1
+returns : tie.Need-returns
+returns c = most-at (c .before .args .k)
+
+-- src/format.rt:50:1
+returns-2 : tie.Need-returns-2
+returns-2 c = sym (List·getD-eq-default mosts 0 {n = c .before .args .k} (omega arith)) ∙ most-at (c .before .args .k)
+
+pub most-spec : {M : Type 1} → statement M
+most-spec = tie.close (tie.spec mul-result array-read-result returns returns-2)

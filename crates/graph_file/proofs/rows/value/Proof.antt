@@ -1,0 +1,28 @@
+use mathlib.Core.Path.{sym, _∙_}
+use native.Mathlib.Omega.{arith}
+use lib.ListN.{List·getD-eq-default}
+use Rattle.text_field.proofs.ByteLaws.{getD-any}
+use borrow.Author.Needs.{needs}
+use Rattle.graph_file.proofs.rows.value.Statement.{statement}
+use Rattle.graph_file.proofs.rows.value.Tie as tie
+use Rattle.graph_file.proofs.rows.value.Reads as reads
+use Rattle.graph_file.proofs.rows.value.Lts as lts
+
+-- src/rows.rt:14:16
+mul-result : tie.Need-mul-result
+mul-result c = search needs
+
+-- src/rows.rt:14:16
+array-read-result : tie.Need-array-read-result
+array-read-result c = search needs
+
+-- src/rows.rt:11:1
+returns : tie.Need-returns
+returns c = search needs
+
+-- src/rows.rt:11:1
+returns-2 : tie.Need-returns-2
+returns-2 c = sym (List·getD-eq-default (c .before .args .t1) 0 {n = c .before .args .c} (omega arith))
+
+pub value-spec : {M : Type 1} → statement M
+value-spec = tie.close (tie.spec mul-result array-read-result returns returns-2)

@@ -1,0 +1,104 @@
+-- Whether a row is admitted after those above it: refusals 5, 3 and 4 (document 01, "Who can cause a refusal"). One definition serves the
+-- reader and the writer. Assumes nothing: these are definitions.
+use Prim.Native.Nat.{ℕ, zero, suc, _+_}
+use mathlib.Core.List.{List, [], _∷_, _++_}
+use mathlib.Core.Bool.{Bool, true, false, not, _&&_, _||_}
+use lib.Dec.{eqb, ltb, leb}
+use lib.ListN.{length, getD}
+use Rattle.graph_file.specs.Format.{Kind, state, scope, mark, count, letter, label, end, name, Item, byte, field, everyItem, Sequence, ascending, once, free, Section, sectionAt, labelSection, pairSection, countSection}
+
+-- a row's five values
+abbrev pub Row : Type 0
+Row = List ℕ
+
+-- the value at a place
+abbrev pub value : Row → ℕ → ℕ
+value row c = getD row c 0
+
+-- the row of six cells: the five after the first; a missing cell counts as 0
+unfoldable pub rowOf : List ℕ → Row
+rowOf cells = getD cells 1 0 ∷ getD cells 2 0 ∷ getD cells 3 0 ∷ getD cells 4 0 ∷ getD cells 5 0 ∷ []
+
+-- the row without values, which a line is read into
+abbrev pub blank : Row
+blank = 0 ∷ 0 ∷ 0 ∷ 0 ∷ 0 ∷ []
+
+-- What the rows above leave for the next one: the labels' letters in sequence, the order pairs' rows, the count of scopes (0 before its row),
+-- how many rows this section has so far, and the last of them.
+pub record Sofar : Type 0 where
+  pub letters : List ℕ
+  pub pairs : List Row
+  pub scopes : ℕ
+  pub rows : ℕ
+  pub last : Row
+
+-- before any row
+unfoldable pub nothing : Sofar
+nothing = record { letters = []; pairs = []; scopes = 0; rows = 0; last = blank }
+
+-- a section begins: it has no row yet
+unfoldable pub begun : Sofar → Sofar
+begun st = record { letters = st .letters; pairs = st .pairs; scopes = st .scopes; rows = 0; last = blank }
+
+-- a row joins the rows of a section
+unfoldable pub joined : {A : Type 0} → Bool → List A → A → List A
+joined true xs x = xs ++ (x ∷ [])
+joined false xs x = xs
+
+unfoldable pub counted : Bool → ℕ → ℕ → ℕ
+counted true new old = new
+counted false new old = old
+
+-- the row is taken into section k
+unfoldable pub taken : ℕ → Sofar → Row → Sofar
+taken k st row = record { letters = joined (eqb k labelSection) (st .letters) (value row 0); pairs = joined (eqb k pairSection) (st .pairs) row; scopes = counted (eqb k countSection) (value row 0) (st .scopes); rows = st .rows + 1; last = row }
+
+-- Is the value in its range or list? States are 0 to 15, scopes below their count, marks 0 to 65,535, the count 1 to 64. A label is its
+-- number among those listed; an end is 0 for the end mark and one more than the label's number for a label.
+unfoldable pub kindInRange : ℕ → ℕ → Kind → ℕ → Bool
+kindInRange labels scopes state v = ltb v 16
+kindInRange labels scopes scope v = ltb v scopes
+kindInRange labels scopes mark v = ltb v 65536
+kindInRange labels scopes count v = leb 1 v && leb v 64
+kindInRange labels scopes letter v = true
+kindInRange labels scopes label v = ltb v labels
+kindInRange labels scopes end v = leb v labels
+kindInRange labels scopes name v = true
+
+-- of an item of a line, whose value the row holds
+unfoldable pub itemInRange : ℕ → ℕ → Row → Item → Bool
+itemInRange labels scopes row (byte b) = true
+itemInRange labels scopes row (field k c) = kindInRange labels scopes k (value row c)
+
+-- Is every value of the row in its range?
+unfoldable pub inRange : ℕ → ℕ → List Item → Row → Bool
+inRange labels scopes items row = everyItem (itemInRange labels scopes row) items
+
+-- Does the first row stand before the second by the key: less at the first place where they differ?
+unfoldable pub keyLess : List ℕ → Row → Row → Bool
+keyLess [] a b = false
+keyLess (c ∷ key) a b = ltb (value a c) (value b c) || (eqb (value a c) (value b c) && keyLess key a b)
+
+-- Is the letter listed?
+unfoldable pub listed : ℕ → List ℕ → Bool
+listed x [] = false
+listed x (y ∷ ys) = eqb y x || listed x ys
+
+-- Does the row follow those above as its section asks: by its key, the letters listed so far, how many rows the section has and the last of
+-- them? The first row always ascends.
+unfoldable pub follows : Sequence → List ℕ → List ℕ → ℕ → Row → Row → Bool
+follows ascending key letters rows last row = eqb rows 0 || keyLess key last row
+follows once key letters rows last row = not (listed (value row 0) letters)
+follows free key letters rows last row = true
+
+unfoldable pub unless : Bool → ℕ → ℕ → ℕ
+unless true n otherwise = otherwise
+unless false n otherwise = n
+
+-- The row after the rows so far: refused by 5 where the section is full, by 3 where a value is out of range, by 4 where it repeats or does
+-- not ascend, in this sequence; 0 where it is admitted.
+unfoldable pub admission : Section → Sofar → Row → ℕ
+admission s st row =
+    unless (ltb (st .rows) (s .most)) 5
+    (unless (inRange (length (st .letters)) (st .scopes) (s .row) row) 3
+    (unless (follows (s .sequence) (s .key) (st .letters) (st .rows) (st .last) row) 4 0))

@@ -1,0 +1,95 @@
+-- The scope graph that a graph table stands for (document 01, "The gym file"): its rules, edges, declarations, open pairs and queries, each from
+-- the rows of its section. Assumes nothing: these are definitions.
+use Prim.Native.Nat.{ℕ, zero, suc, _+_, _*_}
+use mathlib.Core.List.{List, [], _∷_, map}
+use mathlib.Core.Bool.{Bool, true, false}
+use lib.Dec.{eqb}
+use lib.ListN.{length, getD, drop}
+use Rattle.scope_graph.specs.Rows.{OrderPair, Transition, PackedName, Rules, language}
+use Rattle.scope_graph.specs.Order.{endOf}
+use Rattle.scope_graph.specs.Graph.{Edge, Declaration, Graph, Query, OpenPair}
+use Rattle.graph_file.specs.Format.{labelSection, pairSection, transitionSection, acceptSection, countSection, edgeSection, declarationSection, openSection, querySection}
+use Rattle.graph_file.specs.Admission.{Row, value, blank}
+
+-- a row stands before the others, where the test holds
+unfoldable pub keptIf : Bool → Row → List Row → List Row
+keptIf true row rows = row ∷ rows
+keptIf false row rows = rows
+
+-- Of rows of six cells, the ones whose first cell is k, in sequence: each by its five values. Cells too few for a row are none.
+unfoldable pub rowsAmong : ℕ → List ℕ → List Row
+rowsAmong k [] = []
+rowsAmong k (s ∷ []) = []
+rowsAmong k (s ∷ a ∷ []) = []
+rowsAmong k (s ∷ a ∷ b ∷ []) = []
+rowsAmong k (s ∷ a ∷ b ∷ c ∷ []) = []
+rowsAmong k (s ∷ a ∷ b ∷ c ∷ d ∷ []) = []
+rowsAmong k (s ∷ a ∷ b ∷ c ∷ d ∷ e ∷ cells) = keptIf (eqb s k) (a ∷ b ∷ c ∷ d ∷ e ∷ []) (rowsAmong k cells)
+
+-- the rows of section k of a graph table: its first cell is the form
+unfoldable pub rowsIn : ℕ → List ℕ → List Row
+rowsIn k cells = rowsAmong k (drop 1 cells)
+
+-- `label`: the letters, in label number sequence
+unfoldable pub lettersOf : List ℕ → List ℕ
+lettersOf cells = map (λ (row : Row). value row 0) (rowsIn labelSection cells)
+
+-- `less more`
+unfoldable pub orderPairOf : Row → OrderPair
+orderPairOf row = record { less = endOf (value row 0); more = endOf (value row 1) }
+
+-- `state label next`
+unfoldable pub transitionOf : Row → Transition
+transitionOf row = record { state = value row 0; label = value row 1; next = value row 2 }
+
+-- the first four sections: labels, order, automaton
+unfoldable pub rulesOf : List ℕ → Rules
+rulesOf cells = record {
+  labels = length (lettersOf cells);
+  order = map orderPairOf (rowsIn pairSection cells);
+  transitions = map transitionOf (rowsIn transitionSection cells);
+  accept = map (λ (row : Row). value row 0) (rowsIn acceptSection cells);
+}
+
+-- a name's two cells
+unfoldable pub nameAt : ℕ → Row → PackedName
+nameAt c row = record { high = value row c; low = value row (c + 1) }
+
+module _ (r : Rules) where
+  -- `from label to`
+  unfoldable pub edgeOf : Row → Edge (language r)
+  edgeOf row = record { from = value row 0; step = value row 1; to = value row 2 }
+
+  -- `at name mark`
+  unfoldable pub declarationOf : Row → Declaration (language r)
+  declarationOf row = record { at = value row 0; name = nameAt 1 row; mark = value row 3 }
+
+  -- `at open`
+  unfoldable pub openPairOf : Row → OpenPair (language r)
+  openPairOf row = record { at = value row 0; end = endOf (value row 1) }
+
+  -- `start seek`
+  unfoldable pub queryOf : Row → Query (language r)
+  queryOf row = record { start = value row 0; name = nameAt 1 row }
+
+-- `scopes`: the count of scopes, by its one row
+unfoldable pub scopesOf : List ℕ → ℕ
+scopesOf cells = value (getD (rowsIn countSection cells) 0 blank) 0
+
+unfoldable pub graphOf : (cells : List ℕ) → Graph (language (rulesOf cells))
+graphOf cells = record {
+  scopes = scopesOf cells;
+  edges = map (edgeOf (rulesOf cells)) (rowsIn edgeSection cells);
+  declarations = map (declarationOf (rulesOf cells)) (rowsIn declarationSection cells);
+}
+
+unfoldable pub opensOf : (cells : List ℕ) → List (OpenPair (language (rulesOf cells)))
+opensOf cells = map (openPairOf (rulesOf cells)) (rowsIn openSection cells)
+
+unfoldable pub queriesOf : (cells : List ℕ) → List (Query (language (rulesOf cells)))
+queriesOf cells = map (queryOf (rulesOf cells)) (rowsIn querySection cells)
+
+-- where section k's rows begin in an accepted table: after the form and the rows of the sections above
+unfoldable pub sectionPlace : ℕ → List ℕ → ℕ
+sectionPlace zero cells = 1
+sectionPlace (suc k) cells = sectionPlace k cells + 6 * length (rowsIn k cells)

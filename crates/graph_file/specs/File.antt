@@ -1,0 +1,152 @@
+-- The whole file: text read into the graph table's cells, and cells written as text (document 01, "The gym file" and "Who can cause a
+-- refusal"). Both ways go through the same steps, so they are one definition over what differs. Assumes nothing: these are definitions.
+use Prim.Native.Nat.{ℕ, zero, suc, _+_}
+use mathlib.Core.List.{List, [], _∷_, _++_, map}
+use mathlib.Core.Bool.{Bool, true, false, not}
+use lib.Dec.{eqb, ltb}
+use lib.ListN.{length, drop}
+use Rattle.text_field.specs.Bytes.{isLower}
+use Rattle.graph_file.specs.Format.{byte, Section, sectionAt, form}
+use Rattle.graph_file.specs.Outcome.{Outcome, refused, done, andThen, refuseIf}
+use Rattle.graph_file.specs.Admission.{Row, rowOf, blank, Sofar, nothing, begun, taken, admission}
+use Rattle.graph_file.specs.Line.{Reading, readItems, lineText, formed}
+use Rattle.graph_file.specs.Order.{orderFault}
+
+-- A step of reading or writing: the row that it takes (none at a names line), what is made of it (cells, or text), and what is left to go
+-- through (text, or cells).
+pub record Piece : Type 0 where
+  pub row : Row
+  pub made : List ℕ
+  pub rest : List ℕ
+
+-- What differs between the two ways, for a section's number: the names line, whether another row of the section comes next, and one row,
+-- with the labels' letters given.
+pub record Way : Type 0 where
+  pub names : ℕ → List ℕ → Outcome Piece
+  pub more : ℕ → List ℕ → Bool
+  pub row : ℕ → List ℕ → List ℕ → Outcome Piece
+
+-- How far the way has come: what the rows so far leave, what is made, what is left.
+pub record Stage : Type 0 where
+  pub sofar : Sofar
+  pub made : List ℕ
+  pub rest : List ℕ
+
+unfoldable pub ifAdmitted : ℕ → Outcome Stage → Outcome Stage
+ifAdmitted zero next = next
+ifAdmitted (suc n) next = refused (suc n)
+
+-- the stage after a row of section k
+unfoldable pub afterRow : ℕ → Stage → Piece → Stage
+afterRow k g p = record { sofar = taken k (g .sofar) (p .row); made = g .made ++ p .made; rest = p .rest }
+
+-- one row of section k: tested by 2, then 5, 3, 4
+unfoldable pub oneRow : Way → ℕ → Stage → Outcome Stage
+oneRow w k g =
+    andThen (w .row k (g .sofar .letters) (g .rest)) (λ p. ifAdmitted (admission (sectionAt k) (g .sofar) (p .row)) (done (afterRow k g p)))
+
+-- The rows of section k. A section admits at most as many rows as its limit, so the turns, one more than that, never run out.
+unfoldable pub throughRows : Way → ℕ → ℕ → Stage → Outcome Stage
+throughRows w zero k g = refused 5
+throughRows w (suc turns) k g =
+    elim (w .more k (g .rest)) [ true ↦ andThen (oneRow w k g) (throughRows w turns k) | false ↦ done g ]
+
+-- the stage after the names line of a section
+unfoldable pub afterNames : Stage → Piece → Stage
+afterNames g p = record { sofar = begun (g .sofar); made = g .made ++ p .made; rest = p .rest }
+
+-- too few rows are 2, where the next names line is due
+unfoldable pub enough : ℕ → Stage → Outcome Stage
+enough k g = refuseIf (ltb (g .sofar .rows) (sectionAt k .least)) 2 (done g)
+
+-- section k: its names line, its rows, and that they are enough
+unfoldable pub throughSection : Way → ℕ → Stage → Outcome Stage
+throughSection w k g =
+    andThen (w .names k (g .rest)) (λ p. andThen (throughRows w (suc (sectionAt k .most)) k (afterNames g p)) (enough k))
+
+unfoldable pub isEmpty : List ℕ → Bool
+isEmpty [] = true
+isEmpty (x ∷ xs) = false
+
+-- `left` sections from section k on, in turn; after the last one nothing may be left
+unfoldable pub throughSections : Way → ℕ → ℕ → Stage → Outcome Stage
+throughSections w zero k g = refuseIf (not (isEmpty (g .rest))) 2 (done g)
+throughSections w (suc left) k g = andThen (throughSection w k g) (throughSections w left (suc k))
+
+-- the order pairs are tested last
+unfoldable pub ordered : Stage → Outcome Stage
+ordered g = refuseIf (orderFault (g .sofar .pairs)) 6 (done g)
+
+-- before the first section
+unfoldable pub atStart : List ℕ → List ℕ → Stage
+atStart made rest = record { sofar = nothing; made = made; rest = rest }
+
+-- the nine sections and the order
+unfoldable pub whole : Way → List ℕ → List ℕ → Outcome Stage
+whole w made rest = andThen (throughSections w 9 0 (atStart made rest)) ordered
+
+-- Reading. The names line must stand there byte for byte.
+unfoldable pub readNames : ℕ → List ℕ → Outcome Piece
+readNames k text = andThen (readItems [] (map byte (sectionAt k .names)) blank text) (λ r. done (record { row = blank; made = []; rest = r .rest }))
+
+-- A row follows unless the text is at its end or a lower-case letter comes, which begins a names line.
+unfoldable pub rowFollows : List ℕ → Bool
+rowFollows [] = false
+rowFollows (x ∷ rest) = not (isLower x)
+
+-- a row's line becomes its section's number and the five values
+unfoldable pub readRow : ℕ → List ℕ → List ℕ → Outcome Piece
+readRow k letters text = andThen (readItems letters (sectionAt k .row) blank text) (λ r. done (record { row = r .values; made = k ∷ r .values; rest = r .rest }))
+
+unfoldable pub reading : Way
+reading = record { names = readNames; more = λ k text. rowFollows text; row = readRow }
+
+-- The graph table's cells that a text stands for: refused by 1 where it is too long, then line by line, then by 6.
+unfoldable pub readStage : List ℕ → Outcome Stage
+readStage text = elim (ltb 32768 (length text)) [ true ↦ refused 1 | false ↦ whole reading (form ∷ []) text ]
+
+unfoldable pub madeOf : Outcome Stage → Outcome (List ℕ)
+madeOf o = andThen o (λ g. done (g .made))
+
+unfoldable pub readCells : List ℕ → Outcome (List ℕ)
+readCells text = madeOf (readStage text)
+
+-- Writing. The names line is written whether or not rows follow.
+unfoldable pub writeNames : ℕ → List ℕ → Outcome Piece
+writeNames k cells = done (record { row = blank; made = sectionAt k .names; rest = cells })
+
+-- A row of section k follows if its first cell is the section's number. A row of any other number is left over at the end, which is 2.
+unfoldable pub cellsFollow : ℕ → List ℕ → Bool
+cellsFollow k [] = false
+cellsFollow k (x ∷ rest) = eqb x k
+
+-- six cells become the row's line; fewer cells, or values that no line has, are 2
+unfoldable pub writeRow : ℕ → List ℕ → List ℕ → Outcome Piece
+writeRow k letters cells =
+    refuseIf (ltb (length cells) 6) 2
+    (refuseIf (not (formed (sectionAt k .row) (rowOf cells))) 2
+    (done (record { row = rowOf cells; made = lineText letters (sectionAt k .row) (rowOf cells); rest = drop 6 cells })))
+
+unfoldable pub writing : Way
+writing = record { names = writeNames; more = cellsFollow; row = writeRow }
+
+unfoldable pub hasForm : List ℕ → Bool
+hasForm [] = false
+hasForm (x ∷ rest) = eqb x form
+
+-- The text of a graph table's cells: refused by 2 where the first cell is missing or another form's, then row by row, then by 6.
+unfoldable pub writeText : List ℕ → Outcome (List ℕ)
+writeText cells = elim (hasForm cells) [ true ↦ madeOf (whole writing [] (drop 1 cells)) | false ↦ refused 2 ]
+
+-- What the host is told for an output and the room lent for it: how much was written, or the refusal; 9, too little room, comes last.
+unfoldable pub answer : Outcome (List ℕ) → ℕ → Outcome ℕ
+answer o room = andThen o (λ out. refuseIf (ltb room (length out)) 9 (done (length out)))
+
+unfoldable pub written : Bool → List ℕ → List ℕ → List ℕ
+written true out lent = lent
+written false out lent = out ++ drop (length out) lent
+
+-- What the lent memory holds afterwards: the output and behind it what was there; after a refusal, what was there.
+unfoldable pub leaves : Outcome (List ℕ) → List ℕ → List ℕ
+leaves (refused n) lent = lent
+leaves (done out) lent = written (ltb (length lent) (length out)) out lent

@@ -1,0 +1,13 @@
+pub mod Format
+pub mod Outcome
+pub mod Admission
+pub mod Line
+pub mod Order
+pub mod File
+pub mod NameSought
+pub mod Inverse
+pub mod Decode
+pub mod Accepted
+pub mod Table
+pub mod Reader
+pub mod Writer

@@ -1,0 +1,142 @@
+-- One line of the file against the items of its form, read and written (document 01, "The gym file").
+-- Assumes nothing: these are definitions.
+use Prim.Native.Nat.{ℕ, zero, suc, _+_, _%_}
+use mathlib.Core.List.{List, [], _∷_, _++_}
+use mathlib.Core.Bool.{Bool, true, false, not, _&&_, _||_}
+use lib.Dec.{eqb, leb, ltb}
+use lib.ListN.{getD, drop}
+use lib.Seq.{sets}
+use Rattle.text_field.specs.declared.NumberRead.{NumberRead}
+use Rattle.text_field.specs.declared.NumberRead.the-variants.{Number, NoNumber}
+use Rattle.text_field.specs.declared.NameRead.{NameRead}
+use Rattle.text_field.specs.declared.NameRead.the-variants.{Name, NoName}
+use Rattle.text_field.specs.Bytes.{isCapital}
+use Rattle.text_field.specs.Number.{numberText, numberHere}
+use Rattle.text_field.specs.Name.{nameText, nameHere, isNameCells}
+use Rattle.graph_file.specs.Format.{Kind, state, scope, mark, count, letter, label, end, name, Item, byte, field, valuesOf, everyItem}
+use Rattle.graph_file.specs.Outcome.{Outcome, refused, done, andThen}
+use Rattle.graph_file.specs.Admission.{Row, value}
+
+-- What reading takes from the front of the text: values, and the text after it.
+pub record Reading : Type 0 where
+  pub values : List ℕ
+  pub rest : List ℕ
+
+unfoldable pub numberTaken : NumberRead → List ℕ → Outcome Reading
+numberTaken (Number v width) text = done (record { values = v ∷ []; rest = drop width text })
+numberTaken NoNumber text = refused 2
+
+unfoldable pub nameTaken : NameRead → List ℕ → Outcome Reading
+nameTaken (Name high low width) text = done (record { values = high ∷ low ∷ []; rest = drop width text })
+nameTaken NoName text = refused 2
+
+-- one byte that stands for v, if it is of its class
+unfoldable pub byteTaken : Bool → ℕ → List ℕ → Outcome Reading
+byteTaken true v text = done (record { values = v ∷ []; rest = drop 1 text })
+byteTaken false v text = refused 2
+
+-- a letter's number in the list; for a letter that is not listed, how many there are, which no label's number is
+unfoldable pub place : ℕ → List ℕ → ℕ
+place x [] = 0
+place x (y ∷ ys) = elim (eqb y x) [ true ↦ 0 | false ↦ suc (place x ys) ]
+
+-- an end by its byte: 0 for the end mark `$`, else one more than the label's number
+unfoldable pub endTaken : List ℕ → ℕ → List ℕ → Outcome Reading
+endTaken letters x text = elim (eqb x 36) [ true ↦ byteTaken true 0 text | false ↦ byteTaken (isCapital x) (suc (place x letters)) text ]
+
+-- the first byte; past the end 0, which is of no class
+abbrev pub first : List ℕ → ℕ
+first text = getD text 0 0
+
+-- A field at the front of the text. A label is one letter A to Z, listed or not: whether it is listed is a matter of range, refusal 3.
+unfoldable pub readField : List ℕ → Kind → List ℕ → Outcome Reading
+readField letters state text = numberTaken (numberHere text) text
+readField letters scope text = numberTaken (numberHere text) text
+readField letters mark text = numberTaken (numberHere text) text
+readField letters count text = numberTaken (numberHere text) text
+readField letters letter text = byteTaken (isCapital (first text)) (first text) text
+readField letters label text = byteTaken (isCapital (first text)) (place (first text) letters) text
+readField letters end text = endTaken letters (first text) text
+readField letters name text = nameTaken (nameHere text) text
+
+-- Does this byte come first?
+unfoldable pub startsWith : ℕ → List ℕ → Bool
+startsWith b [] = false
+startsWith b (x ∷ rest) = eqb x b
+
+-- One item at the front of the text: a byte that must stand there and has no value, or a field.
+unfoldable pub readItem : List ℕ → Item → List ℕ → Outcome Reading
+readItem letters (byte b) text = elim (startsWith b text) [ true ↦ done (record { values = []; rest = drop 1 text }) | false ↦ refused 2 ]
+readItem letters (field k c) text = readField letters k text
+
+-- the place in the row where an item's values go
+unfoldable pub placeOf : Item → ℕ
+placeOf (byte b) = 0
+placeOf (field k c) = c
+
+-- A line's items in turn, each one's values put at its place in the row: the row's values and the text after the line, or 2.
+unfoldable pub readItems : List ℕ → List Item → Row → List ℕ → Outcome Reading
+readItems letters [] row text = done (record { values = row; rest = text })
+readItems letters (i ∷ items) row text =
+    andThen (readItem letters i text) (λ r. readItems letters items (sets row (placeOf i) (r .values)) (r .rest))
+
+-- the byte of a letter's cell, which is at most 90 wherever it is written
+abbrev pub asByte : ℕ → ℕ
+asByte v = v % 256
+
+unfoldable pub endByte : List ℕ → ℕ → ℕ
+endByte letters zero = 36
+endByte letters (suc v) = asByte (getD letters v 0)
+
+-- a field's text, from the value at its place and the one after it
+unfoldable pub fieldText : List ℕ → Kind → ℕ → ℕ → List ℕ
+fieldText letters state v w = numberText v
+fieldText letters scope v w = numberText v
+fieldText letters mark v w = numberText v
+fieldText letters count v w = numberText v
+fieldText letters letter v w = asByte v ∷ []
+fieldText letters label v w = asByte (getD letters v 0) ∷ []
+fieldText letters end v w = endByte letters v ∷ []
+fieldText letters name v w = nameText v w
+
+-- an item's text in a row's line
+unfoldable pub itemText : List ℕ → Row → Item → List ℕ
+itemText letters row (byte b) = b ∷ []
+itemText letters row (field k c) = fieldText letters k (value row c) (value row (c + 1))
+
+-- a row's text, by the items of its line
+unfoldable pub lineText : List ℕ → List Item → Row → List ℕ
+lineText letters [] row = []
+lineText letters (i ∷ items) row = itemText letters row i ++ lineText letters items row
+
+-- Has the value a text of its form? A number has five digits at most, a letter is A to Z, a name's two cells are a name's.
+-- A label's number is no text: without a label it is out of range, refusal 3.
+unfoldable pub fieldFormed : Kind → ℕ → ℕ → Bool
+fieldFormed state v w = leb v 99999
+fieldFormed scope v w = leb v 99999
+fieldFormed mark v w = leb v 99999
+fieldFormed count v w = leb v 99999
+fieldFormed letter v w = isCapital v
+fieldFormed label v w = true
+fieldFormed end v w = true
+fieldFormed name v w = isNameCells v w
+
+unfoldable pub itemFormed : Row → Item → Bool
+itemFormed row (byte b) = true
+itemFormed row (field k c) = fieldFormed k (value row c) (value row (c + 1))
+
+-- Does the item leave place d alone? A field fills its place, and a name the next one too.
+unfoldable pub sparesPlace : ℕ → Item → Bool
+sparesPlace d (byte b) = true
+sparesPlace d (field k c) = ltb d c || leb (c + valuesOf k) d
+
+-- a place that every item leaves alone holds 0
+unfoldable pub idleZero : List Item → Row → ℕ → Bool
+idleZero items row d = not (everyItem (sparesPlace d) items) || eqb (value row d) 0
+
+unfoldable pub idleZeros : List Item → Row → Bool
+idleZeros items row = idleZero items row 0 && (idleZero items row 1 && (idleZero items row 2 && (idleZero items row 3 && idleZero items row 4)))
+
+-- Can the row be written in this form? If not, it is refused by 2.
+unfoldable pub formed : List Item → Row → Bool
+formed items row = everyItem (itemFormed row) items && idleZeros items row

@@ -1,0 +1,124 @@
+-- How the code holds the format and the rows so far: as bytes of one fixed string, and as cells of the graph table. What a gym file is, is
+-- said in the files above; this one relates it to what the code looks at. Assumes nothing: these are definitions.
+use Prim.Native.Nat.{ℕ, zero, suc, _+_, _-_, _*_, _/_, _%_}
+use mathlib.Core.List.{List, [], _∷_, _++_, map}
+use mathlib.Core.Bool.{Bool, true, false}
+use lib.Dec.{eqb, ltb}
+use lib.ListN.{length, getD, drop}
+use Rattle.graph_file.specs.declared.rows.Counts.{Counts}
+use Rattle.graph_file.specs.Format.{Kind, state, scope, mark, count, letter, label, end, name, Item, byte, field, Sequence, ascending, once, free, Section, sections, sectionAt}
+use Rattle.graph_file.specs.Admission.{Row, value, rowOf, blank, Sofar}
+
+-- the kinds by number
+unfoldable pub kindNumber : Kind → ℕ
+kindNumber state = 0
+kindNumber scope = 1
+kindNumber mark = 2
+kindNumber count = 3
+kindNumber letter = 4
+kindNumber label = 5
+kindNumber end = 6
+kindNumber name = 7
+
+-- An item's code: a byte stands for itself, a field from 128 on has its kind and place.
+unfoldable pub code : Item → ℕ
+code (byte b) = b
+code (field k c) = 128 + 8 * kindNumber k + c
+
+-- the kind of a number; a larger one is read as a name
+unfoldable pub kindOf : ℕ → Kind
+kindOf zero = state
+kindOf (suc zero) = scope
+kindOf (suc (suc zero)) = mark
+kindOf (suc (suc (suc zero))) = count
+kindOf (suc (suc (suc (suc zero)))) = letter
+kindOf (suc (suc (suc (suc (suc zero))))) = label
+kindOf (suc (suc (suc (suc (suc (suc zero)))))) = end
+kindOf (suc (suc (suc (suc (suc (suc (suc n))))))) = name
+
+-- the item of a code
+unfoldable pub itemOf : ℕ → Item
+itemOf x = elim (ltb x 128) [ true ↦ byte x | false ↦ field (kindOf ((x - 128) / 8)) (x % 8) ]
+
+-- a section in the fixed string: its names line, the codes of a row's items, and the places of its key as digits, each ended by LF
+unfoldable pub layout : Section → List ℕ
+layout s = s .names ++ (map code (s .row) ++ (map (λ (c : ℕ). 48 + c) (s .key) ++ (10 ∷ [])))
+
+unfoldable pub layouts : List Section → List ℕ
+layouts [] = []
+layouts (s ∷ ss) = layout s ++ layouts ss
+
+unfoldable pub formatBytes : List ℕ
+formatBytes = layouts sections
+
+-- an item, and the items after it unless it ends the line
+unfoldable pub lineStep : ℕ → List Item → List Item
+lineStep x items = elim (eqb x 10) [ true ↦ byte 10 ∷ [] | false ↦ itemOf x ∷ items ]
+
+-- the items of the codes up to the end of their line
+unfoldable pub lineOf : List ℕ → List Item
+lineOf [] = byte 10 ∷ []
+lineOf (x ∷ rest) = lineStep x (lineOf rest)
+
+-- the line that starts at a place of the fixed string
+unfoldable pub itemsAt : ℕ → List Item
+itemsAt o = lineOf (drop o formatBytes)
+
+unfoldable pub keyStep : ℕ → List ℕ → List ℕ
+keyStep x key = elim (eqb x 10) [ true ↦ [] | false ↦ x % 8 ∷ key ]
+
+unfoldable pub keyOf : List ℕ → List ℕ
+keyOf [] = []
+keyOf (x ∷ rest) = keyStep x (keyOf rest)
+
+-- the key that starts at a place of the fixed string
+unfoldable pub keyAt : ℕ → List ℕ
+keyAt o = keyOf (drop o formatBytes)
+
+-- where each section's names line, row and key start
+abbrev pub namesPlaces : List ℕ
+namesPlaces = 0 ∷ 9 ∷ 26 ∷ 52 ∷ 63 ∷ 73 ∷ 97 ∷ 121 ∷ 136 ∷ []
+
+unfoldable pub namesPlace : ℕ → ℕ
+namesPlace k = getD namesPlaces k 152
+
+abbrev pub rowPlaces : List ℕ
+rowPlaces = 6 ∷ 19 ∷ 43 ∷ 59 ∷ 70 ∷ 87 ∷ 110 ∷ 129 ∷ 147 ∷ []
+
+unfoldable pub rowPlace : ℕ → ℕ
+rowPlace k = getD rowPlaces k 152
+
+abbrev pub keyPlaces : List ℕ
+keyPlaces = 8 ∷ 23 ∷ 49 ∷ 61 ∷ 72 ∷ 93 ∷ 116 ∷ 133 ∷ 151 ∷ []
+
+unfoldable pub keyPlace : ℕ → ℕ
+keyPlace k = getD keyPlaces k 152
+
+-- the ways that rows follow one another, by number
+unfoldable pub sequenceNumber : Sequence → ℕ
+sequenceNumber ascending = 0
+sequenceNumber once = 1
+sequenceNumber free = 2
+
+-- n rows of a table, from its front
+unfoldable pub rowsAt : ℕ → List ℕ → List Row
+rowsAt zero cells = []
+rowsAt (suc n) cells = rowOf cells ∷ rowsAt n (drop 6 cells)
+
+-- the letters of n label rows
+unfoldable pub lettersAt : ℕ → List ℕ → List ℕ
+lettersAt n cells = map (λ (row : Row). value row 0) (rowsAt n cells)
+
+-- the order pairs after so many labels
+unfoldable pub pairsAt : ℕ → ℕ → List ℕ → List Row
+pairsAt labels n table = rowsAt n (drop (1 + 6 * labels) table)
+
+-- the row before place p of the table, if the section has any
+unfoldable pub lastAt : ℕ → ℕ → List ℕ → Row
+lastAt n p cells = elim (eqb n 0) [ true ↦ blank | false ↦ rowOf (drop (p - 6) cells) ]
+
+-- What the rows so far leave, as the table and its counts show it: the first rows are the labels, the next ones the order pairs, and the
+-- section's rows end at place p.
+unfoldable pub sofarAt : List ℕ → ℕ → Counts → Sofar
+sofarAt table p c =
+    record { letters = lettersAt (c .labels) (drop 1 table); pairs = pairsAt (c .labels) (c .pairs) table; scopes = c .scopes; rows = c .rows; last = lastAt (c .rows) p table }

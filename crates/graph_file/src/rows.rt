@@ -1,0 +1,52 @@
+// The rows of a graph table.
+use text_field::cell;
+ghost use mathlib.Core.Path.{_≡_};
+ghost use Prim.Native.Nat.{ℕ, _+_};
+ghost use lib.ListN.{getD, drop};
+ghost use Rattle.graph_file.specs.Admission.{rowOf};
+ghost use Rattle.graph_file.specs.Line.{place};
+ghost use Rattle.graph_file.specs.Table.{lettersAt};
+
+// What has been counted of the rows so far: the labels, the order pairs, the scopes that the file says it has, the rows of this section.
+pub struct Counts {
+    pub labels: u32,
+    pub pairs: u32,
+    pub scopes: u64,
+    pub rows: u32,
+}
+
+// A row's value at a place.
+pub fn value(row: [u64; 5], c: usize) -> u64
+    ensures { λ r. ⌜ r ≡ getD row c 0 ⌝ }
+{
+    if c < 5 { row[c] } else { 0 }
+}
+
+// The row whose section number stands at place p of the table.
+pub fn row_at(table: &[u64], p: usize) -> [u64; 5]
+    ensures { λ r. ⌜ r ≡ rowOf (drop p (now (table .entry))) ⌝ }
+{
+    if table.len() <= p {
+        return [0; 5];
+    }
+    let a = cell(table, p + 1, 0);
+    let b = cell(table, p + 2, 0);
+    let c = cell(table, p + 3, 0);
+    let d = cell(table, p + 4, 0);
+    let e = cell(table, p + 5, 0);
+    [a, b, c, d, e]
+}
+
+// The number of the label whose letter is x; how many labels there are, if x is no label's.
+pub fn label_place(table: &[u64], labels: u32, x: u64) -> u32
+    ensures { λ r. ⌜ r ≡ place x (lettersAt labels (drop 1 (now (table .entry)))) ⌝ }
+{
+    let mut i: u32 = 0;
+    while i < labels {
+        if cell(table, 1 + 6 * (i as usize) + 1, 0) == x {
+            return i;
+        }
+        i += 1;
+    }
+    labels
+}

@@ -1,0 +1,100 @@
+// The name that a query seeks, handed back as the part of the lent text that holds it.
+use crate::reader::read_whole;
+use text_field::NameRead;
+use text_field::NumberRead;
+use text_field::byte_at;
+use text_field::read_name;
+use text_field::read_number;
+ghost use mathlib.Core.Path.{_≡_};
+ghost use mathlib.Core.List.{List, [], _∷_};
+ghost use Prim.Native.Nat.{ℕ, _-_};
+ghost use lib.ListN.{drop};
+ghost use Rattle.graph_file.specs.Format.{sectionAt, querySection};
+ghost use Rattle.graph_file.specs.NameSought.{afterLines, lineCount, nameIn, nameSought};
+
+// One for a byte that ends a line, 0 for any other.
+fn ends_line(b: u8) -> usize
+    ensures { λ r. ⌜ r ≡ lineCount (b ∷ []) ⌝ }
+{
+    if b == 10 { 1 } else { 0 }
+}
+
+// How many lines the text has.
+fn line_count(text: &[u8]) -> usize
+    ensures { λ r. ⌜ r ≡ lineCount (now (text .entry)) ⌝ }
+{
+    let mut n: usize = 0;
+    let mut i: usize = 0;
+    while i < text.len() {
+        n += ends_line(text[i]);
+        i += 1;
+    }
+    n
+}
+
+// How many lines are left to pass after a byte.
+fn lines_left(left: usize, b: u8) -> usize
+    ensures { λ r. ⌜ r ≡ left - lineCount (b ∷ []) ⌝ }
+{
+    let k = ends_line(b);
+    if left < k { 0 } else { left - k }
+}
+
+// The place after the first `lines` lines.
+fn after_lines(text: &[u8], lines: usize) -> usize
+    ensures { λ r. ⌜ drop r (now (text .entry)) ≡ afterLines lines (now (text .entry)) ⌝ }
+{
+    let mut left = lines;
+    let mut i: usize = 0;
+    while i < text.len() {
+        if left == 0 {
+            return i;
+        }
+        left = lines_left(left, text[i]);
+        i += 1;
+    }
+    i
+}
+
+// The name of the query whose line starts at a place: behind the start and a space.
+fn query_name(text: &[u8], at: usize) -> &[u8]
+    ensures { λ r. ⌜ now r ≡ nameIn (sectionAt querySection .row) (drop at (now (text .entry))) ⌝ }
+{
+    let NumberRead::Number(_, a) = read_number(text, at) else {
+        return &text[..0];
+    };
+    if text.len() <= a {
+        return &text[..0];
+    }
+    if byte_at(text, a, 0) != 32 {
+        return &text[..0];
+    }
+    let b = a + 1;
+    let NameRead::Name(_, _, end) = read_name(text, b) else {
+        return &text[..0];
+    };
+    &text[b..end]
+}
+
+// The name that a query of the file seeks, as a part of the lent text; an empty part where a refusal stands in the way. The contract speaks of the part's
+// bytes; that it is a part of the text, and no copy, is the function's type.
+pub fn name_sought(text: &[u8], query: usize) -> &[u8]
+    ensures { λ r. ⌜ now r ≡ nameSought (now (text .entry)) query ⌝ }
+{
+    let mut own = [0u64; 12277];
+    let r = read_whole(text, &mut own);
+    if r.refusal != 0 {
+        return &text[..0];
+    }
+    let counts = r.counts;
+    let n = counts.rows as usize;
+    if n <= query {
+        return &text[..0];
+    }
+    let lines = line_count(text);
+    // an accepted file has more lines than queries; the definition's difference is 0 here
+    if lines < n {
+        return query_name(text, after_lines(text, query));
+    }
+    query_name(text, after_lines(text, lines - n + query))
+}

@@ -1,0 +1,261 @@
+-- Steps of the code that compares two rows, over plain lists. Assumes nothing.
+use mathlib.Core.Path.{_≡_, refl, sym, ap, _∙_}
+use mathlib.Core.Bool.{Bool, true, false, not, _&&_, _||_}
+use mathlib.Core.List.{List, [], _∷_, map}
+use Prim.Native.Nat.{ℕ, zero, suc, _+_, _-_, _≤_, _<_}
+use native.Mathlib.Omega.{arith}
+use borrow.Author.Tests.{ne-eqb, eq-eqb, lt-ltb, le-ltb}
+use lib.Dec.{eqb, ltb}
+use lib.ListN.{length, drop}
+use lib.Seq.{drop-length}
+use Rattle.graph_file.specs.Outcome.{Outcome, refused, done, andThen, refuseIf}
+use Rattle.graph_file.specs.File.{isEmpty}
+use Rattle.scope_graph.specs.Language.{End, stop, by}
+use Rattle.scope_graph.specs.Rows.{preferredBy, language}
+use Rattle.scope_graph.specs.Computed.{preferredTo, sameHop, moreSpecific}
+use Rattle.scope_graph.specs.Order.{meaning}
+use Rattle.scope_graph.specs.declared.End.{End as CodeEnd}
+use Rattle.scope_graph.specs.declared.End.the-variants.{Stop, Label}
+use Rattle.path_row.specs.declared.form.Step.{Step}
+use Rattle.path_row.specs.declared.form.HeadRead.{HeadRead}
+use Rattle.path_row.specs.declared.form.HeadRead.the-variants.{Head, NoHead}
+use Rattle.path_row.specs.declared.form.RowRead.{RowRead}
+use Rattle.path_row.specs.declared.form.RowRead.the-variants.{Row, NoRow}
+use Rattle.path_row.specs.declared.form.StepRead.{StepRead}
+use Rattle.path_row.specs.declared.form.StepRead.the-variants.{Taken, NoStep}
+use Rattle.path_row.specs.Form.{PathRow, mostSteps, mostBytes, stepHere, stepsOf, afterSteps, stepPlaced, headHere, rowBy, rowHere, rowAnswer, stepsAfter, stepsIn}
+use Rattle.path_row.specs.FileOrder.{lettersOf, labelNumber, rulesOf}
+use Rattle.path_row.specs.Compare.{Comparison, whichOf, first, second, neither, hopOf, pathOf, stepsPreferred, stepsCompared, endHere, rowBefore, comparison, compareRows}
+use Rattle.path_row.specs.Compare.{meaning as meaningOf}
+use Rattle.path_row.specs.declared.compare.Compared.{Compared}
+use Rattle.path_row.specs.declared.compare.Compared.the-variants.{First, Second, Neither, Refused}
+use Rattle.path_row.proofs.FormLaws.{steps-on, steps-off, refuse-done, refuse-through}
+use Rattle.path_row.proofs.Steps.{steps-next, steps-none}
+
+-- how a path goes on by a step that was read
+pub end-stop : (cells : List ℕ) (i : ℕ) (r a : StepRead) → a ≡ stepPlaced i r → a ≡ NoStep → meaning Stop ≡ endHere cells r
+unfolding stepPlaced endHere meaning
+end-stop cells i NoStep a e f = refl
+end-stop cells i (Taken x v w) a e f = absurd (let z : _≡_ {A = ℕ} 0 1 = cc in omega arith)
+
+pub end-label : (cells : List ℕ) (i : ℕ) (r a : StepRead) (x v next n : ℕ) → a ≡ stepPlaced i r → a ≡ Taken x v next → n ≡ labelNumber (lettersOf cells) x → meaning (Label n) ≡ endHere cells r
+unfolding stepPlaced endHere meaning
+end-label cells i NoStep a x v next n e f g = absurd (let z : _≡_ {A = ℕ} 0 1 = cc in omega arith)
+end-label cells i (Taken y u w) a x v next n e f g = let p : y ≡ x = cc in rw (g, p)
+
+or-none : (u : Bool) → (u || false) ≡ u
+or-none true = refl
+or-none false = refl
+
+module _ (cells : List ℕ) where
+  abbrev number : Step → ℕ
+  number s = labelNumber (lettersOf cells) (s .label)
+
+  abbrev endFirst : List Step → End ℕ
+  endFirst [] = stop
+  endFirst (s ∷ ss) = by (number s)
+
+  -- what decides where the ends do not
+  abbrev further : List Step → List Step → Bool
+  further [] ts = false
+  further (s ∷ ss) [] = false
+  further (s ∷ ss) (t ∷ ts) = (eqb (number s) (number t) && eqb (s .scope) (t .scope)) && stepsPreferred cells ss ts
+
+  further-none : (ss : List Step) → further ss [] ≡ false
+  further-none [] = refl
+  further-none (s ∷ ss) = refl
+
+  ends-first : (ss ts : List Step) → stepsPreferred cells ss ts ≡ (preferredBy (rulesOf cells .order) (endFirst ss) (endFirst ts) || further ss ts)
+  unfolding stepsPreferred preferredTo hopOf sameHop
+  ends-first [] [] = sym (or-none (preferredBy (rulesOf cells .order) stop stop))
+  ends-first [] (t ∷ ts) = sym (or-none (preferredBy (rulesOf cells .order) stop (by (number t))))
+  ends-first (s ∷ ss) [] = sym (or-none (preferredBy (rulesOf cells .order) (by (number s)) stop))
+  ends-first (s ∷ ss) (t ∷ ts) = refl
+
+  end-first : (n : ℕ) (s : List ℕ) → endFirst (stepsOf (suc n) s) ≡ endHere cells (stepHere s)
+  unfolding endHere
+  end-first n s = by-step (stepHere s) refl
+    where
+      by-step : (r : StepRead) → stepHere s ≡ r → endFirst (stepsOf (suc n) s) ≡ endHere cells (stepHere s)
+      by-step NoStep e = rw (steps-off n s e, e)
+      by-step (Taken x v w) e = rw (steps-on n s x v w e, e)
+
+  module _ (a b : List ℕ) (i j left : ℕ) (h : 1 ≤ left) (ea eb : CodeEnd) (fa : meaning ea ≡ endHere cells (stepHere (drop i a))) (fb : meaning eb ≡ endHere cells (stepHere (drop j b)))
+      (u : Bool) (m : u ≡ preferredBy (rulesOf cells .order) (meaning ea) (meaning eb)) where
+    abbrev here : Bool
+    here = stepsPreferred cells (stepsOf left (drop i a)) (stepsOf left (drop j b))
+
+    split : here ≡ (u || further (stepsOf left (drop i a)) (stepsOf left (drop j b)))
+    split =
+        let n : left ≡ suc (left - 1) = omega arith
+        in let p : endFirst (stepsOf left (drop i a)) ≡ meaning ea = ap (λ (k : ℕ). endFirst (stepsOf k (drop i a))) n ∙ end-first (left - 1) (drop i a) ∙ sym fa
+        in let q : endFirst (stepsOf left (drop j b)) ≡ meaning eb = ap (λ (k : ℕ). endFirst (stepsOf k (drop j b))) n ∙ end-first (left - 1) (drop j b) ∙ sym fb
+        in ends-first (stepsOf left (drop i a)) (stepsOf left (drop j b)) ∙ rw (p, q, ← m)
+
+    pub preferred-here : u ≡ true → here ≡ true
+    preferred-here f = split ∙ rw f
+
+    module _ (f : u ≡ false) (r : StepRead) (e : r ≡ stepPlaced i (stepHere (drop i a))) where
+      onward : here ≡ further (stepsOf left (drop i a)) (stepsOf left (drop j b))
+      onward = split ∙ rw f
+
+      pub preferred-ends : r ≡ NoStep → here ≡ false
+      preferred-ends n = onward ∙ rw (steps-none a i left r e n)
+
+      module _ (x v ni : ℕ) (n : r ≡ Taken x v ni) (r′ : StepRead) (e′ : r′ ≡ stepPlaced j (stepHere (drop j b))) where
+        pub preferred-stops : r′ ≡ NoStep → here ≡ false
+        preferred-stops n′ = onward ∙ rw (steps-none b j left r′ e′ n′) (further-none (stepsOf left (drop i a)))
+
+        module _ (y w nj : ℕ) (n′ : r′ ≡ Taken y w nj) (l k : ℕ) (el : l ≡ labelNumber (lettersOf cells) x) (ek : k ≡ labelNumber (lettersOf cells) y) where
+          both-on : here ≡ ((eqb l k && eqb v w) && stepsPreferred cells (stepsOf (left - 1) (drop ni a)) (stepsOf (left - 1) (drop nj b)))
+          both-on = onward ∙ rw (steps-next a i left r e x v ni n h, steps-next b j left r′ e′ y w nj n′ h, el, ek)
+
+          pub preferred-label : (l ≡ k → ⊥) → here ≡ false
+          preferred-label z = both-on ∙ rw (ne-eqb l k z)
+
+          pub preferred-scope : l ≡ k → (v ≡ w → ⊥) → here ≡ false
+          preferred-scope z z′ = both-on ∙ rw (eq-eqb l k z, ne-eqb v w z′)
+
+          pub preferred-on : l ≡ k → v ≡ w → here ≡ stepsPreferred cells (stepsOf (left - 1) (drop ni a)) (stepsOf (left - 1) (drop nj b))
+          preferred-on z z′ = both-on ∙ rw (eq-eqb l k z, eq-eqb v w z′)
+
+  pub preferred-full : (left : ℕ) (s t : List ℕ) (u : Bool) → left ≤ 0 → u ≡ preferredBy (rulesOf cells .order) (meaning Stop) (meaning Stop) → stepsPreferred cells (stepsOf left s) (stepsOf left t) ≡ u
+  unfolding stepsOf meaning
+  preferred-full zero s t u h m = ends-first [] [] ∙ or-none (preferredBy (rulesOf cells .order) stop stop) ∙ sym m
+  preferred-full (suc n) s t u h m = absurd (omega arith)
+
+-- where a row's steps begin
+pub first-none : (s : List ℕ) (a : HeadRead) → a ≡ headHere s → a ≡ NoHead → stepsOf mostSteps (drop (length s) s) ≡ stepsIn s
+unfolding stepsIn stepsAfter stepsOf stepHere
+first-none s a e f = rw (drop-length s, ← e, f)
+
+pub first-some : (s : List ℕ) (a : HeadRead) (m v w : ℕ) → a ≡ headHere s → a ≡ Head m v w → stepsOf mostSteps (drop w s) ≡ stepsIn s
+unfolding stepsIn stepsAfter
+first-some s a m v w e f = rw (← e, f)
+
+-- a row that was read in the large
+pub record RowIs (s : List ℕ) (start count : ℕ) : Type 0 where
+  pub row : PathRow
+  pub read : rowHere s ≡ done row
+  pub starts : row .start ≡ start
+  pub counts : length (row .steps) ≡ count
+  pub steps : row .steps ≡ stepsIn s
+
+refuse-eight : {A : Type 0} (t : Bool) (o : Outcome A) (n : ℕ) → ((k : ℕ) → o ≡ refused k → k ≡ 8) → refuseIf t 8 o ≡ refused n → n ≡ 8
+unfolding refuseIf
+refuse-eight true o n h e = cc
+refuse-eight false o n h e = h n e
+
+row-refused : (s : List ℕ) (h : HeadRead) (n : ℕ) → rowBy h s ≡ refused n → n ≡ 8
+unfolding rowBy
+row-refused s NoHead n e = cc
+row-refused s (Head m v w) n e =
+    refuse-eight (not (isEmpty (afterSteps mostSteps (drop w s)))) (done (record { mark = m; start = v; steps = stepsOf mostSteps (drop w s) })) n (λ k f. absurd (let z : _≡_ {A = ℕ} 0 1 = cc in omega arith)) e
+
+-- the only refusal of a row is 8
+pub only-eight : (s : List ℕ) (n : ℕ) → rowHere s ≡ refused n → n ≡ 8
+unfolding rowHere
+only-eight s n e = refuse-eight (ltb mostBytes (length s)) (rowBy (headHere s) s) n (row-refused s (headHere s)) e
+
+-- the steps of a row are those that its text shows
+steps-by : (s : List ℕ) (h : HeadRead) (r : PathRow) → rowBy h s ≡ done r → r .steps ≡ stepsAfter h s
+unfolding rowBy stepsAfter
+steps-by s NoHead r e = absurd (let z : _≡_ {A = ℕ} 0 1 = cc in omega arith)
+steps-by s (Head m v w) r e =
+    let q = refuse-done (not (isEmpty (afterSteps mostSteps (drop w s)))) (record { mark = m; start = v; steps = stepsOf mostSteps (drop w s) }) r e
+    in ap (λ (x : PathRow). x .steps) (sym (q .1))
+
+pub steps-shown : (s : List ℕ) (r : PathRow) → rowHere s ≡ done r → r .steps ≡ stepsIn s
+unfolding rowHere stepsIn
+steps-shown s r e = steps-by s (headHere s) r (refuse-through (ltb mostBytes (length s)) (rowBy (headHere s) s) r e)
+
+read-refused : (o : Outcome PathRow) → NoRow ≡ rowAnswer o → ((n : ℕ) → o ≡ refused n → n ≡ 8) → o ≡ refused 8
+unfolding rowAnswer
+read-refused (refused n) e h = ap refused (h n refl)
+read-refused (done r) e h = absurd (let z : _≡_ {A = ℕ} 0 1 = cc in omega arith)
+
+read-done : (s : List ℕ) (o : Outcome PathRow) (m start count : ℕ) → rowHere s ≡ o → Row m start count ≡ rowAnswer o → RowIs s start count
+unfolding rowAnswer
+read-done s (refused n) m start count f e = absurd (let z : _≡_ {A = ℕ} 0 1 = cc in omega arith)
+read-done s (done r) m start count f e = record { row = r; read = f; starts = cc; counts = cc; steps = steps-shown s r f }
+
+module _ (s : List ℕ) (a : RowRead) (e : a ≡ rowAnswer (rowHere s)) where
+  pub row-is-refused : a ≡ NoRow → rowHere s ≡ refused 8
+  row-is-refused f = read-refused (rowHere s) (sym f ∙ e) (only-eight s)
+
+  pub row-is : (m start count : ℕ) → a ≡ Row m start count → RowIs s start count
+  row-is m start count f = read-done s (rowHere s) m start count refl (sym f ∙ e)
+
+-- which of two rows with one start is more specific
+module _ (cells : List ℕ) (ss ts : List Step) (t : Bool) (e : t ≡ stepsPreferred cells ss ts) where
+  pub first-is : t ≡ true → meaningOf First ≡ done (stepsCompared cells ss ts)
+  unfolding meaningOf stepsCompared whichOf
+  first-is f = rw (← e, f)
+
+  module _ (f : t ≡ false) (u : Bool) (g : u ≡ stepsPreferred cells ts ss) where
+    pub second-is : u ≡ true → meaningOf Second ≡ done (stepsCompared cells ss ts)
+    unfolding meaningOf stepsCompared whichOf
+    second-is h = rw (← e, f, ← g, h)
+
+    pub neither-is : u ≡ false → meaningOf Neither ≡ done (stepsCompared cells ss ts)
+    unfolding meaningOf stepsCompared whichOf
+    neither-is h = rw (← e, f, ← g, h)
+
+before-same : (cells : List ℕ) (p q : PathRow) → p .start ≡ q .start → rowBefore cells p q ≡ stepsPreferred cells (p .steps) (q .steps)
+unfolding rowBefore moreSpecific pathOf stepsPreferred
+before-same cells p q e = rw (eq-eqb (p .start) (q .start) e)
+
+before-apart : (cells : List ℕ) (p q : PathRow) → (p .start ≡ q .start → ⊥) → rowBefore cells p q ≡ false
+unfolding rowBefore moreSpecific pathOf
+before-apart cells p q e = rw (ne-eqb (p .start) (q .start) e)
+
+compared-same : (cells : List ℕ) (p q : PathRow) → p .start ≡ q .start → comparison cells p q ≡ stepsCompared cells (p .steps) (q .steps)
+unfolding comparison stepsCompared
+compared-same cells p q e = rw (before-same cells p q e, before-same cells q p (sym e))
+
+compared-apart : (cells : List ℕ) (p q : PathRow) → (p .start ≡ q .start → ⊥) → comparison cells p q ≡ neither
+unfolding comparison whichOf
+compared-apart cells p q e = rw (before-apart cells p q e, before-apart cells q p (λ f. e (sym f)))
+
+-- the whole comparison, test by test
+module _ (cells a b : List ℕ) (n m : ℕ) where
+  abbrev whole : Outcome Comparison
+  whole = compareRows cells a b n m
+
+  pub first-bad : rowHere a ≡ refused 8 → meaningOf (Refused 8) ≡ whole
+  unfolding meaningOf compareRows andThen
+  first-bad e = rw e
+
+  module _ (start count : ℕ) (p : RowIs a start count) where
+    pub second-bad : rowHere b ≡ refused 8 → meaningOf (Refused 8) ≡ whole
+    unfolding meaningOf compareRows andThen
+    second-bad e = rw (p .read, e)
+
+    module _ (other more : ℕ) (q : RowIs b other more) where
+      opened : whole ≡ refuseIf (ltb n count) 9 (refuseIf (ltb m more) 9 (done (comparison cells (p .row) (q .row))))
+      unfolding compareRows andThen
+      opened = rw (p .read, q .read, p .counts, q .counts)
+
+      pub first-over : n < count → meaningOf (Refused 9) ≡ whole
+      unfolding meaningOf refuseIf
+      first-over h = sym (opened ∙ rw (lt-ltb n count h))
+
+      module _ (h : count ≤ n) where
+        pub second-over : m < more → meaningOf (Refused 9) ≡ whole
+        unfolding meaningOf refuseIf
+        second-over k = sym (opened ∙ rw (le-ltb n count h, lt-ltb m more k))
+
+        module _ (k : more ≤ m) where
+          fits : whole ≡ done (comparison cells (p .row) (q .row))
+          unfolding refuseIf
+          fits = opened ∙ rw (le-ltb n count h, le-ltb m more k)
+
+          pub starts-apart : (start ≡ other → ⊥) → meaningOf Neither ≡ whole
+          unfolding meaningOf
+          starts-apart z = sym (fits ∙ ap done (compared-apart cells (p .row) (q .row) (λ e. z (sym (p .starts) ∙ e ∙ q .starts))))
+
+          pub starts-same : start ≡ other → (r : Compared) → meaningOf r ≡ done (stepsCompared cells (stepsIn a) (stepsIn b)) → meaningOf r ≡ whole
+          starts-same z r e = e ∙ rw (← p .steps, ← q .steps) (sym (fits ∙ ap done (compared-same cells (p .row) (q .row) (p .starts ∙ z ∙ sym (q .starts)))))
+
+pub steps-as : (cells : List ℕ) (ss ss′ ts ts′ : List Step) → ss ≡ ss′ → ts ≡ ts′ → stepsPreferred cells ss ts ≡ stepsPreferred cells ss′ ts′
+steps-as cells ss ss′ ts ts′ e f = rw (e, f)

@@ -1,0 +1,80 @@
+-- `path_row::compare::compare_rows` meets its contract, test by test. Assumes nothing.
+use denote.Ref.{now}
+use Rattle.path_row.proofs.CompareSteps.{row-is-refused, row-is, first-bad, second-bad, first-over, second-over, starts-apart, starts-same}
+use borrow.Author.Needs.{needs}
+use Rattle.path_row.proofs.compare.compare_rows.Statement.{statement}
+use Rattle.path_row.proofs.compare.compare_rows.Tie as tie
+use Rattle.path_row.proofs.compare.compare_rows.Reads as reads
+use Rattle.path_row.proofs.compare.compare_rows.Lts as lts
+use Rattle.path_row.proofs.compare.more_specific.Reads as more-specific-reads
+use Rattle.path_row.proofs.form.read_row.Reads as read-row-reads
+
+-- src/compare.rt:188:41
+read-row-requires : tie.Need-read-row-requires
+read-row-requires c κs = search needs
+
+-- src/compare.rt:188:25
+enum-known-start : tie.Need-enum-known-start
+enum-known-start c = search needs
+
+-- src/compare.rt:189:9
+enum-told : tie.Need-enum-told
+enum-told c = search needs
+
+-- src/compare.rt:189:9
+returns : tie.Need-returns
+returns c = first-bad (now (c .before .before .before .before .before .before .args .cells)) (now (c .before .before .before .before .before .before .args .a)) (now (c .before .before .before .before .before .before .args .b)) (c .before .before .before .before .before .before .args .n) (c .before .before .before .before .before .before .args .m) (row-is-refused (now (c .before .before .before .before .before .before .args .a)) (c .before .before .read-row .result) (c .before .before .read-row .ensures) (c .enum-told .given .1))
+
+-- src/compare.rt:191:40
+read-row-requires-2 : tie.Need-read-row-requires-2
+read-row-requires-2 c κs = search needs
+
+-- src/compare.rt:191:25
+enum-known-other : tie.Need-enum-known-other
+enum-known-other c = search needs
+
+-- src/compare.rt:192:9
+enum-told-2 : tie.Need-enum-told-2
+enum-told-2 c = search needs
+
+-- src/compare.rt:192:9
+returns-2 : tie.Need-returns-2
+returns-2 c = second-bad (now (c .before .before .before .before .before .before .before .before .before .before .args .cells)) (now (c .before .before .before .before .before .before .before .before .before .before .args .a)) (now (c .before .before .before .before .before .before .before .before .before .before .args .b)) (c .before .before .before .before .before .before .before .before .before .before .args .n) (c .before .before .before .before .before .before .before .before .before .before .args .m) (c .before .before .before .before .start .given .0 .1 .0) (c .before .before .before .before .start .given .0 .1 .1 .0) (row-is (now (c .before .before .before .before .before .before .before .before .before .before .args .a)) (c .before .before .before .before .before .before .read-row .result) (c .before .before .before .before .before .before .read-row .ensures) (c .before .before .before .before .start .given .0 .0) (c .before .before .before .before .start .given .0 .1 .0) (c .before .before .before .before .start .given .0 .1 .1 .0) (c .before .before .before .before .start .given .1)) (row-is-refused (now (c .before .before .before .before .before .before .before .before .before .before .args .b)) (c .before .before .read-row2 .result) (c .before .before .read-row2 .ensures) (c .enum-told2 .given .1))
+
+-- src/compare.rt:195:9
+returns-3 : tie.Need-returns-3
+returns-3 c = first-over (now (c .before .before .before .before .before .before .before .before .before .before .before .before .args .cells)) (now (c .before .before .before .before .before .before .before .before .before .before .before .before .args .a)) (now (c .before .before .before .before .before .before .before .before .before .before .before .before .args .b)) (c .before .before .before .before .before .before .before .before .before .before .before .before .args .n) (c .before .before .before .before .before .before .before .before .before .before .before .before .args .m) (c .before .before .before .before .before .before .start .given .0 .1 .0) (c .before .before .before .before .before .before .start .given .0 .1 .1 .0) (row-is (now (c .before .before .before .before .before .before .before .before .before .before .before .before .args .a)) (c .before .before .before .before .before .before .before .before .read-row .result) (c .before .before .before .before .before .before .before .before .read-row .ensures) (c .before .before .before .before .before .before .start .given .0 .0) (c .before .before .before .before .before .before .start .given .0 .1 .0) (c .before .before .before .before .before .before .start .given .0 .1 .1 .0) (c .before .before .before .before .before .before .start .given .1)) (c .before .before .other .given .0 .1 .0) (c .before .before .other .given .0 .1 .1 .0) (row-is (now (c .before .before .before .before .before .before .before .before .before .before .before .before .args .b)) (c .before .before .before .before .read-row2 .result) (c .before .before .before .before .read-row2 .ensures) (c .before .before .other .given .0 .0) (c .before .before .other .given .0 .1 .0) (c .before .before .other .given .0 .1 .1 .0) (c .before .before .other .given .1)) (c .if1 .taken)
+
+-- src/compare.rt:198:9
+returns-4 : tie.Need-returns-4
+returns-4 c = second-over (now (c .before .before .before .before .before .before .before .before .before .before .before .before .before .args .cells)) (now (c .before .before .before .before .before .before .before .before .before .before .before .before .before .args .a)) (now (c .before .before .before .before .before .before .before .before .before .before .before .before .before .args .b)) (c .before .before .before .before .before .before .before .before .before .before .before .before .before .args .n) (c .before .before .before .before .before .before .before .before .before .before .before .before .before .args .m) (c .before .before .before .before .before .before .before .start .given .0 .1 .0) (c .before .before .before .before .before .before .before .start .given .0 .1 .1 .0) (row-is (now (c .before .before .before .before .before .before .before .before .before .before .before .before .before .args .a)) (c .before .before .before .before .before .before .before .before .before .read-row .result) (c .before .before .before .before .before .before .before .before .before .read-row .ensures) (c .before .before .before .before .before .before .before .start .given .0 .0) (c .before .before .before .before .before .before .before .start .given .0 .1 .0) (c .before .before .before .before .before .before .before .start .given .0 .1 .1 .0) (c .before .before .before .before .before .before .before .start .given .1)) (c .before .before .before .other .given .0 .1 .0) (c .before .before .before .other .given .0 .1 .1 .0) (row-is (now (c .before .before .before .before .before .before .before .before .before .before .before .before .before .args .b)) (c .before .before .before .before .before .read-row2 .result) (c .before .before .before .before .before .read-row2 .ensures) (c .before .before .before .other .given .0 .0) (c .before .before .before .other .given .0 .1 .0) (c .before .before .before .other .given .0 .1 .1 .0) (c .before .before .before .other .given .1)) (c .before .if1 .left) (c .if2 .taken)
+
+-- src/compare.rt:201:9
+returns-5 : tie.Need-returns-5
+returns-5 c = starts-apart (now (c .before .before .before .before .before .before .before .before .before .before .before .before .before .before .args .cells)) (now (c .before .before .before .before .before .before .before .before .before .before .before .before .before .before .args .a)) (now (c .before .before .before .before .before .before .before .before .before .before .before .before .before .before .args .b)) (c .before .before .before .before .before .before .before .before .before .before .before .before .before .before .args .n) (c .before .before .before .before .before .before .before .before .before .before .before .before .before .before .args .m) (c .before .before .before .before .before .before .before .before .start .given .0 .1 .0) (c .before .before .before .before .before .before .before .before .start .given .0 .1 .1 .0) (row-is (now (c .before .before .before .before .before .before .before .before .before .before .before .before .before .before .args .a)) (c .before .before .before .before .before .before .before .before .before .before .read-row .result) (c .before .before .before .before .before .before .before .before .before .before .read-row .ensures) (c .before .before .before .before .before .before .before .before .start .given .0 .0) (c .before .before .before .before .before .before .before .before .start .given .0 .1 .0) (c .before .before .before .before .before .before .before .before .start .given .0 .1 .1 .0) (c .before .before .before .before .before .before .before .before .start .given .1)) (c .before .before .before .before .other .given .0 .1 .0) (c .before .before .before .before .other .given .0 .1 .1 .0) (row-is (now (c .before .before .before .before .before .before .before .before .before .before .before .before .before .before .args .b)) (c .before .before .before .before .before .before .read-row2 .result) (c .before .before .before .before .before .before .read-row2 .ensures) (c .before .before .before .before .other .given .0 .0) (c .before .before .before .before .other .given .0 .1 .0) (c .before .before .before .before .other .given .0 .1 .1 .0) (c .before .before .before .before .other .given .1)) (c .before .before .if1 .left) (c .before .if2 .left) (c .if3 .taken)
+
+-- src/compare.rt:203:5
+more-specific-requires : tie.Need-more-specific-requires
+more-specific-requires c κs = search needs
+
+-- src/compare.rt:185:1
+returns-6 : tie.Need-returns-6
+returns-6 c = starts-same (now (c .before .before .before .before .before .before .before .before .before .before .before .before .before .before .before .args .cells)) (now (c .before .before .before .before .before .before .before .before .before .before .before .before .before .before .before .args .a)) (now (c .before .before .before .before .before .before .before .before .before .before .before .before .before .before .before .args .b)) (c .before .before .before .before .before .before .before .before .before .before .before .before .before .before .before .args .n) (c .before .before .before .before .before .before .before .before .before .before .before .before .before .before .before .args .m) (c .before .before .before .before .before .before .before .before .before .start .given .0 .1 .0) (c .before .before .before .before .before .before .before .before .before .start .given .0 .1 .1 .0) (row-is (now (c .before .before .before .before .before .before .before .before .before .before .before .before .before .before .before .args .a)) (c .before .before .before .before .before .before .before .before .before .before .before .read-row .result) (c .before .before .before .before .before .before .before .before .before .before .before .read-row .ensures) (c .before .before .before .before .before .before .before .before .before .start .given .0 .0) (c .before .before .before .before .before .before .before .before .before .start .given .0 .1 .0) (c .before .before .before .before .before .before .before .before .before .start .given .0 .1 .1 .0) (c .before .before .before .before .before .before .before .before .before .start .given .1)) (c .before .before .before .before .before .other .given .0 .1 .0) (c .before .before .before .before .before .other .given .0 .1 .1 .0) (row-is (now (c .before .before .before .before .before .before .before .before .before .before .before .before .before .before .before .args .b)) (c .before .before .before .before .before .before .before .read-row2 .result) (c .before .before .before .before .before .before .before .read-row2 .ensures) (c .before .before .before .before .before .other .given .0 .0) (c .before .before .before .before .before .other .given .0 .1 .0) (c .before .before .before .before .before .other .given .0 .1 .1 .0) (c .before .before .before .before .before .other .given .1)) (c .before .before .before .if1 .left) (c .before .before .if2 .left) (c .before .if3 .left) (c .more-specific .result) (c .more-specific .ensures)
+
+pub compare-rows-spec : {M : Type 1} → statement M
+compare-rows-spec =
+    tie.close
+    (tie.spec
+    read-row-requires
+    enum-known-start
+    enum-told
+    returns
+    read-row-requires-2
+    enum-known-other
+    enum-told-2
+    returns-2
+    returns-3
+    returns-4
+    returns-5
+    more-specific-requires
+    returns-6)

@@ -1,0 +1,88 @@
+-- Two path rows compared by the order of a file (document 01, "Paths"). Assumes nothing: these are definitions.
+use Prim.Native.Nat.{ℕ}
+use mathlib.Core.List.{List, [], _∷_, _++_, map}
+use mathlib.Core.Bool.{Bool, true, false}
+use lib.Dec.{ltb}
+use lib.ListN.{length, drop}
+use Rattle.graph_file.specs.Outcome.{Outcome, refused, done, andThen, refuseIf}
+use Rattle.graph_file.specs.File.{readCells}
+use Rattle.scope_graph.specs.Rows.{Rules, language}
+use Rattle.scope_graph.specs.Path.{Hop, Path}
+use Rattle.scope_graph.specs.Computed.{moreSpecific, preferredTo}
+use Rattle.scope_graph.specs.Language.{End, stop, by}
+use Rattle.path_row.specs.declared.form.Step.{Step}
+use Rattle.path_row.specs.declared.form.StepRead.{StepRead}
+use Rattle.path_row.specs.declared.form.StepRead.the-variants.{Taken, NoStep}
+use Rattle.path_row.specs.declared.compare.Compared.{Compared}
+use Rattle.path_row.specs.declared.compare.Compared.the-variants.{First, Second, Neither, Refused}
+use Rattle.path_row.specs.Form.{PathRow, rowHere}
+use Rattle.path_row.specs.FileOrder.{rulesOf, lettersOf, labelNumber}
+
+-- which of two rows is more specific
+pub data Comparison : Type 0 where
+  first second neither : Comparison
+
+-- by the two tests: the first row is before the second, the second is before the first
+unfoldable pub whichOf : Bool → Bool → Comparison
+whichOf true u = first
+whichOf false true = second
+whichOf false false = neither
+
+-- what an answer means: a refusal by its number, or which row is more specific
+unfoldable pub meaning : Compared → Outcome Comparison
+meaning First = done first
+meaning Second = done second
+meaning Neither = done neither
+meaning (Refused n) = refused n
+
+-- a step as the rules have it: by its label's number
+unfoldable pub hopOf : (r : Rules) → List ℕ → Step → Hop (language r)
+hopOf r letters s = record { step = labelNumber letters (s .label); to = s .scope }
+
+-- a row's path: its mark is left out, and whether the graph has such a path is not asked
+unfoldable pub pathOf : (r : Rules) → List ℕ → PathRow → Path (language r)
+pathOf r letters row = record { start = row .start; hops = map (hopOf r letters) (row .steps) }
+
+-- steps against steps, by the file's order: the part of *more specific* below a shared start
+unfoldable pub stepsPreferred : List ℕ → List Step → List Step → Bool
+stepsPreferred cells ss ts =
+    preferredTo (language (rulesOf cells)) (map (hopOf (rulesOf cells) (lettersOf cells)) ss) (map (hopOf (rulesOf cells) (lettersOf cells)) ts) stop
+
+-- which of the two is preferred
+unfoldable pub stepsCompared : List ℕ → List Step → List Step → Comparison
+stepsCompared cells ss ts = whichOf (stepsPreferred cells ss ts) (stepsPreferred cells ts ss)
+
+-- how a path goes on by a step that was read
+unfoldable pub endHere : List ℕ → StepRead → End ℕ
+endHere cells (Taken x v width) = by (labelNumber (lettersOf cells) x)
+endHere cells NoStep = stop
+
+-- is the one row more specific than the other, by the file's order?
+unfoldable pub rowBefore : List ℕ → PathRow → PathRow → Bool
+rowBefore cells p q =
+    moreSpecific (language (rulesOf cells)) (pathOf (rulesOf cells) (lettersOf cells) p) (pathOf (rulesOf cells) (lettersOf cells) q)
+
+unfoldable pub comparison : List ℕ → PathRow → PathRow → Comparison
+comparison cells p q = whichOf (rowBefore cells p q) (rowBefore cells q p)
+
+-- With the graph table in hand: 8 for the first row, 8 for the second, and 9 where the steps of one outnumber the records lent for it.
+unfoldable pub compareRows : List ℕ → List ℕ → List ℕ → ℕ → ℕ → Outcome Comparison
+compareRows cells a b roomA roomB =
+    andThen (rowHere a) (λ p.
+    andThen (rowHere b) (λ q.
+    refuseIf (ltb roomA (length (p .steps))) 9
+    (refuseIf (ltb roomB (length (q .steps))) 9
+    (done (comparison cells p q)))))
+
+-- The whole call: first the file's refusals, 1 to 6.
+unfoldable pub compareAnswer : List ℕ → List ℕ → List ℕ → ℕ → ℕ → Outcome Comparison
+compareAnswer text a b roomA roomB = andThen (readCells text) (λ cells. compareRows cells a b roomA roomB)
+
+unfoldable pub rowSteps : Outcome PathRow → List Step
+rowSteps (refused n) = []
+rowSteps (done r) = r .steps
+
+-- What a lent step table holds after the call: the row's steps, and the records behind them as they were; after a refusal, what it held.
+unfoldable pub stepsLeft : Outcome Comparison → List ℕ → List Step → List Step
+stepsLeft (refused n) row lent = lent
+stepsLeft (done c) row lent = rowSteps (rowHere row) ++ drop (length (rowSteps (rowHere row))) lent

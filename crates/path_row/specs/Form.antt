@@ -1,0 +1,134 @@
+-- The form of a path row (document 01, "Paths": a mark, one space, a scope, then label and scope in turn). Assumes nothing: these are definitions.
+use Prim.Native.Nat.{ℕ, zero, suc, _+_}
+use mathlib.Core.List.{List, [], _∷_, _++_}
+use mathlib.Core.Bool.{Bool, true, false, not, _&&_}
+use lib.Dec.{leb, ltb}
+use lib.ListN.{length, getD, drop}
+use Rattle.text_field.specs.declared.NumberRead.{NumberRead}
+use Rattle.text_field.specs.declared.NumberRead.the-variants.{Number, NoNumber}
+use Rattle.text_field.specs.Bytes.{isCapital}
+use Rattle.text_field.specs.Number.{numberText, numberHere}
+use Rattle.graph_file.specs.Outcome.{Outcome, refused, done, refuseIf}
+use Rattle.graph_file.specs.Line.{startsWith}
+use Rattle.graph_file.specs.File.{isEmpty}
+use Rattle.path_row.specs.declared.form.Step.{Step}
+use Rattle.path_row.specs.declared.form.HeadRead.{HeadRead}
+use Rattle.path_row.specs.declared.form.HeadRead.the-variants.{Head, NoHead}
+use Rattle.path_row.specs.declared.form.RowRead.{RowRead}
+use Rattle.path_row.specs.declared.form.RowRead.the-variants.{Row, NoRow}
+use Rattle.path_row.specs.declared.form.StepRead.{StepRead}
+use Rattle.path_row.specs.declared.form.StepRead.the-variants.{Taken, NoStep}
+
+-- A path row taken apart. A step is a label's letter and the scope that it comes to.
+pub record PathRow : Type 0 where
+  pub mark : ℕ
+  pub start : ℕ
+  pub steps : List Step
+
+-- the greatest mark and the greatest scope, the most steps and the most bytes of a row
+abbrev pub mostMark : ℕ
+mostMark = 65535
+
+abbrev pub mostScope : ℕ
+mostScope = 63
+
+abbrev pub mostSteps : ℕ
+mostSteps = 63
+
+abbrev pub mostBytes : ℕ
+mostBytes = 256
+
+unfoldable pub atMost : ℕ → NumberRead → NumberRead
+atMost most (Number v width) = elim (ltb most v) [ true ↦ NoNumber | false ↦ Number v width ]
+atMost most NoNumber = NoNumber
+
+-- the number at the front, and how many bytes it takes, if it is at most `most`
+unfoldable pub numberUpTo : ℕ → List ℕ → NumberRead
+numberUpTo most s = atMost most (numberHere s)
+
+unfoldable pub stepBy : ℕ → NumberRead → StepRead
+stepBy x (Number v width) = Taken x v (suc width)
+stepBy x NoNumber = NoStep
+
+-- the step at the front, and how many bytes it takes: one letter A to Z, listed or not, and a scope
+unfoldable pub stepHere : List ℕ → StepRead
+stepHere [] = NoStep
+stepHere (x ∷ rest) = elim (isCapital x) [ true ↦ stepBy x (numberUpTo mostScope rest) | false ↦ NoStep ]
+
+-- the steps at the front, at most n of them
+unfoldable pub stepsOf : ℕ → List ℕ → List Step
+stepsOf zero s = []
+stepsOf (suc n) s = elim (stepHere s) [ Taken x v width ↦ record { label = x; scope = v } ∷ stepsOf n (drop width s) | NoStep ↦ [] ]
+
+-- and what stands after them
+unfoldable pub afterSteps : ℕ → List ℕ → List ℕ
+afterSteps zero s = s
+afterSteps (suc n) s = elim (stepHere s) [ Taken x v width ↦ afterSteps n (drop width s) | NoStep ↦ s ]
+
+unfoldable pub startBy : ℕ → ℕ → NumberRead → HeadRead
+startBy m before (Number v width) = Head m v (before + width)
+startBy m before NoNumber = NoHead
+
+unfoldable pub markBy : NumberRead → List ℕ → HeadRead
+markBy (Number m width) s = elim (startsWith 32 (drop width s)) [ true ↦ startBy m (width + 1) (numberUpTo mostScope (drop (width + 1) s)) | false ↦ NoHead ]
+markBy NoNumber s = NoHead
+
+-- the mark, the space and the start, and how many bytes they take
+unfoldable pub headHere : List ℕ → HeadRead
+headHere s = markBy (numberUpTo mostMark s) s
+
+unfoldable pub rowBy : HeadRead → List ℕ → Outcome PathRow
+rowBy (Head m v width) s =
+    refuseIf (not (isEmpty (afterSteps mostSteps (drop width s)))) 8
+    (done (record { mark = m; start = v; steps = stepsOf mostSteps (drop width s) }))
+rowBy NoHead s = refused 8
+
+-- A path row, or refusal 8: too many bytes, no mark and start at its front, or something after its steps.
+unfoldable pub rowHere : List ℕ → Outcome PathRow
+rowHere s = refuseIf (ltb mostBytes (length s)) 8 (rowBy (headHere s) s)
+
+-- what the reader answers of a row in the large: its mark, its start and how many steps it has; `NoRow` is refusal 8
+unfoldable pub rowAnswer : Outcome PathRow → RowRead
+rowAnswer (done r) = Row (r .mark) (r .start) (length (r .steps))
+rowAnswer (refused n) = NoRow
+
+-- The steps that a text shows, one after the other: a row's are all of its own, and a text without mark and start shows none.
+unfoldable pub stepsAfter : HeadRead → List ℕ → List Step
+stepsAfter (Head m v width) s = stepsOf mostSteps (drop width s)
+stepsAfter NoHead s = []
+
+unfoldable pub stepsIn : List ℕ → List Step
+stepsIn s = stepsAfter (headHere s) s
+
+-- past the last step
+abbrev pub noStep : Step
+noStep = record { label = 0; scope = 0 }
+
+-- what is read from place `at` on: the bytes it takes become the place after it
+unfoldable pub stepPlaced : ℕ → StepRead → StepRead
+stepPlaced at (Taken x v width) = Taken x v (at + width)
+stepPlaced at NoStep = NoStep
+
+-- the text of steps, and of a row
+unfoldable pub stepsText : List Step → List ℕ
+stepsText [] = []
+stepsText (s ∷ ss) = s .label ∷ (numberText (s .scope) ++ stepsText ss)
+
+unfoldable pub rowText : PathRow → List ℕ
+rowText r = numberText (r .mark) ++ (32 ∷ (numberText (r .start) ++ stepsText (r .steps)))
+
+-- a row from its parts: `count` steps, whose letters and scopes stand in two lists; past their ends stands 0
+unfoldable pub stepsMade : ℕ → List ℕ → List ℕ → List Step
+stepsMade zero letters scopes = []
+stepsMade (suc count) letters scopes = record { label = getD letters 0 0; scope = getD scopes 0 0 } ∷ stepsMade count (drop 1 letters) (drop 1 scopes)
+
+unfoldable pub rowMade : ℕ → ℕ → ℕ → List ℕ → List ℕ → PathRow
+rowMade mark start count letters scopes = record { mark = mark; start = start; steps = stepsMade count letters scopes }
+
+-- Can it be written in this form?
+unfoldable pub areSteps : List Step → Bool
+areSteps [] = true
+areSteps (s ∷ ss) = isCapital (s .label) && (leb (s .scope) mostScope && areSteps ss)
+
+unfoldable pub isRow : PathRow → Bool
+isRow r = leb (r .mark) mostMark && (leb (r .start) mostScope && (leb (length (r .steps)) mostSteps && areSteps (r .steps)))

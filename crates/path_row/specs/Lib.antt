@@ -1,0 +1,5 @@
+pub mod Form
+pub mod Inverse
+pub mod FileOrder
+pub mod Compare
+pub mod Lent

@@ -1,0 +1,234 @@
+// Two path rows compared by the order of a file.
+use crate::form::HeadRead;
+use crate::form::RowRead;
+use crate::form::StepRead;
+use crate::form::next_step;
+use crate::form::read_head;
+use crate::form::read_row;
+use crate::form::walk;
+use scope_graph::End;
+use scope_graph::Pair;
+use scope_graph::end_of;
+use scope_graph::holds;
+use text_field::cell;
+ghost use mathlib.Core.Path.{_≡_};
+ghost use mathlib.Core.List.{List, map};
+ghost use Prim.Native.Nat.{ℕ, _+_, _*_};
+ghost use lib.ListN.{length, drop, getD};
+ghost use Rattle.graph_file.specs.Outcome.{done};
+ghost use Rattle.graph_file.specs.Line.{startsWith};
+ghost use Rattle.graph_file.specs.Admission.{rowOf};
+ghost use Rattle.scope_graph.specs.Order.{meaning as endMeaning, pairMeaning};
+ghost use Rattle.scope_graph.specs.Rows.{preferredBy};
+ghost use Rattle.path_row.specs.Form.{mostSteps, stepHere, stepsOf, stepsIn};
+ghost use Rattle.path_row.specs.Compare.{meaning, endHere, stepsPreferred, stepsCompared, compareRows};
+ghost use Rattle.path_row.specs.Lent.{stepsDue};
+ghost use Rattle.path_row.specs.FileOrder.{rowsOf, pairOf, firstValue, labelNumber, lettersOf, rulesOf, placeOf};
+
+// Which of two rows is more specific, or the refusal's number.
+pub enum Compared {
+    First,
+    Second,
+    Neither,
+    Refused(u64),
+}
+
+// Does a row of section k stand at a place of the table?
+fn is_row(cells: &[u64], at: usize, k: u64) -> bool
+    ensures { λ r. ⌜ r ≡ startsWith k (drop at (now (cells .entry))) ⌝ }
+{
+    if cells.len() <= at {
+        return false;
+    }
+    cells[at] == k
+}
+
+// How many rows of section k stand from a place on, of at most `most`.
+fn count_rows(cells: &[u64], at: usize, k: u64, most: usize) -> usize
+    ensures { λ r. ⌜ r ≡ length (rowsOf most k (drop at (now (cells .entry)))) ⌝ }
+{
+    let mut n: usize = 0;
+    let mut p = at;
+    while n < most {
+        if !is_row(cells, p, k) {
+            return n;
+        }
+        p += 6;
+        n += 1;
+    }
+    n
+}
+
+// The number of a letter among the labels, or one past theirs if it is not listed.
+fn label_number(cells: &[u64], x: u8) -> u64
+    ensures { λ r. ⌜ r ≡ labelNumber (lettersOf (now (cells .entry))) x ⌝ }
+{
+    let mut n: u64 = 0;
+    let mut p: usize = 1;
+    while n < 8 {
+        if !is_row(cells, p, 0) {
+            return n + x as u64;
+        }
+        if cell(cells, p + 1, 0) == x as u64 {
+            return n;
+        }
+        p += 6;
+        n += 1;
+    }
+    n + x as u64
+}
+
+// The order pair whose row stands at a place.
+fn pair_row(cells: &[u64], at: usize) -> Pair
+    ensures { λ r. ⌜ pairMeaning r ≡ pairOf (rowOf (drop at (now (cells .entry)))) ⌝ }
+{
+    if cells.len() <= at {
+        let stop = end_of(0);
+        return Pair {
+            less: stop,
+            more: stop,
+        };
+    }
+    let less = end_of(cell(cells, at + 1, 0));
+    let more = end_of(cell(cells, at + 2, 0));
+    Pair { less, more }
+}
+
+// Is the one end preferred to the other, by the order pairs from a place on?
+fn preferred_from(cells: &[u64], at: usize, less: End, more: End) -> bool
+    ensures { λ r. ⌜ r ≡ preferredBy (map pairOf (rowsOf 36 1 (drop at (now (cells .entry))))) (endMeaning less) (endMeaning more) ⌝ }
+{
+    let mut left: usize = 36;
+    let mut p = at;
+    while left > 0 {
+        if !is_row(cells, p, 1) {
+            return false;
+        }
+        if holds(pair_row(cells, p), less, more) {
+            return true;
+        }
+        p += 6;
+        left -= 1;
+    }
+    false
+}
+
+// The same by the file's order.
+fn preferred(cells: &[u64], less: End, more: End) -> bool
+    ensures { λ r. ⌜ r ≡ preferredBy (rulesOf (now (cells .entry)) .order) (endMeaning less) (endMeaning more) ⌝ }
+{
+    let at = 1 + 6 * count_rows(cells, 1, 0, 8);
+    preferred_from(cells, at, less, more)
+}
+
+// How the steps from a place on go: they stop there, or by the label of the next one.
+fn end_at(cells: &[u64], s: &[u8], at: usize) -> End
+    ensures { λ r. ⌜ endMeaning r ≡ endHere (now (cells .entry)) (stepHere (drop at (now (s .entry)))) ⌝ }
+{
+    let StepRead::Taken(x, _, _) = next_step(s, at) else {
+        return End::Stop;
+    };
+    End::Label(label_number(cells, x))
+}
+
+// Are the steps of a from place p on preferred to those of b from place q on?
+fn steps_preferred(cells: &[u64], a: &[u8], p: usize, b: &[u8], q: usize) -> bool
+    ensures { λ r. ⌜ r ≡ stepsPreferred (now (cells .entry)) (stepsOf mostSteps (drop p (now (a .entry)))) (stepsOf mostSteps (drop q (now (b .entry)))) ⌝ }
+{
+    let mut i = p;
+    let mut j = q;
+    let mut left: usize = 63;
+    while left > 0 {
+        if preferred(cells, end_at(cells, a, i), end_at(cells, b, j)) {
+            return true;
+        }
+        let StepRead::Taken(x, s, next_i) = next_step(a, i) else {
+            return false;
+        };
+        let StepRead::Taken(y, t, next_j) = next_step(b, j) else {
+            return false;
+        };
+        if label_number(cells, x) != label_number(cells, y) {
+            return false;
+        }
+        if s != t {
+            return false;
+        }
+        i = next_i;
+        j = next_j;
+        left -= 1;
+    }
+    preferred(cells, End::Stop, End::Stop)
+}
+
+// The place of a row's first step; the end of a text that has no mark and start.
+pub fn first_step(s: &[u8]) -> usize
+    ensures { λ r. ⌜ stepsOf mostSteps (drop r (now (s .entry))) ≡ stepsIn (now (s .entry)) ⌝ }
+{
+    let HeadRead::Head(_, _, first) = read_head(s) else {
+        return s.len();
+    };
+    first
+}
+
+// Are the steps of row a preferred to those of row b?
+fn row_preferred(cells: &[u64], a: &[u8], b: &[u8]) -> bool
+    ensures { λ r. ⌜ r ≡ stepsPreferred (now (cells .entry)) (stepsIn (now (a .entry))) (stepsIn (now (b .entry))) ⌝ }
+{
+    steps_preferred(cells, a, first_step(a), b, first_step(b))
+}
+
+// Which of two rows with one start is more specific?
+fn more_specific(cells: &[u64], a: &[u8], b: &[u8]) -> Compared
+    ensures { λ r. ⌜ meaning r ≡ done (stepsCompared (now (cells .entry)) (stepsIn (now (a .entry))) (stepsIn (now (b .entry)))) ⌝ }
+{
+    if row_preferred(cells, a, b) {
+        return Compared::First;
+    }
+    if row_preferred(cells, b, a) {
+        return Compared::Second;
+    }
+    Compared::Neither
+}
+
+// Two rows by the order in a graph table, where n records are lent for the steps of a and m for those of b.
+pub fn compare_rows(cells: &[u64], a: &[u8], b: &[u8], n: usize, m: usize) -> Compared
+    ensures { λ r. ⌜ meaning r ≡ compareRows (now (cells .entry)) (now (a .entry)) (now (b .entry)) n m ⌝ }
+{
+    let RowRead::Row(_, start, count) = read_row(a) else {
+        return Compared::Refused(8);
+    };
+    let RowRead::Row(_, other, more) = read_row(b) else {
+        return Compared::Refused(8);
+    };
+    if n < count {
+        return Compared::Refused(9);
+    }
+    if m < more {
+        return Compared::Refused(9);
+    }
+    if start != other {
+        return Compared::Neither;
+    }
+    more_specific(cells, a, b)
+}
+
+// How many steps a text shows.
+fn step_count(s: &[u8]) -> usize
+    ensures { λ r. ⌜ r ≡ length (stepsIn (now (s .entry))) ⌝ }
+{
+    let end = walk(s, first_step(s));
+    end.count
+}
+
+// How many of a row's steps go into its table: none after a refusal.
+pub fn steps_due(answer: Compared, row: &[u8]) -> usize
+    ensures { λ r. ⌜ r ≡ stepsDue (meaning answer) (stepsIn (now (row .entry))) ⌝ }
+{
+    match answer {
+        Compared::Refused(_) => 0,
+        Compared::First => step_count(row),
+        Compared::Second => step_count(row),
+        Compared::Neither => step_count(row),
+    }
+}

@@ -1,0 +1,8 @@
+-- The laws that the proofs of this crate share. Assumes nothing.
+pub mod Fill
+pub mod Parts
+pub mod Cells
+pub mod SectionLaws
+pub mod Automaton
+pub mod Board
+pub mod Accepted

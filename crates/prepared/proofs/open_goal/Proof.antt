@@ -1,0 +1,50 @@
+use Prim.Native.Nat.{ℕ, _-_}
+use native.Mathlib.Omega.{arith}
+use borrow.Author.Needs.{needs}
+use lib.ListN.{length-replicate}
+use Rattle.prepared.specs.Tables.{openFlag, openFlags}
+use Rattle.prepared.proofs.Fill.{Filled, filled-none, filled-next, filled-all}
+use Rattle.prepared.proofs.open_goal.Statement.{statement}
+use Rattle.prepared.proofs.open_goal.Tie as tie
+
+abbrev Inv-loop : tie.InvT-loop
+Inv-loop delta accepting hopeful at end t₀ i₀ t i = Filled (openFlag delta accepting hopeful at end) 1024 i t
+
+abbrev μ-loop : tie.MeasureT-loop
+μ-loop delta accepting hopeful at end t₀ i₀ t i = 1024 - i
+
+loop-holds : tie.Need-loop-holds Inv-loop μ-loop
+loop-holds c = filled-none _ 1024 _ (length-replicate {A = ℕ} 1024 0)
+
+open-cell-requires : tie.Need-open-cell-requires Inv-loop μ-loop
+open-cell-requires c κs = search needs
+
+array-write-t : tie.Need-array-write-t Inv-loop μ-loop
+array-write-t c = omega arith
+
+add-i : tie.Need-add-i Inv-loop μ-loop
+add-i c = omega arith
+
+loop-less : tie.Need-loop-less Inv-loop μ-loop
+loop-less c = omega arith
+
+loop-again : tie.Need-loop-again Inv-loop μ-loop
+loop-again c = filled-next _ _ _ _ _ (c .before .before .loop .inv) (c .before .loop-test .taken) (c .open-cell .ensures)
+
+returns : tie.Need-returns Inv-loop μ-loop
+unfolding openFlags
+returns c = filled-all _ _ _ _ (c .before .loop .inv) (c .loop-test .left)
+
+pub open-goal-spec : {M : Type 1} → statement M
+open-goal-spec =
+    tie.close
+    (tie.spec
+    Inv-loop
+    μ-loop
+    loop-holds
+    open-cell-requires
+    array-write-t
+    add-i
+    loop-less
+    loop-again
+    returns)

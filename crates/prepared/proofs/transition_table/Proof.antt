@@ -1,0 +1,55 @@
+use Prim.Native.Nat.{ℕ, _-_}
+use native.Mathlib.Omega.{arith}
+use borrow.Author.Needs.{needs}
+use lib.ListN.{length-replicate}
+use Rattle.prepared.specs.Sections.{rowsOf}
+use Rattle.prepared.specs.Tables.{transitionCell, transitionCells}
+use Rattle.prepared.proofs.Fill.{Filled, filled-none, filled-next, filled-all}
+use Rattle.prepared.proofs.transition_table.Statement.{statement}
+use Rattle.prepared.proofs.transition_table.Tie as tie
+
+abbrev Inv-loop : tie.InvT-loop
+Inv-loop rows t₀ i₀ t i = Filled (transitionCell (rowsOf rows)) 128 i t
+
+abbrev μ-loop : tie.MeasureT-loop
+μ-loop rows t₀ i₀ t i = 128 - i
+
+loop-holds : tie.Need-loop-holds Inv-loop μ-loop
+loop-holds c = filled-none _ 128 _ (length-replicate {A = ℕ} 128 16)
+
+transition-cell-requires : tie.Need-transition-cell-requires Inv-loop μ-loop
+transition-cell-requires c κs = search needs
+
+mul-t : tie.Need-mul-t Inv-loop μ-loop
+mul-t c = omega arith
+
+array-write-t : tie.Need-array-write-t Inv-loop μ-loop
+array-write-t c = omega arith
+
+add-i : tie.Need-add-i Inv-loop μ-loop
+add-i c = omega arith
+
+loop-less : tie.Need-loop-less Inv-loop μ-loop
+loop-less c = omega arith
+
+loop-again : tie.Need-loop-again Inv-loop μ-loop
+loop-again c = filled-next _ _ _ _ _ (c .before .before .loop .inv) (c .before .loop-test .taken) (c .transition-cell .ensures)
+
+returns : tie.Need-returns Inv-loop μ-loop
+unfolding transitionCells
+returns c = filled-all _ _ _ _ (c .before .loop .inv) (c .loop-test .left)
+
+pub transition-table-spec : {M : Type 1} → statement M
+transition-table-spec =
+    tie.close
+    (tie.spec
+    Inv-loop
+    μ-loop
+    loop-holds
+    transition-cell-requires
+    mul-t
+    array-write-t
+    add-i
+    loop-less
+    loop-again
+    returns)
