@@ -1,0 +1,8 @@
+// A query's listing and the summary, of a table that was read and of a text.
+mod lists;
+mod parts;
+mod text;
+mod walks;
+
+pub use lists::listing;
+pub use lists::listing_of;

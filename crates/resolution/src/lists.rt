@@ -1,0 +1,80 @@
+// A query's listing. It is measured before a byte of it is written.
+use crate::parts::row_count;
+use crate::parts::row_value;
+use crate::text::put_head;
+use crate::walks::awaits_of;
+use crate::walks::found_of;
+use crate::walks::put_rows;
+use crate::walks::rows_fit;
+use graph_file::Answer;
+use graph_file::read;
+use prepared::letters;
+use prepared::section;
+use text_field::put_bytes;
+ghost use mathlib.Core.Path.{_≡_};
+ghost use lib.ListN.{length};
+ghost use Rattle.text_field.specs.Buffer.{Buf, puts};
+ghost use Rattle.graph_file.specs.Outcome.{done};
+ghost use Rattle.graph_file.specs.File.{answer, leaves};
+ghost use Rattle.graph_file.specs.Reader.{answerOf};
+ghost use Rattle.resolution.specs.Listing.{listingText, listingOf, listingFor};
+ghost use Rattle.resolution.specs.Asked.{WasRead, Asked, queryFrom, queryHead};
+
+// The listing up to its rows.
+fn put_heading(table: &[u64], start: u64, high: u64, low: u64, out: &mut [u8]) -> usize
+    requires { ⌜ Asked (now table) start ⌝ }
+    ensures { λ r. ⌜ _≡_ {A = Buf} (now (out .exit), r) (puts (now (out .entry), 0) (queryHead (now (table .entry)) (queryFrom (now (table .entry)) start high low))) ⌝ }
+{
+    let ls = letters(table);
+    let f = found_of(table, start, high, low);
+    let a = awaits_of(table, start, high, low);
+    put_head(out, &ls, start, high, low, f, a)
+}
+
+// The listing of a query of the table by its start and name. At most 128 bytes stand above its rows.
+fn list(table: &[u64], start: u64, high: u64, low: u64, out: &mut [u8]) -> Answer
+    requires { ⌜ Asked (now table) start ⌝ }
+    ensures { λ r. ⌜ answerOf r ≡ answer (done (listingText (now (table .entry)) (queryFrom (now (table .entry)) start high low))) (length (now (out .entry))) ⌝ }
+    ensures { λ r. ⌜ now (out .exit) ≡ leaves (done (listingText (now (table .entry)) (queryFrom (now (table .entry)) start high low))) (now (out .entry)) ⌝ }
+{
+    let mut head = [0u8; 128];
+    let n = put_heading(table, start, high, low, &mut head);
+    let size = out.len();
+    if size < n {
+        return Answer::Refused(9);
+    }
+    if !rows_fit(table, start, high, low, size - n) {
+        return Answer::Refused(9);
+    }
+    let k = put_bytes(out, 0, &head[..n]);
+    Answer::Written(put_rows(table, start, high, low, out, k))
+}
+
+// The listing of a query of a table that was read.
+pub fn listing_of(table: &[u64], query: usize, out: &mut [u8]) -> Answer
+    requires { ⌜ WasRead (now table) ⌝ }
+    ensures { λ r. ⌜ answerOf r ≡ answer (listingOf (now (table .entry)) query) (length (now (out .entry))) ⌝ }
+    ensures { λ r. ⌜ now (out .exit) ≡ leaves (listingOf (now (table .entry)) query) (now (out .entry)) ⌝ }
+{
+    let queries = section(table, 8);
+    if row_count(queries) <= query {
+        return Answer::Refused(7);
+    }
+    let start = row_value(queries, query, 0);
+    let high = row_value(queries, query, 1);
+    let low = row_value(queries, query, 2);
+    list(table, start, high, low, out)
+}
+
+// The listing of a query of a text: refusals 1 to 6, then 7, then 9. After a refusal the buffer is as it was.
+pub fn listing(text: &[u8], query: usize, out: &mut [u8]) -> Answer
+    ensures { λ r. ⌜ answerOf r ≡ answer (listingFor (now (text .entry)) query) (length (now (out .entry))) ⌝ }
+    ensures { λ r. ⌜ now (out .exit) ≡ leaves (listingFor (now (text .entry)) query) (now (out .entry)) ⌝ }
+{
+    let mut table = [0u64; 12271];
+    let a = read(text, &mut table);
+    match a {
+        Answer::Refused(n) => Answer::Refused(n),
+        Answer::Written(n) => listing_of(&table[..n], query, out),
+    }
+}
