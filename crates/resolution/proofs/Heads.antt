@@ -37,7 +37,7 @@ use Rattle.prepared.specs.Sections.{partOf, rowsOf}
 use Rattle.follow.specs.Text.{headLine, rowsLine, foundText, letterOf, endText}
 use Rattle.resolution.specs.declared.text.Awaits.{Awaits}
 use Rattle.resolution.specs.declared.text.Awaits.the-variants.{Settled, Pair}
-use Rattle.resolution.specs.Listing.{awaitsText, foundFor, entriesText, listingText, queryAt, listingOf, listingFor}
+use Rattle.resolution.specs.Listing.{awaitsText, foundFor, entriesText, listingText, queryAt, listingOf, summaryOf, listingFor, summaryFor}
 use Rattle.resolution.specs.Asked.{WasRead, Asked, queryFrom, letterTable, foundNumber, foundFrom, awaitsMeaning, awaitsBytes, queryText, headText, queryHead}
 use Rattle.resolution.proofs.Demand.{getD-in}
 use Rattle.resolution.proofs.Given.{accepted, rows-are, letters-are}
@@ -230,7 +230,7 @@ module _ (cells : List ℕ) (was : WasRead cells) (queries : List ℕ) (i n : �
   rows-is : rowsOf queries ≡ rowsIn querySection cells
   rows-is = ap rowsOf part ∙ rows-are cells was querySection
 
-  count-is : n ≡ length (queriesOf cells)
+  pub count-is : n ≡ length (queriesOf cells)
   unfolding queriesOf
   count-is = counted ∙ ap (λ (l : List Row). length l) rows-is ∙ sym (length-map (rowsIn querySection cells) (queryOf (rulesOf cells)))
 
@@ -239,12 +239,12 @@ module _ (cells : List ℕ) (was : WasRead cells) (queries : List ℕ) (i n : �
   no-query h out = rw (le-leb (length (queriesOf cells)) i (let c = count-is in omega arith)) (refl, refl)
 
   module _ (h : i < n) (start high low : ℕ) (s : start ≡ value (getD (rowsOf queries) i blank) 0) (x : high ≡ value (getD (rowsOf queries) i blank) 1) (y : low ≡ value (getD (rowsOf queries) i blank) 2) where
-    query-is : queryFrom cells start high low ≡ queryAt cells i
+    pub query-is : queryFrom cells start high low ≡ queryAt cells i
     unfolding queryAt queriesOf queryOf nameAt
     query-is =
         rw (s, x, y) (ap (λ (rows : List Row). queryOf (rulesOf cells) (getD rows i blank)) rows-is ∙ sym (List·getD-map (queryOf (rulesOf cells)) (rowsIn querySection cells) i blank))
 
-    inside : i < length (queriesOf cells)
+    pub inside : i < length (queriesOf cells)
     inside = let c = count-is in omega arith
 
     pub query-asked : Asked cells start
@@ -270,19 +270,30 @@ read-done text cells e = sym (whole-answer cells 12271 (read-accepted text cells
 refused-is : {A : Type 0} (m n : ℕ) → _≡_ {A = Outcome A} (refused m) (refused n) → m ≡ n
 refused-is m n e = cc
 
-pub read-refused : (text : List ℕ) (i : ℕ) (a : Answer) (n room : ℕ) (out : List ℕ) → room ≡ 12271 → answerOf a ≡ answer (readCells text) room → a ≡ Refused n
-    → (refused n ≡ answer (listingFor text i) (length out)) × (out ≡ leaves (listingFor text i) out)
-unfolding listingFor andThen answer leaves answerOf
-read-refused text i a n room out k e b = by (readCells text) refl
+-- a refused text, whatever was to be made of its table
+pub refused-any : (next : List ℕ → Outcome (List ℕ)) (text : List ℕ) (a : Answer) (n room : ℕ) (out : List ℕ) → room ≡ 12271 → answerOf a ≡ answer (readCells text) room → a ≡ Refused n
+    → (refused n ≡ answer (andThen (readCells text) next) (length out)) × (out ≡ leaves (andThen (readCells text) next) out)
+unfolding andThen answer leaves answerOf
+refused-any next text a n room out k e b = by (readCells text) refl
   where
     by : (o : Outcome (List ℕ)) → readCells text ≡ o
-        → (_≡_ {A = Outcome ℕ} (refused n) (answer (andThen (readCells text) (λ cells. listingOf cells i)) (length out))) × (out ≡ leaves (andThen (readCells text) (λ cells. listingOf cells i)) out)
+        → (_≡_ {A = Outcome ℕ} (refused n) (answer (andThen (readCells text) next) (length out))) × (out ≡ leaves (andThen (readCells text) next) out)
     by (refused m) f =
         let z : _≡_ {A = Outcome ℕ} (refused n) (refused m) = ap answerOf (sym b) ∙ e ∙ ap (λ (x : Outcome (List ℕ)). answer x room) f in
         rw f (z, refl)
     by (done cells) f =
         let z : _≡_ {A = Outcome ℕ} (refused n) (done (length cells)) = ap answerOf (sym b) ∙ e ∙ ap (λ (x : Outcome (List ℕ)). answer x room) f ∙ ap (answer (done cells)) k ∙ read-done text cells f in
         absurd (let y : _≡_ {A = ℕ} 0 1 = cc in omega arith)
+
+pub read-refused : (text : List ℕ) (i : ℕ) (a : Answer) (n room : ℕ) (out : List ℕ) → room ≡ 12271 → answerOf a ≡ answer (readCells text) room → a ≡ Refused n
+    → (refused n ≡ answer (listingFor text i) (length out)) × (out ≡ leaves (listingFor text i) out)
+unfolding listingFor
+read-refused text i a n room out k e b = refused-any (λ cells. listingOf cells i) text a n room out k e b
+
+pub sum-refused : (text : List ℕ) (a : Answer) (n room : ℕ) (out : List ℕ) → room ≡ 12271 → answerOf a ≡ answer (readCells text) room → a ≡ Refused n
+    → (refused n ≡ answer (summaryFor text) (length out)) × (out ≡ leaves (summaryFor text) out)
+unfolding summaryFor
+sum-refused text a n room out k e b = refused-any (λ cells. done (summaryOf cells)) text a n room out k e b
 
 pub record Made (text : List ℕ) (n : ℕ) (t : List ℕ) : Type 0 where
   pub within : n ≤ length t
@@ -310,9 +321,46 @@ read-written text a n o t k e l b = by (readCells text) refl
 pub made-read : (text : List ℕ) (n : ℕ) (t : List ℕ) → Made text n t → WasRead (take n t)
 made-read text n t m = (text, m .made)
 
+made-any : (next : List ℕ → Outcome (List ℕ)) (text : List ℕ) (n : ℕ) (t : List ℕ) → Made text n t → (r : Outcome ℕ) (o out : List ℕ)
+    → (r ≡ answer (next (take n t)) (length out)) × (o ≡ leaves (next (take n t)) out)
+    → (r ≡ answer (andThen (readCells text) next) (length out)) × (o ≡ leaves (andThen (readCells text) next) out)
+unfolding andThen
+made-any next text n t m r o out e =
+    let f : andThen (readCells text) next ≡ next (take n t) = ap (λ (x : Outcome (List ℕ)). andThen x next) (m .made) in
+    (e .0 ∙ ap (λ (x : Outcome (List ℕ)). answer x (length out)) (sym f), e .1 ∙ ap (λ (x : Outcome (List ℕ)). leaves x out) (sym f))
+
 pub made-listed : (text : List ℕ) (i n : ℕ) (t : List ℕ) → Made text n t → (r : Outcome ℕ) (o out : List ℕ)
     → (r ≡ answer (listingOf (take n t) i) (length out)) × (o ≡ leaves (listingOf (take n t) i) out) → (r ≡ answer (listingFor text i) (length out)) × (o ≡ leaves (listingFor text i) out)
-unfolding listingFor andThen
-made-listed text i n t m r o out e =
-    let f : listingFor text i ≡ listingOf (take n t) i = ap (λ (x : Outcome (List ℕ)). andThen x (λ cells. listingOf cells i)) (m .made) in
-    (e .0 ∙ ap (λ (x : Outcome (List ℕ)). answer x (length out)) (sym f), e .1 ∙ ap (λ (x : Outcome (List ℕ)). leaves x out) (sym f))
+unfolding listingFor
+made-listed text i n t m r o out e = made-any (λ cells. listingOf cells i) text n t m r o out e
+
+pub made-summed : (text : List ℕ) (n : ℕ) (t : List ℕ) → Made text n t → (r : Outcome ℕ) (o out : List ℕ)
+    → (r ≡ answer (done (summaryOf (take n t))) (length out)) × (o ≡ leaves (done (summaryOf (take n t))) out) → (r ≡ answer (summaryFor text) (length out)) × (o ≡ leaves (summaryFor text) out)
+unfolding summaryFor
+made-summed text n t m r o out e = made-any (λ cells. done (summaryOf cells)) text n t m r o out e
+
+-- a text that was written to a buffer of one's own first, and is then copied if it fits
+module _ (text o h : List ℕ) (m : ℕ) (e : _≡_ {A = Buf} (h, m) (puts (o, 0) text)) (fits : length text ≤ length o) where
+  pub own-within : (m ≤ length h) × (m ≡ length (take m h))
+  own-within =
+      let x = head-fits o h m text e fits in
+      let k = x .0 in
+      let y : m ≡ length (take m h) = k ∙ ap length (sym (x .1)) in
+      let l = length-take-most m h in
+      (omega arith, y)
+
+  pub own-short : (out : List ℕ) → length out < m → (refused 9 ≡ answer (done text) (length out)) × (out ≡ leaves (done text) out)
+  own-short out h = let k = head-fits o _ m text e fits .0 in (short-answer text (length out) (omega arith), short-leaves text out (omega arith))
+
+  pub own-whole : (out c : List ℕ) (r : ℕ) → m ≤ length out → _≡_ {A = Buf} (c, r) (puts (out, 0) (take m h)) → (done r ≡ answer (done text) (length out)) × (c ≡ leaves (done text) out)
+  own-whole out c r l u =
+      let x = head-fits o h m text e fits in
+      let k = x .0 in
+      let i : 0 + length text ≤ length out = omega arith in
+      let w : length text ≤ length out = omega arith in
+      let g = u ∙ ap (puts (out, 0)) (x .1) ∙ puts-fits out 0 text i in
+      let r0 : r ≡ 0 + length text = ap (λ (d : Buf). d .1) g in
+      let r-is : r ≡ length text = omega arith in
+      let c-is : c ≡ text ++ drop (0 + length text) out = ap (λ (d : Buf). d .0) g in
+      let d-is : 0 + length text ≡ length text = omega arith in
+      (ap {B = Outcome ℕ} (λ (d : ℕ). done d) r-is ∙ whole-answer text (length out) w, c-is ∙ ap (λ (d : ℕ). text ++ drop d out) d-is ∙ whole-leaves text out w)

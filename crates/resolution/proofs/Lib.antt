@@ -8,4 +8,5 @@ pub mod Demand
 pub mod Given
 pub mod Answers
 pub mod Heads
+pub mod Counts
 pub mod Marked

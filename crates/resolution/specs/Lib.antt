@@ -3,3 +3,4 @@ pub mod Listing
 pub mod Demand
 pub mod Marked
 pub mod Asked
+pub mod Figures

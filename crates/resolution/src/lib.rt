@@ -1,8 +1,11 @@
 // A query's listing and the summary, of a table that was read and of a text.
 mod lists;
 mod parts;
+mod sums;
 mod text;
 mod walks;
 
 pub use lists::listing;
 pub use lists::listing_of;
+pub use sums::summary;
+pub use sums::summary_of;
