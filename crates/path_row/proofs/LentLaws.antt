@@ -80,14 +80,14 @@ passed cells a b n m c e = by (rowHere a) refl (rowHere b) refl e
         in record { p = p; q = q; reads-a = f; reads-b = g; fits-a = ltb-false n (length (p .steps)) (u .0); fits-b = ltb-false m (length (q .steps)) (v .0) }
 
 -- what is due fits, and fills the table as it should
-abbrev Fills : Outcome Comparison → List ℕ → ℕ → Type 0
+abbrev pub Fills : {A : Type 0} → Outcome A → List ℕ → ℕ → Type 0
 Fills o row n = (stepsDue o (stepsIn row) ≤ n) × ((lent : List Step) → length lent ≡ n → filled (stepsIn row) (stepsDue o (stepsIn row)) lent ≡ stepsLeft o row lent)
 
-fills-none : (k : ℕ) (row : List ℕ) (n : ℕ) → Fills (refused k) row n
+pub fills-none : (A : Type 0) (k : ℕ) (row : List ℕ) (n : ℕ) → Fills {A = A} (refused k) row n
 unfolding stepsDue stepsLeft
-fills-none k row n = (omega arith, λ lent e. refl)
+fills-none A k row n = (omega arith, λ lent e. refl)
 
-fills-all : (c : Comparison) (row : List ℕ) (n : ℕ) (p : PathRow) → rowHere row ≡ done p → length (p .steps) ≤ n → Fills (done c) row n
+pub fills-all : {A : Type 0} (c : A) (row : List ℕ) (n : ℕ) (p : PathRow) → rowHere row ≡ done p → length (p .steps) ≤ n → Fills (done c) row n
 unfolding stepsDue stepsLeft rowSteps
 fills-all c row n p e h =
     let s : p .steps ≡ stepsIn row = steps-shown row p e
@@ -102,7 +102,7 @@ module _ (text a b : List ℕ) (n m : ℕ) where
 
   both-fill : (o : Outcome Comparison) → o ≡ compareAnswer text a b n m → Fills o a n × Fills o b m
   unfolding compareAnswer
-  both-fill (refused k) e = (fills-none k a n, fills-none k b m)
+  both-fill (refused k) e = (fills-none Comparison k a n, fills-none Comparison k b m)
   both-fill (done c) e =
       let r = by-cells c (readCells text) e
       in (fills-all c a n (r .p) (r .reads-a) (r .fits-a), fills-all c b m (r .q) (r .reads-b) (r .fits-b))

@@ -83,6 +83,6 @@ rowSteps (refused n) = []
 rowSteps (done r) = r .steps
 
 -- What a lent step table holds after the call: the row's steps, and the records behind them as they were; after a refusal, what it held.
-unfoldable pub stepsLeft : Outcome Comparison → List ℕ → List Step → List Step
+unfoldable pub stepsLeft : {A : Type 0} → Outcome A → List ℕ → List Step → List Step
 stepsLeft (refused n) row lent = lent
 stepsLeft (done c) row lent = rowSteps (rowHere row) ++ drop (length (rowSteps (rowHere row))) lent

@@ -5,7 +5,6 @@ use lib.ListN.{length, set, getD}
 use Rattle.graph_file.specs.Outcome.{Outcome, refused, done}
 use Rattle.path_row.specs.declared.form.Step.{Step}
 use Rattle.path_row.specs.Form.{noStep}
-use Rattle.path_row.specs.Compare.{Comparison}
 
 -- the first n records are the first n of the steps
 abbrev pub filled : List Step → ℕ → List Step → List Step
@@ -13,6 +12,6 @@ filled steps zero lent = lent
 filled steps (suc n) lent = set (filled steps n lent) n (getD steps n noStep)
 
 -- how many steps go into a table: all of the row's, and none after a refusal
-unfoldable pub stepsDue : Outcome Comparison → List Step → ℕ
+unfoldable pub stepsDue : {A : Type 0} → Outcome A → List Step → ℕ
 stepsDue (refused n) steps = 0
 stepsDue (done c) steps = length steps

@@ -214,7 +214,7 @@ pub fn compare_rows(cells: &[u64], a: &[u8], b: &[u8], n: usize, m: usize) -> Co
 }
 
 // How many steps a text shows.
-fn step_count(s: &[u8]) -> usize
+pub fn step_count(s: &[u8]) -> usize
     ensures { λ r. ⌜ r ≡ length (stepsIn (now (s .entry))) ⌝ }
 {
     let end = walk(s, first_step(s));

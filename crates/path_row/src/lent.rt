@@ -12,7 +12,7 @@ ghost use Rattle.path_row.specs.Compare.{meaning, compareAnswer, stepsLe
 ghost use Rattle.path_row.specs.Lent.{filled};
 
 // The first n records become the first n steps of the row.
-fn fill<'o, 'a>(out: &'o mut [Step], row: &'a [u8], n: usize)
+pub fn fill<'o, 'a>(out: &'o mut [Step], row: &'a [u8], n: usize)
     requires { ⌜ n ≤ length (now out) ⌝ }
     ensures { λ _. ⌜ now (out .exit) ≡ filled (stepsIn (now (row .entry))) n (now (out .entry)) ⌝ }
 {
