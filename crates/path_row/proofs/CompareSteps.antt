@@ -24,13 +24,16 @@ use Rattle.path_row.specs.declared.form.RowRead.the-variants.{Row, NoRow
 use Rattle.path_row.specs.declared.form.StepRead.{StepRead}
 use Rattle.path_row.specs.declared.form.StepRead.the-variants.{Taken, NoStep}
 use Rattle.path_row.specs.Form.{PathRow, mostSteps, mostBytes, stepHere, stepsOf, afterSteps, stepPlaced, headHere, rowBy, rowHere, rowAnswer, stepsAfter, stepsIn}
-use Rattle.path_row.specs.FileOrder.{lettersOf, labelNumber, rulesOf}
-use Rattle.path_row.specs.Compare.{Comparison, whichOf, first, second, neither, hopOf, pathOf, stepsPreferred, stepsCompared, endHere, rowBefore, comparison, compareRows}
+use Rattle.graph_file.specs.Decode.{lettersOf, rulesOf}
+use Rattle.scope_graph.specs.Rows.{Rules}
+use Rattle.path_row.specs.Compare.{Comparison, whichOf, first, second, neither, labelNumber, hopOf, pathOf, rowBefore, comparison, WasRead, compareRows}
+use Rattle.path_row.specs.Scan.{scannedLetters, scannedOrder, scannedRules, stepsPreferred, stepsCompared, endHere}
 use Rattle.path_row.specs.Compare.{meaning as meaningOf}
 use Rattle.path_row.specs.declared.compare.Compared.{Compared}
 use Rattle.path_row.specs.declared.compare.Compared.the-variants.{First, Second, Neither, Refused}
 use Rattle.path_row.proofs.FormLaws.{steps-on, steps-off, refuse-done, refuse-through}
 use Rattle.path_row.proofs.Steps.{steps-next, steps-none}
+use Rattle.path_row.proofs.ScanLaws.{letters-scanned, rules-scanned}
 
 -- how a path goes on by a step that was read
 pub end-stop : (cells : List ℕ) (i : ℕ) (r a : StepRead) → a ≡ stepPlaced i r → a ≡ NoStep → meaning Stop ≡ endHere cells r
@@ -38,7 +41,7 @@ unfolding stepPlaced endHere meaning
 end-stop cells i NoStep a e f = refl
 end-stop cells i (Taken x v w) a e f = absurd (let z : _≡_ {A = ℕ} 0 1 = cc in omega arith)
 
-pub end-label : (cells : List ℕ) (i : ℕ) (r a : StepRead) (x v next n : ℕ) → a ≡ stepPlaced i r → a ≡ Taken x v next → n ≡ labelNumber (lettersOf cells) x → meaning (Label n) ≡ endHere cells r
+pub end-label : (cells : List ℕ) (i : ℕ) (r a : StepRead) (x v next n : ℕ) → a ≡ stepPlaced i r → a ≡ Taken x v next → n ≡ labelNumber (scannedLetters cells) x → meaning (Label n) ≡ endHere cells r
 unfolding stepPlaced endHere meaning
 end-label cells i NoStep a x v next n e f g = absurd (let z : _≡_ {A = ℕ} 0 1 = cc in omega arith)
 end-label cells i (Taken y u w) a x v next n e f g = let p : y ≡ x = cc in rw (g, p)
@@ -49,7 +52,7 @@ or-none false = refl
 
 module _ (cells : List ℕ) where
   abbrev number : Step → ℕ
-  number s = labelNumber (lettersOf cells) (s .label)
+  number s = labelNumber (scannedLetters cells) (s .label)
 
   abbrev endFirst : List Step → End ℕ
   endFirst [] = stop
@@ -65,11 +68,11 @@ module _ (cells : List ℕ) where
   further-none [] = refl
   further-none (s ∷ ss) = refl
 
-  ends-first : (ss ts : List Step) → stepsPreferred cells ss ts ≡ (preferredBy (rulesOf cells .order) (endFirst ss) (endFirst ts) || further ss ts)
+  ends-first : (ss ts : List Step) → stepsPreferred cells ss ts ≡ (preferredBy (scannedOrder cells) (endFirst ss) (endFirst ts) || further ss ts)
   unfolding stepsPreferred preferredTo hopOf sameHop
-  ends-first [] [] = sym (or-none (preferredBy (rulesOf cells .order) stop stop))
-  ends-first [] (t ∷ ts) = sym (or-none (preferredBy (rulesOf cells .order) stop (by (number t))))
-  ends-first (s ∷ ss) [] = sym (or-none (preferredBy (rulesOf cells .order) (by (number s)) stop))
+  ends-first [] [] = sym (or-none (preferredBy (scannedOrder cells) stop stop))
+  ends-first [] (t ∷ ts) = sym (or-none (preferredBy (scannedOrder cells) stop (by (number t))))
+  ends-first (s ∷ ss) [] = sym (or-none (preferredBy (scannedOrder cells) (by (number s)) stop))
   ends-first (s ∷ ss) (t ∷ ts) = refl
 
   end-first : (n : ℕ) (s : List ℕ) → endFirst (stepsOf (suc n) s) ≡ endHere cells (stepHere s)
@@ -81,7 +84,7 @@ module _ (cells : List ℕ) where
       by-step (Taken x v w) e = rw (steps-on n s x v w e, e)
 
   module _ (a b : List ℕ) (i j left : ℕ) (h : 1 ≤ left) (ea eb : CodeEnd) (fa : meaning ea ≡ endHere cells (stepHere (drop i a))) (fb : meaning eb ≡ endHere cells (stepHere (drop j b)))
-      (u : Bool) (m : u ≡ preferredBy (rulesOf cells .order) (meaning ea) (meaning eb)) where
+      (u : Bool) (m : u ≡ preferredBy (scannedOrder cells) (meaning ea) (meaning eb)) where
     abbrev here : Bool
     here = stepsPreferred cells (stepsOf left (drop i a)) (stepsOf left (drop j b))
 
@@ -106,7 +109,7 @@ module _ (cells : List ℕ) where
         pub preferred-stops : r′ ≡ NoStep → here ≡ false
         preferred-stops n′ = onward ∙ rw (steps-none b j left r′ e′ n′) (further-none (stepsOf left (drop i a)))
 
-        module _ (y w nj : ℕ) (n′ : r′ ≡ Taken y w nj) (l k : ℕ) (el : l ≡ labelNumber (lettersOf cells) x) (ek : k ≡ labelNumber (lettersOf cells) y) where
+        module _ (y w nj : ℕ) (n′ : r′ ≡ Taken y w nj) (l k : ℕ) (el : l ≡ labelNumber (scannedLetters cells) x) (ek : k ≡ labelNumber (scannedLetters cells) y) where
           both-on : here ≡ ((eqb l k && eqb v w) && stepsPreferred cells (stepsOf (left - 1) (drop ni a)) (stepsOf (left - 1) (drop nj b)))
           both-on = onward ∙ rw (steps-next a i left r e x v ni n h, steps-next b j left r′ e′ y w nj n′ h, el, ek)
 
@@ -119,9 +122,9 @@ module _ (cells : List ℕ) where
           pub preferred-on : l ≡ k → v ≡ w → here ≡ stepsPreferred cells (stepsOf (left - 1) (drop ni a)) (stepsOf (left - 1) (drop nj b))
           preferred-on z z′ = both-on ∙ rw (eq-eqb l k z, eq-eqb v w z′)
 
-  pub preferred-full : (left : ℕ) (s t : List ℕ) (u : Bool) → left ≤ 0 → u ≡ preferredBy (rulesOf cells .order) (meaning Stop) (meaning Stop) → stepsPreferred cells (stepsOf left s) (stepsOf left t) ≡ u
+  pub preferred-full : (left : ℕ) (s t : List ℕ) (u : Bool) → left ≤ 0 → u ≡ preferredBy (scannedOrder cells) (meaning Stop) (meaning Stop) → stepsPreferred cells (stepsOf left s) (stepsOf left t) ≡ u
   unfolding stepsOf meaning
-  preferred-full zero s t u h m = ends-first [] [] ∙ or-none (preferredBy (rulesOf cells .order) stop stop) ∙ sym m
+  preferred-full zero s t u h m = ends-first [] [] ∙ or-none (preferredBy (scannedOrder cells) stop stop) ∙ sym m
   preferred-full (suc n) s t u h m = absurd (omega arith)
 
 -- where a row's steps begin
@@ -201,17 +204,24 @@ module _ (cells : List ℕ) (ss ts : List Step) (t : Bool) (e : t ≡ stepsPrefe
     unfolding meaningOf stepsCompared whichOf
     neither-is h = rw (← e, f, ← g, h)
 
-before-same : (cells : List ℕ) (p q : PathRow) → p .start ≡ q .start → rowBefore cells p q ≡ stepsPreferred cells (p .steps) (q .steps)
-unfolding rowBefore moreSpecific pathOf stepsPreferred
-before-same cells p q e = rw (eq-eqb (p .start) (q .start) e)
+-- by any rules and letters; on cells that were read, by those that are scanned
+beforeBy : Rules → List ℕ → PathRow → PathRow → Bool
+beforeBy r letters p q = moreSpecific (language r) (pathOf r letters p) (pathOf r letters q)
+
+before-same : (cells : List ℕ) → WasRead cells → (p q : PathRow) → p .start ≡ q .start → rowBefore cells p q ≡ stepsPreferred cells (p .steps) (q .steps)
+unfolding rowBefore beforeBy moreSpecific pathOf stepsPreferred
+before-same cells was p q e =
+    ap (λ (r : Rules). beforeBy r (lettersOf cells) p q) (sym (rules-scanned cells was))
+    ∙ ap (λ (letters : List ℕ). beforeBy (scannedRules cells) letters p q) (sym (letters-scanned cells was))
+    ∙ rw (eq-eqb (p .start) (q .start) e)
 
 before-apart : (cells : List ℕ) (p q : PathRow) → (p .start ≡ q .start → ⊥) → rowBefore cells p q ≡ false
 unfolding rowBefore moreSpecific pathOf
 before-apart cells p q e = rw (ne-eqb (p .start) (q .start) e)
 
-compared-same : (cells : List ℕ) (p q : PathRow) → p .start ≡ q .start → comparison cells p q ≡ stepsCompared cells (p .steps) (q .steps)
+compared-same : (cells : List ℕ) → WasRead cells → (p q : PathRow) → p .start ≡ q .start → comparison cells p q ≡ stepsCompared cells (p .steps) (q .steps)
 unfolding comparison stepsCompared
-compared-same cells p q e = rw (before-same cells p q e, before-same cells q p (sym e))
+compared-same cells was p q e = rw (before-same cells was p q e, before-same cells was q p (sym e))
 
 compared-apart : (cells : List ℕ) (p q : PathRow) → (p .start ≡ q .start → ⊥) → comparison cells p q ≡ neither
 unfolding comparison whichOf
@@ -254,8 +264,8 @@ module _ (cells a b : List ℕ) (n m : ℕ) where
           unfolding meaningOf
           starts-apart z = sym (fits ∙ ap done (compared-apart cells (p .row) (q .row) (λ e. z (sym (p .starts) ∙ e ∙ q .starts))))
 
-          pub starts-same : start ≡ other → (r : Compared) → meaningOf r ≡ done (stepsCompared cells (stepsIn a) (stepsIn b)) → meaningOf r ≡ whole
-          starts-same z r e = e ∙ rw (← p .steps, ← q .steps) (sym (fits ∙ ap done (compared-same cells (p .row) (q .row) (p .starts ∙ z ∙ sym (q .starts)))))
+          pub starts-same : WasRead cells → start ≡ other → (r : Compared) → meaningOf r ≡ done (stepsCompared cells (stepsIn a) (stepsIn b)) → meaningOf r ≡ whole
+          starts-same was z r e = e ∙ rw (← p .steps, ← q .steps) (sym (fits ∙ ap done (compared-same cells was (p .row) (q .row) (p .starts ∙ z ∙ sym (q .starts)))))
 
 pub steps-as : (cells : List ℕ) (ss ss′ ts ts′ : List Step) → ss ≡ ss′ → ts ≡ ts′ → stepsPreferred cells ss ts ≡ stepsPreferred cells ss′ ts′
 steps-as cells ss ss′ ts ts′ e f = rw (e, f)

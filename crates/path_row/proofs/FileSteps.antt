@@ -15,8 +15,8 @@ use Rattle.graph_file.specs.declared.reader.Answer.{Answer}
 use Rattle.graph_file.specs.declared.reader.Answer.the-variants.{Refused, Written}
 use Rattle.path_row.specs.declared.compare.Compared.{Compared}
 use Rattle.path_row.specs.declared.compare.Compared.the-variants.{Refused as No}
-use Rattle.path_row.specs.Compare.{meaning, compareRows, compareAnswer}
-use Rattle.path_row.proofs.CellsLaws.{cells-most}
+use Rattle.path_row.specs.Compare.{meaning, WasRead, compareRows, compareAnswer}
+use Rattle.graph_file.proofs.DecodeAccepted.{read-accepted}
 
 -- what was read, where the table holds any file's cells
 record ReadIs (o : Outcome (List ℕ)) (lent : List ℕ) (w : ℕ) : Type 0 where
@@ -46,6 +46,9 @@ module _ (lent : List ℕ) (l : length lent ≡ 12271) where
       let p : w ≡ length cells = cc (told (done cells) most cells refl)
       in rw p (record { cells = cells; reads = refl; most = most cells refl; table = held cells (most cells refl) })
 
+cells-most : (text cells : List ℕ) → readCells text ≡ done cells → length cells ≤ 12271
+cells-most text cells e = read-accepted text cells e .size-most
+
 module _ (text a b : List ℕ) (n m : ℕ) (x : Answer) (table lent : List ℕ) (g : table ≡ leaves (readCells text) lent) (e : answerOf x ≡ answer (readCells text) (length lent)) (l : length lent ≡ 12271) where
   pub decide-refused : (k : ℕ) → x ≡ Refused k → meaning (No k) ≡ compareAnswer text a b n m
   unfolding meaning compareAnswer andThen answerOf
@@ -62,6 +65,12 @@ module _ (text a b : List ℕ) (n m : ℕ) (x : Answer) (table lent : List ℕ) 
     pub decide-width : length table ≡ length lent → w ≡ length (take w table)
     decide-width h = sym (length-take-le w table (decide-inside h))
 
+    table-is : take w table ≡ is-read .cells
+    table-is = ap (take w) g ∙ is-read .table
+
+    pub decide-was : WasRead (take w table)
+    decide-was = (text, is-read .reads ∙ ap done (sym table-is))
+
     pub decide-read : (r : Compared) → meaning r ≡ compareRows (take w table) a b n m → meaning r ≡ compareAnswer text a b n m
     unfolding compareAnswer andThen
-    decide-read r h = h ∙ ap (λ (cells : List ℕ). compareRows cells a b n m) (ap (take w) g ∙ is-read .table) ∙ rw (is-read .reads)
+    decide-read r h = h ∙ ap (λ (cells : List ℕ). compareRows cells a b n m) table-is ∙ rw (is-read .reads)

@@ -1,9 +1,9 @@
 pub mod FormLaws
 pub mod Steps
 pub mod OrderSteps
+pub mod ScanLaws
 pub mod CompareSteps
 pub mod LentLaws
 pub mod WriterLaws
-pub mod CellsLaws
 pub mod FileSteps
 pub mod NumberingLaws

@@ -8,7 +8,7 @@ use native.Mathlib.Omega.{arith}
 use borrow.Author.Tests.{eqb-true}
 use lib.Dec.{eqb}
 use lib.ListN.{length, getD}
-use Rattle.path_row.specs.FileOrder.{numberFrom, labelNumber}
+use Rattle.path_row.specs.Compare.{numberFrom, labelNumber}
 
 -- where a letter's number comes from
 data Spot (n x : ℕ) (ys : List ℕ) : Type 0 where

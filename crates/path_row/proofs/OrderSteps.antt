@@ -11,14 +11,15 @@ use lib.Dec.{eqb, ltb}
 use lib.ListN.{length, getD, drop, drop-of-length-le}
 use lib.Seq.{drop-cons, drop-drop, getD-drop}
 use Rattle.text_field.proofs.ByteLaws.{clash}
-use Rattle.graph_file.specs.Format.{sectionAt, sections, labels, pairs}
 use Rattle.graph_file.specs.Admission.{Row, rowOf}
 use Rattle.graph_file.specs.Line.{startsWith}
 use Rattle.scope_graph.specs.Language.{End, by}
 use Rattle.scope_graph.specs.Rows.{OrderPair, sameEnd, anyOf, preferredBy}
 use Rattle.scope_graph.specs.Order.{endOf, meaning, pairMeaning}
 use Rattle.scope_graph.specs.declared.End.{End as CodeEnd}
-use Rattle.path_row.specs.FileOrder.{rowsOf, placeOf, sectionRows, pairOf, firstValue, lettersOf, rulesOf, numberFrom, labelNumber}
+use Rattle.graph_file.specs.Decode.{orderPairOf}
+use Rattle.path_row.specs.Compare.{numberFrom, labelNumber}
+use Rattle.path_row.specs.Scan.{rowsFrom, scannedLabels, scannedPairs, firstValue, scannedLetters, scannedOrder}
 
 -- does a row stand there?
 module _ (cells : List ℕ) (p k : ℕ) where
@@ -38,55 +39,55 @@ module _ (cells : List ℕ) (p k : ℕ) where
       by true g = ltb-true p (length cells) g
       by false g = absurd (clash (sym e ∙ f) (row-none (ltb-false p (length cells) g)))
 
-rows-on : (n k : ℕ) (s : List ℕ) → startsWith k s ≡ true → rowsOf (suc n) k s ≡ rowOf s ∷ rowsOf n k (drop 6 s)
-unfolding rowsOf
-rows-on n k s e = rw (e, rowsOf)
+pub rows-on : (n k : ℕ) (s : List ℕ) → startsWith k s ≡ true → rowsFrom (suc n) k s ≡ rowOf s ∷ rowsFrom n k (drop 6 s)
+unfolding rowsFrom
+rows-on n k s e = rw (e, rowsFrom)
 
-rows-off : (n k : ℕ) (s : List ℕ) → startsWith k s ≡ false → rowsOf n k s ≡ []
-unfolding rowsOf
+pub rows-off : (n k : ℕ) (s : List ℕ) → startsWith k s ≡ false → rowsFrom n k s ≡ []
+unfolding rowsFrom
 rows-off zero k s e = refl
-rows-off (suc n) k s e = rw (e, rowsOf)
+rows-off (suc n) k s e = rw (e, rowsFrom)
 
 -- one row more, or no more
 module _ (cells : List ℕ) (p k left : ℕ) (t : Bool) (e : t ≡ startsWith k (drop p cells)) where
-  pub rows-next : t ≡ true → 1 ≤ left → rowsOf left k (drop p cells) ≡ rowOf (drop p cells) ∷ rowsOf (left - 1) k (drop (p + 6) cells)
+  pub rows-next : t ≡ true → 1 ≤ left → rowsFrom left k (drop p cells) ≡ rowOf (drop p cells) ∷ rowsFrom (left - 1) k (drop (p + 6) cells)
   rows-next f h =
       let n : left ≡ suc (left - 1) = omega arith
-      in ap (λ (j : ℕ). rowsOf j k (drop p cells)) n
+      in ap (λ (j : ℕ). rowsFrom j k (drop p cells)) n
       ∙ rows-on (left - 1) k (drop p cells) (sym e ∙ f)
-      ∙ ap (λ (s : List ℕ). rowOf (drop p cells) ∷ rowsOf (left - 1) k s) (drop-drop 6 p cells)
+      ∙ ap (λ (s : List ℕ). rowOf (drop p cells) ∷ rowsFrom (left - 1) k s) (drop-drop 6 p cells)
 
-  pub rows-none : t ≡ false → rowsOf left k (drop p cells) ≡ []
+  pub rows-none : t ≡ false → rowsFrom left k (drop p cells) ≡ []
   rows-none f = rows-off left k (drop p cells) (sym e ∙ f)
 
-pub rows-full : (left k : ℕ) (s : List ℕ) → left ≤ 0 → rowsOf left k s ≡ []
-unfolding rowsOf
+pub rows-full : (left k : ℕ) (s : List ℕ) → left ≤ 0 → rowsFrom left k s ≡ []
+unfolding rowsFrom
 rows-full zero k s h = refl
 rows-full (suc n) k s h = absurd (omega arith)
 
 -- counting rows: n are counted, and the rows from p on are left
 module _ (cells : List ℕ) (at most k n p : ℕ) where
   abbrev pub Counted : Type 0
-  Counted = (n ≤ most) × (length (rowsOf most k (drop at cells)) ≡ n + length (rowsOf (most - n) k (drop p cells)))
+  Counted = (n ≤ most) × (length (rowsFrom most k (drop at cells)) ≡ n + length (rowsFrom (most - n) k (drop p cells)))
 
   module _ (c : Counted) (t : Bool) (e : t ≡ startsWith k (drop p cells)) where
-    pub counted-on : t ≡ true → n < most → (n + 1 ≤ most) × (length (rowsOf most k (drop at cells)) ≡ (n + 1) + length (rowsOf (most - (n + 1)) k (drop (p + 6) cells)))
+    pub counted-on : t ≡ true → n < most → (n + 1 ≤ most) × (length (rowsFrom most k (drop at cells)) ≡ (n + 1) + length (rowsFrom (most - (n + 1)) k (drop (p + 6) cells)))
     counted-on f h =
         let j : most - n - 1 ≡ most - (n + 1) = omega arith
         in (omega arith, c .1 ∙ rw (rows-next cells p k (most - n) t e f (omega arith), j) (omega arith))
 
-    pub counted-stops : t ≡ false → n ≡ length (rowsOf most k (drop at cells))
+    pub counted-stops : t ≡ false → n ≡ length (rowsFrom most k (drop at cells))
     counted-stops f = omega (arith, c .1, ap length (rows-none cells p k (most - n) t e f))
 
-  pub counted-full : Counted → most ≤ n → n ≡ length (rowsOf most k (drop at cells))
+  pub counted-full : Counted → most ≤ n → n ≡ length (rowsFrom most k (drop at cells))
   counted-full c h = omega (arith, c .1, ap length (rows-full (most - n) k (drop p cells) (omega (arith, c .0))))
 
 -- the number of a letter
 abbrev pub seek : ℕ → ℕ → ℕ → List ℕ → ℕ
-seek left n x s = numberFrom n x (map firstValue (rowsOf left 0 s))
+seek left n x s = numberFrom n x (map firstValue (rowsFrom left 0 s))
 
-pub letters-are : (cells : List ℕ) (x : ℕ) → labelNumber (lettersOf cells) x ≡ seek 8 0 x (drop 1 cells)
-unfolding labelNumber lettersOf sectionRows placeOf sectionAt sections labels pairs
+pub letters-are : (cells : List ℕ) (x : ℕ) → labelNumber (scannedLetters cells) x ≡ seek 8 0 x (drop 1 cells)
+unfolding labelNumber scannedLetters scannedLabels
 letters-are cells x = refl
 
 number-here : (n x y : ℕ) (ys : List ℕ) → y ≡ x → numberFrom n x (y ∷ ys) ≡ n
@@ -110,9 +111,9 @@ module _ (cells : List ℕ) (p x n : ℕ) (t : Bool) (e : t ≡ startsWith 0 (dr
   seek-none f = number-none n x _ (ap (map firstValue) (rows-none cells p 0 (8 - n) t e f))
 
   module _ (f : t ≡ true) (h : n < 8) (y : ℕ) (g : y ≡ getD cells (p + 1) 0) where
-    seen : seek (8 - n) n x (drop p cells) ≡ numberFrom n x (y ∷ map firstValue (rowsOf (8 - n - 1) 0 (drop (p + 6) cells)))
+    seen : seek (8 - n) n x (drop p cells) ≡ numberFrom n x (y ∷ map firstValue (rowsFrom (8 - n - 1) 0 (drop (p + 6) cells)))
     seen = ap (λ (rows : List Row). numberFrom n x (map firstValue rows)) (rows-next cells p 0 (8 - n) t e f (omega arith))
-        ∙ ap (λ (z : ℕ). numberFrom n x (z ∷ map firstValue (rowsOf (8 - n - 1) 0 (drop (p + 6) cells)))) (first-cell cells p ∙ sym g)
+        ∙ ap (λ (z : ℕ). numberFrom n x (z ∷ map firstValue (rowsFrom (8 - n - 1) 0 (drop (p + 6) cells)))) (first-cell cells p ∙ sym g)
 
     pub seek-here : y ≡ x → seek (8 - n) n x (drop p cells) ≡ n
     seek-here z = seen ∙ number-here n x y _ z
@@ -126,29 +127,29 @@ pub seek-full : (n x : ℕ) (s : List ℕ) → 8 ≤ n → seek (8 - n) n x s �
 seek-full n x s h = number-none n x _ (ap (map firstValue) (rows-full (8 - n) 0 s (omega arith)))
 
 -- an order pair at a place
-pub pair-none : (cells : List ℕ) (at : ℕ) (e : CodeEnd) → length cells ≤ at → meaning e ≡ endOf 0 → pairMeaning (record { less = e; more = e }) ≡ pairOf (rowOf (drop at cells))
-unfolding pairMeaning pairOf rowOf
+pub pair-none : (cells : List ℕ) (at : ℕ) (e : CodeEnd) → length cells ≤ at → meaning e ≡ endOf 0 → pairMeaning (record { less = e; more = e }) ≡ orderPairOf (rowOf (drop at cells))
+unfolding pairMeaning orderPairOf rowOf
 pair-none cells at e h f = rw (drop-of-length-le cells {i = at} h, f)
 
 pub pair-made : (cells : List ℕ) (at x y : ℕ) (a b : CodeEnd) → x ≡ getD cells (at + 1) 0 → y ≡ getD cells (at + 2) 0 → meaning a ≡ endOf x → meaning b ≡ endOf y
-    → pairMeaning (record { less = a; more = b }) ≡ pairOf (rowOf (drop at cells))
-unfolding pairMeaning pairOf rowOf
+    → pairMeaning (record { less = a; more = b }) ≡ orderPairOf (rowOf (drop at cells))
+unfolding pairMeaning orderPairOf rowOf
 pair-made cells at x y a b e f g h = rw (g, h, getD-drop at cells 1 0, getD-drop at cells 2 0, e, f)
 
 -- the preference test, row by row
 module _ (a b : End ℕ) where
   abbrev pub prefer : ℕ → List ℕ → Bool
-  prefer left s = preferredBy (map pairOf (rowsOf left 1 s)) a b
+  prefer left s = preferredBy (map orderPairOf (rowsFrom left 1 s)) a b
 
   module _ (cells : List ℕ) (p left : ℕ) (t : Bool) (e : t ≡ startsWith 1 (drop p cells)) where
     pub prefer-none : t ≡ false → prefer left (drop p cells) ≡ false
     unfolding preferredBy anyOf
     prefer-none f = rw (rows-none cells p 1 left t e f)
 
-    module _ (f : t ≡ true) (h : 1 ≤ left) (row : OrderPair) (g : row ≡ pairOf (rowOf (drop p cells))) (u : Bool) (m : u ≡ (sameEnd (row .less) a && sameEnd (row .more) b)) where
-      looked : prefer left (drop p cells) ≡ preferredBy (row ∷ map pairOf (rowsOf (left - 1) 1 (drop (p + 6) cells))) a b
-      looked = ap (λ (rows : List Row). preferredBy (map pairOf rows) a b) (rows-next cells p 1 left t e f h)
-          ∙ ap (λ (z : OrderPair). preferredBy (z ∷ map pairOf (rowsOf (left - 1) 1 (drop (p + 6) cells))) a b) (sym g)
+    module _ (f : t ≡ true) (h : 1 ≤ left) (row : OrderPair) (g : row ≡ orderPairOf (rowOf (drop p cells))) (u : Bool) (m : u ≡ (sameEnd (row .less) a && sameEnd (row .more) b)) where
+      looked : prefer left (drop p cells) ≡ preferredBy (row ∷ map orderPairOf (rowsFrom (left - 1) 1 (drop (p + 6) cells))) a b
+      looked = ap (λ (rows : List Row). preferredBy (map orderPairOf rows) a b) (rows-next cells p 1 left t e f h)
+          ∙ ap (λ (z : OrderPair). preferredBy (z ∷ map orderPairOf (rowsFrom (left - 1) 1 (drop (p + 6) cells))) a b) (sym g)
 
       pub prefer-found : u ≡ true → prefer left (drop p cells) ≡ true
       unfolding preferredBy anyOf
@@ -162,22 +163,22 @@ module _ (a b : End ℕ) where
   unfolding preferredBy anyOf
   prefer-full left s h = rw (rows-full left 1 s h)
 
-pub order-is : (cells : List ℕ) (n : ℕ) → n ≡ length (rowsOf 8 0 (drop 1 cells)) → rulesOf cells .order ≡ map pairOf (rowsOf 36 1 (drop (1 + 6 * n) cells))
-unfolding rulesOf sectionRows placeOf sectionAt sections labels pairs
+pub order-is : (cells : List ℕ) (n : ℕ) → n ≡ length (rowsFrom 8 0 (drop 1 cells)) → scannedOrder cells ≡ map orderPairOf (rowsFrom 36 1 (drop (1 + 6 * n) cells))
+unfolding scannedOrder scannedPairs scannedLabels
 order-is cells n e = rw e
 
 pub counted-first : (cells : List ℕ) (at most k : ℕ) → Counted cells at most k 0 at
-counted-first cells at most k = (omega arith, rw (sub-zero most, zero-add (length (rowsOf most k (drop at cells)))))
+counted-first cells at most k = (omega arith, rw (sub-zero most, zero-add (length (rowsFrom most k (drop at cells)))))
 
-pub rows-few : (n k : ℕ) (s : List ℕ) → length (rowsOf n k s) ≤ n
-unfolding rowsOf
+pub rows-few : (n k : ℕ) (s : List ℕ) → length (rowsFrom n k s) ≤ n
+unfolding rowsFrom
 rows-few zero k s = omega arith
 rows-few (suc n) k s = by (startsWith k s) refl (rows-few n k (drop 6 s))
   where
-    by : (t : Bool) → startsWith k s ≡ t → length (rowsOf n k (drop 6 s)) ≤ n → length (rowsOf (suc n) k s) ≤ suc n
+    by : (t : Bool) → startsWith k s ≡ t → length (rowsFrom n k (drop 6 s)) ≤ n → length (rowsFrom (suc n) k s) ≤ suc n
     by true e h = rw (rows-on n k s e) (omega arith)
     by false e h = rw (rows-off (suc n) k s e) (omega arith)
 
-pub order-by : (cells : List ℕ) (a b : End ℕ) (n : ℕ) (u : Bool) → n ≡ length (rowsOf 8 0 (drop 1 cells)) → u ≡ preferredBy (map pairOf (rowsOf 36 1 (drop (1 + 6 * n) cells))) a b
-    → u ≡ preferredBy (rulesOf cells .order) a b
+pub order-by : (cells : List ℕ) (a b : End ℕ) (n : ℕ) (u : Bool) → n ≡ length (rowsFrom 8 0 (drop 1 cells)) → u ≡ preferredBy (map orderPairOf (rowsFrom 36 1 (drop (1 + 6 * n) cells))) a b
+    → u ≡ preferredBy (scannedOrder cells) a b
 order-by cells a b n u e f = f ∙ ap (λ (rows : List OrderPair). preferredBy rows a b) (sym (order-is cells n e))

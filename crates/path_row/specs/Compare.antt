@@ -1,22 +1,20 @@
 -- Two path rows compared by the order of a file (document 01, "Paths"). Assumes nothing: these are definitions.
-use Prim.Native.Nat.{ℕ}
+use Prim.Native.Nat.{ℕ, suc, _+_}
+use mathlib.Core.Path.{_≡_}
 use mathlib.Core.List.{List, [], _∷_, _++_, map}
 use mathlib.Core.Bool.{Bool, true, false}
-use lib.Dec.{ltb}
+use lib.Dec.{eqb, ltb}
 use lib.ListN.{length, drop}
 use Rattle.graph_file.specs.Outcome.{Outcome, refused, done, andThen, refuseIf}
 use Rattle.graph_file.specs.File.{readCells}
+use Rattle.graph_file.specs.Decode.{lettersOf, rulesOf}
 use Rattle.scope_graph.specs.Rows.{Rules, language}
 use Rattle.scope_graph.specs.Path.{Hop, Path}
-use Rattle.scope_graph.specs.Computed.{moreSpecific, preferredTo}
-use Rattle.scope_graph.specs.Language.{End, stop, by}
+use Rattle.scope_graph.specs.Computed.{moreSpecific}
 use Rattle.path_row.specs.declared.form.Step.{Step}
-use Rattle.path_row.specs.declared.form.StepRead.{StepRead}
-use Rattle.path_row.specs.declared.form.StepRead.the-variants.{Taken, NoStep}
 use Rattle.path_row.specs.declared.compare.Compared.{Compared}
 use Rattle.path_row.specs.declared.compare.Compared.the-variants.{First, Second, Neither, Refused}
 use Rattle.path_row.specs.Form.{PathRow, rowHere}
-use Rattle.path_row.specs.FileOrder.{rulesOf, lettersOf, labelNumber}
 
 -- which of two rows is more specific
 pub data Comparison : Type 0 where
@@ -35,6 +33,15 @@ meaning Second = done second
 meaning Neither = done neither
 meaning (Refused n) = refused n
 
+unfoldable pub numberFrom : ℕ → ℕ → List ℕ → ℕ
+numberFrom n x [] = n + x
+numberFrom n x (y ∷ ys) = elim (eqb y x) [ true ↦ n | false ↦ numberFrom (suc n) x ys ]
+
+-- A letter's number among the labels' letters. A letter that is not listed has a number past theirs, and each such letter another: so it is in no
+-- order pair of an accepted file (document 01, "Paths"; Promises says it).
+unfoldable pub labelNumber : List ℕ → ℕ → ℕ
+labelNumber letters x = numberFrom 0 x letters
+
 -- a step as the rules have it: by its label's number
 unfoldable pub hopOf : (r : Rules) → List ℕ → Step → Hop (language r)
 hopOf r letters s = record { step = labelNumber letters (s .label); to = s .scope }
@@ -43,20 +50,6 @@ hopOf r letters s = record { step = labelNumber letters (s .label); to = s .scop
 unfoldable pub pathOf : (r : Rules) → List ℕ → PathRow → Path (language r)
 pathOf r letters row = record { start = row .start; hops = map (hopOf r letters) (row .steps) }
 
--- steps against steps, by the file's order: the part of *more specific* below a shared start
-unfoldable pub stepsPreferred : List ℕ → List Step → List Step → Bool
-stepsPreferred cells ss ts =
-    preferredTo (language (rulesOf cells)) (map (hopOf (rulesOf cells) (lettersOf cells)) ss) (map (hopOf (rulesOf cells) (lettersOf cells)) ts) stop
-
--- which of the two is preferred
-unfoldable pub stepsCompared : List ℕ → List Step → List Step → Comparison
-stepsCompared cells ss ts = whichOf (stepsPreferred cells ss ts) (stepsPreferred cells ts ss)
-
--- how a path goes on by a step that was read
-unfoldable pub endHere : List ℕ → StepRead → End ℕ
-endHere cells (Taken x v width) = by (labelNumber (lettersOf cells) x)
-endHere cells NoStep = stop
-
 -- is the one row more specific than the other, by the file's order?
 unfoldable pub rowBefore : List ℕ → PathRow → PathRow → Bool
 rowBefore cells p q =
@@ -64,6 +57,10 @@ rowBefore cells p q =
 
 unfoldable pub comparison : List ℕ → PathRow → PathRow → Comparison
 comparison cells p q = whichOf (rowBefore cells p q) (rowBefore cells q p)
+
+-- some text is read as these cells
+abbrev pub WasRead : List ℕ → Type 0
+WasRead cells = (text : List ℕ) × (readCells text ≡ done cells)
 
 -- With the graph table in hand: 8 for the first row, 8 for the second, and 9 where the steps of one outnumber the records lent for it.
 unfoldable pub compareRows : List ℕ → List ℕ → List ℕ → ℕ → ℕ → Outcome Comparison

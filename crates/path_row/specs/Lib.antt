@@ -1,5 +1,5 @@
 pub mod Form
 pub mod Inverse
-pub mod FileOrder
 pub mod Compare
 pub mod Lent
+pub mod Scan

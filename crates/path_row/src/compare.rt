@@ -21,9 +21,10 @@ ghost use Rattle.graph_file.specs.Admission.{rowOf};
 ghost use Rattle.scope_graph.specs.Order.{meaning as endMeaning, pairMeaning};
 ghost use Rattle.scope_graph.specs.Rows.{preferredBy};
 ghost use Rattle.path_row.specs.Form.{mostSteps, stepHere, stepsOf, stepsIn};
-ghost use Rattle.path_row.specs.Compare.{meaning, endHere, stepsPreferred, stepsCompared, compareRows};
+ghost use Rattle.graph_file.specs.Decode.{orderPairOf};
+ghost use Rattle.path_row.specs.Compare.{labelNumber, meaning, WasRead, compareRows};
 ghost use Rattle.path_row.specs.Lent.{stepsDue};
-ghost use Rattle.path_row.specs.FileOrder.{rowsOf, pairOf, firstValue, labelNumber, lettersOf, rulesOf, placeOf};
+ghost use Rattle.path_row.specs.Scan.{rowsFrom, scannedLetters, scannedOrder, stepsPreferred, stepsCompared, endHere};
 
 // Which of two rows is more specific, or the refusal's number.
 pub enum Compared {
@@ -45,7 +46,7 @@ fn is_row(cells: &[u64], at: usize, k: u64) -> bool
 
 // How many rows of section k stand from a place on, of at most `most`.
 fn count_rows(cells: &[u64], at: usize, k: u64, most: usize) -> usize
-    ensures { λ r. ⌜ r ≡ length (rowsOf most k (drop at (now (cells .entry)))) ⌝ }
+    ensures { λ r. ⌜ r ≡ length (rowsFrom most k (drop at (now (cells .entry)))) ⌝ }
 {
     let mut n: usize = 0;
     let mut p = at;
@@ -61,7 +62,7 @@ fn count_rows(cells: &[u64], at: usize, k: u64, most: usize) -> usize
 
 // The number of a letter among the labels, or one past theirs if it is not listed.
 fn label_number(cells: &[u64], x: u8) -> u64
-    ensures { λ r. ⌜ r ≡ labelNumber (lettersOf (now (cells .entry))) x ⌝ }
+    ensures { λ r. ⌜ r ≡ labelNumber (scannedLetters (now (cells .entry))) x ⌝ }
 {
     let mut n: u64 = 0;
     let mut p: usize = 1;
@@ -80,7 +81,7 @@ fn label_number(cells: &[u64], x: u8) -> u64
 
 // The order pair whose row stands at a place.
 fn pair_row(cells: &[u64], at: usize) -> Pair
-    ensures { λ r. ⌜ pairMeaning r ≡ pairOf (rowOf (drop at (now (cells .entry)))) ⌝ }
+    ensures { λ r. ⌜ pairMeaning r ≡ orderPairOf (rowOf (drop at (now (cells .entry)))) ⌝ }
 {
     if cells.len() <= at {
         let stop = end_of(0);
@@ -96,7 +97,7 @@ fn pair_row(cells: &[u64], at: usize) -> Pair
 
 // Is the one end preferred to the other, by the order pairs from a place on?
 fn preferred_from(cells: &[u64], at: usize, less: End, more: End) -> bool
-    ensures { λ r. ⌜ r ≡ preferredBy (map pairOf (rowsOf 36 1 (drop at (now (cells .entry))))) (endMeaning less) (endMeaning more) ⌝ }
+    ensures { λ r. ⌜ r ≡ preferredBy (map orderPairOf (rowsFrom 36 1 (drop at (now (cells .entry))))) (endMeaning less) (endMeaning more) ⌝ }
 {
     let mut left: usize = 36;
     let mut p = at;
@@ -115,7 +116,7 @@ fn preferred_from(cells: &[u64], at: usize, less: End, more: End) -> bool
 
 // The same by the file's order.
 fn preferred(cells: &[u64], less: End, more: End) -> bool
-    ensures { λ r. ⌜ r ≡ preferredBy (rulesOf (now (cells .entry)) .order) (endMeaning less) (endMeaning more) ⌝ }
+    ensures { λ r. ⌜ r ≡ preferredBy (scannedOrder (now (cells .entry))) (endMeaning less) (endMeaning more) ⌝ }
 {
     let at = 1 + 6 * count_rows(cells, 1, 0, 8);
     preferred_from(cells, at, less, more)
@@ -191,8 +192,9 @@ fn more_specific(cells: &[u64], a: &[u8], b: &[u8]) -> Compared
     Compared::Neither
 }
 
-// Two rows by the order in a graph table, where n records are lent for the steps of a and m for those of b.
+// Two rows by the order in a graph table that was read, where n records are lent for the steps of a and m for those of b.
 pub fn compare_rows(cells: &[u64], a: &[u8], b: &[u8], n: usize, m: usize) -> Compared
+    requires { ⌜ WasRead (now cells) ⌝ }
     ensures { λ r. ⌜ meaning r ≡ compareRows (now (cells .entry)) (now (a .entry)) (now (b .entry)) n m ⌝ }
 {
     let RowRead::Row(_, start, count) = read_row(a) else {

@@ -59,7 +59,7 @@ more-specific-requires c κs = search needs
 
 -- src/compare.rt:185:1
 returns-6 : tie.Need-returns-6
-returns-6 c = starts-same (now (c .before .before .before .before .before .before .before .before .before .before .before .before .before .before .before .args .cells)) (now (c .before .before .before .before .before .before .before .before .before .before .before .before .before .before .before .args .a)) (now (c .before .before .before .before .before .before .before .before .before .before .before .before .before .before .before .args .b)) (c .before .before .before .before .before .before .before .before .before .before .before .before .before .before .before .args .n) (c .before .before .before .before .before .before .before .before .before .before .before .before .before .before .before .args .m) (c .before .before .before .before .before .before .before .before .before .start .given .0 .1 .0) (c .before .before .before .before .before .before .before .before .before .start .given .0 .1 .1 .0) (row-is (now (c .before .before .before .before .before .before .before .before .before .before .before .before .before .before .before .args .a)) (c .before .before .before .before .before .before .before .before .before .before .before .read-row .result) (c .before .before .before .before .before .before .before .before .before .before .before .read-row .ensures) (c .before .before .before .before .before .before .before .before .before .start .given .0 .0) (c .before .before .before .before .before .before .before .before .before .start .given .0 .1 .0) (c .before .before .before .before .before .before .before .before .before .start .given .0 .1 .1 .0) (c .before .before .before .before .before .before .before .before .before .start .given .1)) (c .before .before .before .before .before .other .given .0 .1 .0) (c .before .before .before .before .before .other .given .0 .1 .1 .0) (row-is (now (c .before .before .before .before .before .before .before .before .before .before .before .before .before .before .before .args .b)) (c .before .before .before .before .before .before .before .read-row2 .result) (c .before .before .before .before .before .before .before .read-row2 .ensures) (c .before .before .before .before .before .other .given .0 .0) (c .before .before .before .before .before .other .given .0 .1 .0) (c .before .before .before .before .before .other .given .0 .1 .1 .0) (c .before .before .before .before .before .other .given .1)) (c .before .before .before .if1 .left) (c .before .before .if2 .left) (c .before .if3 .left) (c .more-specific .result) (c .more-specific .ensures)
+returns-6 c = starts-same (now (c .before .before .before .before .before .before .before .before .before .before .before .before .before .before .before .args .cells)) (now (c .before .before .before .before .before .before .before .before .before .before .before .before .before .before .before .args .a)) (now (c .before .before .before .before .before .before .before .before .before .before .before .before .before .before .before .args .b)) (c .before .before .before .before .before .before .before .before .before .before .before .before .before .before .before .args .n) (c .before .before .before .before .before .before .before .before .before .before .before .before .before .before .before .args .m) (c .before .before .before .before .before .before .before .before .before .start .given .0 .1 .0) (c .before .before .before .before .before .before .before .before .before .start .given .0 .1 .1 .0) (row-is (now (c .before .before .before .before .before .before .before .before .before .before .before .before .before .before .before .args .a)) (c .before .before .before .before .before .before .before .before .before .before .before .read-row .result) (c .before .before .before .before .before .before .before .before .before .before .before .read-row .ensures) (c .before .before .before .before .before .before .before .before .before .start .given .0 .0) (c .before .before .before .before .before .before .before .before .before .start .given .0 .1 .0) (c .before .before .before .before .before .before .before .before .before .start .given .0 .1 .1 .0) (c .before .before .before .before .before .before .before .before .before .start .given .1)) (c .before .before .before .before .before .other .given .0 .1 .0) (c .before .before .before .before .before .other .given .0 .1 .1 .0) (row-is (now (c .before .before .before .before .before .before .before .before .before .before .before .before .before .before .before .args .b)) (c .before .before .before .before .before .before .before .read-row2 .result) (c .before .before .before .before .before .before .before .read-row2 .ensures) (c .before .before .before .before .before .other .given .0 .0) (c .before .before .before .before .before .other .given .0 .1 .0) (c .before .before .before .before .before .other .given .0 .1 .1 .0) (c .before .before .before .before .before .other .given .1)) (c .before .before .before .if1 .left) (c .before .before .if2 .left) (c .before .before .before .before .before .before .before .before .before .before .before .before .before .before .before .pre) (c .before .if3 .left) (c .more-specific .result) (c .more-specific .ensures)
 
 pub compare-rows-spec : {M : Type 1} → statement M
 compare-rows-spec =

@@ -5,7 +5,7 @@ use mathlib.Core.Path.{_≡_, refl, sym, _∙_}
 use native.Mathlib.Omega.{arith}
 use lib.ListN.{drop}
 use Rattle.path_row.specs.Form.{mostSteps, stepsOf}
-use Rattle.path_row.specs.Compare.{stepsPreferred}
+use Rattle.path_row.specs.Scan.{stepsPreferred}
 use Rattle.path_row.proofs.CompareSteps.{preferred-here, preferred-ends, preferred-stops, preferred-label, preferred-scope, preferred-on, preferred-full}
 use Rattle.path_row.proofs.compare.steps_preferred.Statement.{statement}
 use Rattle.path_row.proofs.compare.steps_preferred.Tie as tie

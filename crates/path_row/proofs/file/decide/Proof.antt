@@ -1,6 +1,6 @@
 -- `path_row::file::decide` meets its contract: the file is read into a table of its own, which holds any file's cells. Assumes nothing.
 use denote.Ref.{now}
-use Rattle.path_row.proofs.FileSteps.{decide-refused, decide-inside, decide-width, decide-read}
+use Rattle.path_row.proofs.FileSteps.{decide-refused, decide-inside, decide-width, decide-was, decide-read}
 use borrow.Author.Needs.{needs}
 use Rattle.path_row.proofs.file.decide.Statement.{statement}
 use Rattle.path_row.proofs.file.decide.Tie as tie
@@ -35,7 +35,7 @@ slice-aggregate-compare-rows c = decide-width (now (c .before .before .before .b
 
 -- src/file.rt:15:35
 compare-rows-requires : tie.Need-compare-rows-requires
-compare-rows-requires c κs = search needs
+compare-rows-requires c κs = decide-was (now (c .before .before .before .before .before .before .before .before .before .before .args .text)) (now (c .before .before .before .before .before .before .before .before .before .before .args .a)) (now (c .before .before .before .before .before .before .before .before .before .before .args .b)) (c .before .before .before .before .before .before .before .before .before .before .args .n) (c .before .before .before .before .before .before .before .before .before .before .args .m) (c .before .before .before .before .before .read .result) _ _ (c .before .before .before .before .before .read .ensures .1) (c .before .before .before .before .before .read .ensures .0) (search needs) (c .before .before .answer2 .given .0 .0) (c .before .before .answer2 .given .1)
 
 -- src/file.rt:8:1
 returns : tie.Need-returns
