@@ -7,3 +7,4 @@ pub mod LentLaws
 pub mod WriterLaws
 pub mod FileSteps
 pub mod NumberingLaws
+pub mod Promises

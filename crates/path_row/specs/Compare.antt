@@ -1,4 +1,4 @@
--- Two path rows compared by the order of a file (document 01, "Paths"). Assumes nothing: these are definitions.
+-- Two path rows compared by the order of a file (document 01, "Paths"), whose letters and rules are graph_file's Decode. Assumes nothing: these are definitions.
 use Prim.Native.Nat.{ℕ, suc, _+_}
 use mathlib.Core.Path.{_≡_}
 use mathlib.Core.List.{List, [], _∷_, _++_, map}
@@ -16,7 +16,7 @@ use Rattle.path_row.specs.declared.compare.Compared.{Compared}
 use Rattle.path_row.specs.declared.compare.Compared.the-variants.{First, Second, Neither, Refused}
 use Rattle.path_row.specs.Form.{PathRow, rowHere}
 
--- which of two rows is more specific
+-- which of two rows is *more specific* (01, "Paths")
 pub data Comparison : Type 0 where
   first second neither : Comparison
 
@@ -26,19 +26,20 @@ whichOf true u = first
 whichOf false true = second
 whichOf false false = neither
 
--- what an answer means: a refusal by its number, or which row is more specific
+-- what an answer means: a refusal by its number, or which row is more specific (01, "Where each language form goes")
 unfoldable pub meaning : Compared → Outcome Comparison
 meaning First = done first
 meaning Second = done second
 meaning Neither = done neither
 meaning (Refused n) = refused n
 
+-- the number of x, where the letters ys are numbered from n on
 unfoldable pub numberFrom : ℕ → ℕ → List ℕ → ℕ
 numberFrom n x [] = n + x
 numberFrom n x (y ∷ ys) = elim (eqb y x) [ true ↦ n | false ↦ numberFrom (suc n) x ys ]
 
--- A letter's number among the labels' letters. A letter that is not listed has a number past theirs, and each such letter another: so it is in no
--- order pair of an accepted file (document 01, "Paths"; Promises says it).
+-- A letter's number among the labels' letters. A letter that is not listed has a number past theirs, and each such letter another: no order pair of
+-- an accepted file has it (01, "Paths"; Promises says so).
 unfoldable pub labelNumber : List ℕ → ℕ → ℕ
 labelNumber letters x = numberFrom 0 x letters
 
@@ -46,23 +47,27 @@ labelNumber letters x = numberFrom 0 x letters
 unfoldable pub hopOf : (r : Rules) → List ℕ → Step → Hop (language r)
 hopOf r letters s = record { step = labelNumber letters (s .label); to = s .scope }
 
--- a row's path: its mark is left out, and whether the graph has such a path is not asked
+-- a row's path (01, "Paths"): its mark is left out, and it need not be a path of the graph
 unfoldable pub pathOf : (r : Rules) → List ℕ → PathRow → Path (language r)
 pathOf r letters row = record { start = row .start; hops = map (hopOf r letters) (row .steps) }
 
+-- the same by a file's own rules
+abbrev pub pathIn : (cells : List ℕ) → PathRow → Path (language (rulesOf cells))
+pathIn cells row = pathOf (rulesOf cells) (lettersOf cells) row
+
 -- is the one row more specific than the other, by the file's order?
 unfoldable pub rowBefore : List ℕ → PathRow → PathRow → Bool
-rowBefore cells p q =
-    moreSpecific (language (rulesOf cells)) (pathOf (rulesOf cells) (lettersOf cells) p) (pathOf (rulesOf cells) (lettersOf cells) q)
+rowBefore cells p q = moreSpecific (language (rulesOf cells)) (pathIn cells p) (pathIn cells q)
 
+-- both ways
 unfoldable pub comparison : List ℕ → PathRow → PathRow → Comparison
 comparison cells p q = whichOf (rowBefore cells p q) (rowBefore cells q p)
 
--- some text is read as these cells
+-- some text is read as these cells, so that it was not refused by 1 to 6 (01, "Who can cause a refusal")
 abbrev pub WasRead : List ℕ → Type 0
 WasRead cells = (text : List ℕ) × (readCells text ≡ done cells)
 
--- With the graph table in hand: 8 for the first row, 8 for the second, and 9 where the steps of one outnumber the records lent for it.
+-- With the graph table in hand (01, "Paths", where it tells the refusals of two rows): 8 for the first row, 8 for the second, and 9 where the steps of one outnumber the records lent for it.
 unfoldable pub compareRows : List ℕ → List ℕ → List ℕ → ℕ → ℕ → Outcome Comparison
 compareRows cells a b roomA roomB =
     andThen (rowHere a) (λ p.
@@ -71,15 +76,16 @@ compareRows cells a b roomA roomB =
     (refuseIf (ltb roomB (length (q .steps))) 9
     (done (comparison cells p q)))))
 
--- The whole call: first the file's refusals, 1 to 6.
+-- The whole call (01, "Who can cause a refusal"): before these, the file's refusals, 1 to 6.
 unfoldable pub compareAnswer : List ℕ → List ℕ → List ℕ → ℕ → ℕ → Outcome Comparison
 compareAnswer text a b roomA roomB = andThen (readCells text) (λ cells. compareRows cells a b roomA roomB)
 
+-- the steps of a row that was read
 unfoldable pub rowSteps : Outcome PathRow → List Step
 rowSteps (refused n) = []
 rowSteps (done r) = r .steps
 
--- What a lent step table holds after the call: the row's steps, and the records behind them as they were; after a refusal, what it held.
+-- What a lent step table holds after a call (01, "Paths"), whatever the call answers: the row's steps, and the records behind them as they were; after a refusal, what it held.
 unfoldable pub stepsLeft : {A : Type 0} → Outcome A → List ℕ → List Step → List Step
 stepsLeft (refused n) row lent = lent
 stepsLeft (done c) row lent = rowSteps (rowHere row) ++ drop (length (rowSteps (rowHere row))) lent

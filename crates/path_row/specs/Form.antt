@@ -1,4 +1,4 @@
--- The form of a path row (document 01, "Paths": a mark, one space, a scope, then label and scope in turn). Assumes nothing: these are definitions.
+-- The form of a path row, read and written (document 01, "Paths", the row `mark path`). Assumes nothing: these are definitions.
 use Prim.Native.Nat.{ℕ, zero, suc, _+_}
 use mathlib.Core.List.{List, [], _∷_, _++_}
 use mathlib.Core.Bool.{Bool, true, false, not, _&&_}
@@ -25,7 +25,7 @@ pub record PathRow : Type 0 where
   pub start : ℕ
   pub steps : List Step
 
--- the greatest mark and the greatest scope, the most steps and the most bytes of a row
+-- its limits (01, "Paths"): the greatest mark and scope, the most steps and bytes
 abbrev pub mostMark : ℕ
 mostMark = 65535
 
@@ -38,6 +38,7 @@ mostSteps = 63
 abbrev pub mostBytes : ℕ
 mostBytes = 256
 
+-- a number that was read, unless it is past the greatest
 unfoldable pub atMost : ℕ → NumberRead → NumberRead
 atMost most (Number v width) = elim (ltb most v) [ true ↦ NoNumber | false ↦ Number v width ]
 atMost most NoNumber = NoNumber
@@ -46,6 +47,7 @@ atMost most NoNumber = NoNumber
 unfoldable pub numberUpTo : ℕ → List ℕ → NumberRead
 numberUpTo most s = atMost most (numberHere s)
 
+-- a step, by its letter and what is read after it
 unfoldable pub stepBy : ℕ → NumberRead → StepRead
 stepBy x (Number v width) = Taken x v (suc width)
 stepBy x NoNumber = NoStep
@@ -65,6 +67,7 @@ unfoldable pub afterSteps : ℕ → List ℕ → List ℕ
 afterSteps zero s = s
 afterSteps (suc n) s = elim (stepHere s) [ Taken x v width ↦ afterSteps n (drop width s) | NoStep ↦ s ]
 
+-- a row's front, by its mark, the bytes before its start, and what is read there; then by what is read as its mark
 unfoldable pub startBy : ℕ → ℕ → NumberRead → HeadRead
 startBy m before (Number v width) = Head m v (before + width)
 startBy m before NoNumber = NoHead
@@ -77,13 +80,14 @@ markBy NoNumber s = NoHead
 unfoldable pub headHere : List ℕ → HeadRead
 headHere s = markBy (numberUpTo mostMark s) s
 
+-- a row, by what is read at its front
 unfoldable pub rowBy : HeadRead → List ℕ → Outcome PathRow
 rowBy (Head m v width) s =
     refuseIf (not (isEmpty (afterSteps mostSteps (drop width s)))) 8
     (done (record { mark = m; start = v; steps = stepsOf mostSteps (drop width s) }))
 rowBy NoHead s = refused 8
 
--- A path row, or refusal 8: too many bytes, no mark and start at its front, or something after its steps.
+-- A path row, or refusal 8 (01, "Who can cause a refusal"): too many bytes, no mark and start at its front, or something after its steps.
 unfoldable pub rowHere : List ℕ → Outcome PathRow
 rowHere s = refuseIf (ltb mostBytes (length s)) 8 (rowBy (headHere s) s)
 
@@ -97,6 +101,7 @@ unfoldable pub stepsAfter : HeadRead → List ℕ → List Step
 stepsAfter (Head m v width) s = stepsOf mostSteps (drop width s)
 stepsAfter NoHead s = []
 
+-- of a whole text
 unfoldable pub stepsIn : List ℕ → List Step
 stepsIn s = stepsAfter (headHere s) s
 
@@ -122,6 +127,7 @@ unfoldable pub stepsMade : ℕ → List ℕ → List ℕ → List Step
 stepsMade zero letters scopes = []
 stepsMade (suc count) letters scopes = record { label = getD letters 0 0; scope = getD scopes 0 0 } ∷ stepsMade count (drop 1 letters) (drop 1 scopes)
 
+-- with a mark and a start
 unfoldable pub rowMade : ℕ → ℕ → ℕ → List ℕ → List ℕ → PathRow
 rowMade mark start count letters scopes = record { mark = mark; start = start; steps = stepsMade count letters scopes }
 

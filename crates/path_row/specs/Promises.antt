@@ -1,0 +1,43 @@
+-- What is proved of labels' numbers and of comparing two rows (document 01, "Paths"). These are the statements; their proofs are in
+-- proofs/Promises. Assumes nothing: these are definitions.
+use Prim.Native.Nat.{ℕ, _≤_, _<_}
+use mathlib.Core.Path.{_≡_}
+use mathlib.Core.Bool.{false}
+use mathlib.Core.Logic.{_↔_}
+use mathlib.Core.List.{List}
+use lib.ListN.{length, getD}
+use Rattle.graph_file.specs.Outcome.{Outcome, done}
+use Rattle.graph_file.specs.File.{readCells}
+use Rattle.graph_file.specs.Decode.{lettersOf, rulesOf}
+use Rattle.scope_graph.specs.Language.{_∈_, End, by}
+use Rattle.scope_graph.specs.Rows.{language}
+use Rattle.scope_graph.specs.Path.{MoreSpecific}
+use Rattle.path_row.specs.Form.{PathRow, rowHere}
+use Rattle.path_row.specs.Compare.{Comparison, first, second, neither, labelNumber, pathIn, compareAnswer}
+
+-- the numbers of letters in a file
+pub record Numbers (cells : List ℕ) : Type 0 where
+  -- a listed letter has the number of a label, and it is that label's letter
+  pub listed : (x : ℕ) → x ∈ lettersOf cells → (labelNumber (lettersOf cells) x < rulesOf cells .labels) × (getD (lettersOf cells) (labelNumber (lettersOf cells) x) 0 ≡ x)
+  -- no other letter has the number of a label
+  pub past : (x : ℕ) → ¬ (x ∈ lettersOf cells) → rulesOf cells .labels ≤ labelNumber (lettersOf cells) x
+  -- so it is preferred to no end, and no end to it
+  pub never-less : (x : ℕ) → ¬ (x ∈ lettersOf cells) → (e : End ℕ) → language (rulesOf cells) .prefers (by (labelNumber (lettersOf cells) x)) e ≡ false
+  pub never-more : (x : ℕ) → ¬ (x ∈ lettersOf cells) → (e : End ℕ) → language (rulesOf cells) .prefers e (by (labelNumber (lettersOf cells) x)) ≡ false
+  -- two letters, listed or not, have two numbers
+  pub apart : (x y : ℕ) → ¬ (x ≡ y) → ¬ (labelNumber (lettersOf cells) x ≡ labelNumber (lettersOf cells) y)
+
+abbrev pub Unlisted : Type 0
+Unlisted = (text cells : List ℕ) → readCells text ≡ done cells → Numbers cells
+
+-- the answer says which row is more specific, as the rules have the term: each answer is given exactly where it holds
+pub record SaysWhich (cells : List ℕ) (p q : PathRow) (answer : Outcome Comparison) : Type 0 where
+  pub first-is : (answer ≡ done first) ↔ MoreSpecific (language (rulesOf cells)) (pathIn cells p) (pathIn cells q)
+  pub second-is : (answer ≡ done second) ↔ MoreSpecific (language (rulesOf cells)) (pathIn cells q) (pathIn cells p)
+  pub neither-is : (answer ≡ done neither)
+      ↔ ((¬ MoreSpecific (language (rulesOf cells)) (pathIn cells p) (pathIn cells q)) × (¬ MoreSpecific (language (rulesOf cells)) (pathIn cells q) (pathIn cells p)))
+
+-- for a text that is read, and two texts that are path rows whose steps fit into the records lent for them
+abbrev pub CompareIs : Type 0
+CompareIs = (text cells a b : List ℕ) (roomA roomB : ℕ) (p q : PathRow) → readCells text ≡ done cells → rowHere a ≡ done p → rowHere b ≡ done q
+    → length (p .steps) ≤ roomA → length (q .steps) ≤ roomB → SaysWhich cells p q (compareAnswer text a b roomA roomB)
