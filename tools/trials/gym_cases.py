@@ -1,17 +1,7 @@
-#!/usr/bin/env python3
-"""Cases for reading and writing gym files, and the output that is due for them.
-
-Run at the repository's root: writes crates/trials_file/stdin and crates/trials_file/stdout. With the word `list` it prints
-each case's title and answer instead. The answers come from the reference below, which is written from document 01 (and, for
-the graph table, from the layout of its cells) and shares nothing with the crates.
-
-A case is a line `KIND LENGTH NUMBER WIDTH` with numbers in hexadecimal, a title of WIDTH bytes and LF, LENGTH bytes and LF.
-  r  the bytes are a text, read into a lent table of NUMBER cells
-  w  the bytes are cells in hexadecimal, written into a lent buffer of NUMBER bytes
-  n  the bytes are a text, and NUMBER is the query whose name is asked for
-"""
+"""Cases of reading and writing gym files, and the output that is due for them, by a reference written from document 01."""
 import re
-import sys
+
+from case_file import Dice, bytes_of, case, sum_of
 
 # ---------------------------------------------------------------------------------------------------------------- reference
 
@@ -249,13 +239,6 @@ def name_sought(text, query):
     return rows[query][1] if query < len(rows) else b""
 
 
-def sum_of(numbers):
-    s = 0
-    for x in numbers:
-        s = (s * 1000003 + x + 1) % 4294967291
-    return s
-
-
 def halves(cells):
     for x in cells:
         yield x >> 32
@@ -263,16 +246,6 @@ def halves(cells):
 
 
 # -------------------------------------------------------------------------------------------------------------------- cases
-
-CASES = []
-TITLES = set()
-
-
-def case(kind, title, body, number, answer):
-    assert title not in TITLES and len(title) < 256 and len(body) < 65000, title
-    TITLES.add(title)
-    CASES.append((kind, title, body, number, answer))
-
 
 def try_read(text):
     try:
@@ -300,10 +273,10 @@ def reads(title, text, room=None, due=None):
     assert due is None or due == (0 if isinstance(out, list) else out), (title, due, out if isinstance(out, int) else "accepted")
     if isinstance(out, list):
         assert try_write(out) == text, title
-        answer = b"read %d sum %d, rest kept, back the same" % (len(out), sum_of(halves(out)))
+        answer = b"read %d sum %d, rest kept, back the same\n" % (len(out), sum_of(halves(out)))
     else:
-        answer = b"refused %d, all kept" % out
-    case(b"r", title, text, room, answer)
+        answer = b"refused %d, all kept\n" % out
+    case(b"r", title, answer, text, room=room)
 
 
 def writes(title, cells, room=None, due=None):
@@ -318,27 +291,23 @@ def writes(title, cells, room=None, due=None):
     assert due is None or due == (0 if isinstance(out, bytes) else out), (title, due, out if isinstance(out, int) else "accepted")
     if isinstance(out, bytes):
         assert try_read(out) == cells, title
-        answer = b"written %d sum %d, rest kept, back the same" % (len(out), sum_of(out))
+        answer = b"written %d sum %d, rest kept, back the same\n" % (len(out), sum_of(out))
     else:
-        answer = b"refused %d, all kept" % out
+        answer = b"refused %d, all kept\n" % out
     body = b"%x\n" % cells[0] if cells else b""
     for at in range(1, len(cells), 6):
         body += b" ".join(b"%x" % x for x in cells[at : at + 6]) + b"\n"
-    case(b"w", title, body, room, answer)
+    case(b"w", title, answer, body, room=room)
 
 
 def seeks(title, text, query, due):
     name = name_sought(text, query)
     assert name == due, title
-    case(b"n", title, text, query, b"seeks <" + name + b">")
+    case(b"n", title, b"seeks <" + name + b">\n", text, number=query)
 
 
 def text_of(g, names=NAMES):
     return b"".join(x + b"\n" for n, rows in zip(names, g) for x in [n] + rows)
-
-
-def bytes_of(row):
-    return row if isinstance(row, bytes) else row.encode("latin-1")
 
 
 def graph(*sections):
@@ -897,20 +866,6 @@ def writer_cases():
     writes("the largest graph, a byte less", big, room=length - 1, due=9)
 
 
-class Dice:
-    """The same numbers on every machine."""
-
-    def __init__(self, seed):
-        self.x = seed
-
-    def below(self, n):
-        self.x = (self.x * 6364136223846793005 + 1442695040888963407) % (1 << 64)
-        return (self.x >> 33) % n
-
-    def pick(self, items):
-        return items[self.below(len(items))]
-
-
 def edited_text(dice, text):
     lines = text.splitlines(keepends=True)
     i, n = dice.below(len(text)), dice.below(len(lines) - 1)
@@ -970,7 +925,7 @@ def name_cases():
         seeks("name of query %d of the largest graph" % q, text_of(big), q, big[QUERY][q].split()[1] if due else b"")
 
 
-def main():
+def cases():
     example_cases()
     shape_cases()
     field_cases()
@@ -982,15 +937,3 @@ def main():
     writer_cases()
     edited_cases()
     name_cases()
-    due = b"".join(bytes_of(t) + b": " + a + b"\n" for _, t, _, _, a in CASES)
-    if sys.argv[1:] == ["list"]:
-        sys.stdout.write(due.decode("latin-1"))
-        return
-    with open("crates/trials_file/stdin", "wb") as f:
-        for kind, title, body, number, _ in CASES:
-            f.write(b"%s %05x %016x %02x\n%s\n%s\n" % (kind, len(body), number, len(title), bytes_of(title), body))
-    with open("crates/trials_file/stdout", "wb") as f:
-        f.write(due)
-
-
-main()

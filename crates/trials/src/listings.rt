@@ -1,0 +1,68 @@
+// Listings and summaries of a text.
+use crate::lent;
+use crate::lent::bytes;
+use crate::say;
+use graph_file::Answer;
+use resolution::listing;
+use resolution::summary;
+
+// A query's listing put into the first `room` bytes.
+fn list_into(text: &[u8], query: usize, out: &mut [u8], room: usize) -> Answer {
+    if out.len() < room {
+        return Answer::Refused(0);
+    }
+    listing(text, query, &mut out[..room])
+}
+
+// The summary put there.
+fn sum_into(text: &[u8], out: &mut [u8], room: usize) -> Answer {
+    if out.len() < room {
+        return Answer::Refused(0);
+    }
+    summary(text, &mut out[..room])
+}
+
+// What was answered, and what the lent bytes hold: a short text is printed whole.
+fn shown(verb: &[u8], a: Answer, lent: &[u8]) {
+    match a {
+        Answer::Written(n) => {
+            say::done(verb, n, lent::bytes_sum(bytes(lent, 0, n)));
+            say::rest(lent::bytes_kept(lent, n));
+            say::line();
+            say::short(bytes(lent, 0, n));
+        }
+        Answer::Refused(n) => {
+            say::refused(n);
+            say::all(lent::bytes_kept(lent, 0));
+        }
+    }
+}
+
+// A query's listing in a lent buffer of `room` bytes.
+pub fn listed(text: &[u8], query: usize, room: usize, out: &mut [u8]) {
+    lent::mark_bytes(out);
+    let a = list_into(text, query, out, room);
+    shown(b"listed", a, bytes(out, 0, room));
+}
+
+// The summary in a lent buffer of `room` bytes.
+pub fn summed(text: &[u8], room: usize, out: &mut [u8]) {
+    lent::mark_bytes(out);
+    let a = sum_into(text, out, room);
+    shown(b"summed", a, bytes(out, 0, room));
+}
+
+// The listings of the first queries.
+pub fn all_listed(text: &[u8], queries: usize, room: usize, out: &mut [u8]) {
+    let mut i = 0;
+    while i < queries {
+        listed(text, i, room, out);
+        i += 1;
+    }
+}
+
+// A text's listings and then its summary, as the program prints them.
+pub fn whole(text: &[u8], queries: usize, room: usize, out: &mut [u8]) {
+    all_listed(text, queries, room, out);
+    summed(text, room, out);
+}

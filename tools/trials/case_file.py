@@ -1,0 +1,68 @@
+"""The cases of the trial program, and how they stand in its input.
+
+A case is a line `KIND WIDTH KEEP LENGTH TEXT ROW NUMBER ROOM` with numbers in hexadecimal, then a title of WIDTH bytes and LF, then LENGTH bytes
+and LF. Its bytes are the first KEEP bytes of the case before and the LENGTH new ones: cases that differ a little cost a little. The first TEXT of
+them are its text, the next ROW its first path row, and the rest its second.
+  r  the text is read into a lent table of ROOM cells
+  w  the text is cells in hexadecimal, written into a lent buffer of ROOM bytes
+  n  the name that query NUMBER of the text seeks
+  p  the first row is taken apart, and its parts are written into a lent buffer of ROOM bytes
+  c  the two rows are compared by the text, NUMBER records lent for the first and ROOM for the second
+  l  the listing of query NUMBER of the text, in a lent buffer of ROOM bytes
+  s  the summary of the text, in a lent buffer of ROOM bytes
+  a  the listings of the first NUMBER queries of the text and then its summary, each in a lent buffer of ROOM bytes
+"""
+
+CASES = []
+TITLES = set()
+
+
+def bytes_of(s):
+    return s if isinstance(s, bytes) else s.encode("latin-1")
+
+
+def case(kind, title, due, text=b"", first=b"", second=b"", number=0, room=0):
+    """A case, and the bytes that are due after its title."""
+    assert title not in TITLES and len(title) < 256, title
+    assert len(text) + len(first) + len(second) < 65000 and len(first) < 4096 and room < 98305, title
+    TITLES.add(title)
+    CASES.append((kind, bytes_of(title), due, text, first, second, number, room))
+
+
+def common(a, b):
+    n = min(len(a), len(b))
+    return next((i for i in range(n) if a[i] != b[i]), n)
+
+
+def written():
+    """The input and the output of all cases. Those with a long text come last, sorted, so that the same text is not written twice."""
+    put, due, before = [], [], b""
+    for kind, title, answer, text, first, second, number, room in sorted(CASES, key=lambda c: c[3] if len(c[3]) > 5000 else b""):
+        body = text + first + second
+        keep = common(before, body)
+        head = b"%s %-2x %-5x %-5x %-5x %-3x %-16x %-5x\n" % (kind, len(title), keep, len(body) - keep, len(text), len(first), number, room)
+        put.append(head + title + b"\n" + body[keep:] + b"\n")
+        due.append(title + b": " + answer)
+        before = body
+    return b"".join(put), b"".join(due)
+
+
+def sum_of(numbers):
+    s = 0
+    for x in numbers:
+        s = (s * 1000003 + x + 1) % 4294967291
+    return s
+
+
+class Dice:
+    """The same numbers on every machine."""
+
+    def __init__(self, seed):
+        self.x = seed
+
+    def below(self, n):
+        self.x = (self.x * 6364136223846793005 + 1442695040888963407) % (1 << 64)
+        return (self.x >> 33) % n
+
+    def pick(self, items):
+        return items[self.below(len(items))]
