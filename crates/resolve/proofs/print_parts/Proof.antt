@@ -38,10 +38,10 @@ loop-less : tie.Need-loop-less Inv-loop μ-loop
 loop-less c = omega arith
 
 loop-again : tie.Need-loop-again Inv-loop μ-loop
-loop-again c = let a = c .before .before .before .before .before .args .table .now in let was = c .before .before .before .before .before .pre in let s = part-short lent a (c .before .before .loop .i) (omega arith) in let t = parts-turn a was _ (c .before .before .before .query-count .ensures) (c .before .before .loop .i) (c .before .loop-test .taken) in let e = c .print-part .ensures in (omega arith, omega arith, omega arith)
+loop-again c = let a = c .before .before .before .before .before .args .table .now in let was = c .before .before .before .before .before .pre in let s = part-short lent a (c .before .before .loop .i) (omega arith) in let t = parts-turn a was (c .before .before .before .query-count .result) (c .before .before .before .query-count .ensures) (c .before .before .loop .i) (omega arith) in let e = c .print-part .ensures in (omega arith, omega arith, omega arith)
 
 returns : tie.Need-returns Inv-loop μ-loop
-returns c = let a = c .before .before .before .before .args .table .now in let was = c .before .before .before .before .pre in let z = parts-end a was _ (c .before .before .query-count .ensures) (c .before .loop .i) (c .loop-test .left) in omega arith
+returns c = let a = c .before .before .before .before .args .table .now in let was = c .before .before .before .before .pre in let z = parts-end a was (c .before .before .query-count .result) (c .before .before .query-count .ensures) (c .before .loop .i) (omega arith) in omega arith
 
 pub print-parts-spec : {M : Type 1} → statement M
 print-parts-spec =
