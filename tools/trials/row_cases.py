@@ -60,7 +60,7 @@ def apart(title, row, due, room=300):
     answer = b"mark %d start %d steps %d" % (mark, start, len(steps))
     answer += b"".join(b" %s%d" % s for s in steps)
     out = row[:room]
-    answer += b", written %d sum %d, rest kept, back %s\n" % (len(out), sum_of(out), b"the same" if out == row else b"ANOTHER")
+    answer += b", written %d sum %d, rest kept, back the same\n" % (len(out), sum_of(out))
     case(b"p", "row: " + title, answer, first=row, room=room)
 
 

@@ -3,6 +3,8 @@ use crate::input::table_of;
 use crate::lent;
 use crate::lent::bytes;
 use crate::lent::cells;
+use crate::lent::front;
+use crate::lent::front_cells;
 use crate::say;
 use graph_file::Answer;
 use graph_file::name_sought;
@@ -11,18 +13,12 @@ use graph_file::write;
 
 // A text read into the first `room` cells.
 fn read_into(text: &[u8], table: &mut [u64], room: usize) -> Answer {
-    if table.len() < room {
-        return Answer::Refused(0);
-    }
-    read(text, &mut table[..room])
+    read(text, front_cells(table, room))
 }
 
 // Cells written into the first `room` bytes.
 fn write_into(table: &[u64], out: &mut [u8], room: usize) -> Answer {
-    if out.len() < room {
-        return Answer::Refused(0);
-    }
-    write(table, &mut out[..room])
+    write(table, front(out, room))
 }
 
 // Does writing these cells give this very text, in a buffer of its length?

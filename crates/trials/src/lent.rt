@@ -19,6 +19,21 @@ pub fn bytes(s: &[u8], from: usize, to: usize) -> &[u8] {
     &s[from..to]
 }
 
+// The first n cells or bytes, to be lent; none where there are fewer.
+pub fn front_cells<'a>(s: &'a mut [u64], n: usize) -> &'a mut [u64] {
+    if s.len() < n {
+        return &mut s[..0];
+    }
+    &mut s[..n]
+}
+
+pub fn front<'a>(s: &'a mut [u8], n: usize) -> &'a mut [u8] {
+    if s.len() < n {
+        return &mut s[..0];
+    }
+    &mut s[..n]
+}
+
 pub fn put_byte(s: &mut [u8], i: usize, x: u8) {
     if i < s.len() {
         s[i] = x;

@@ -1,26 +1,11 @@
 // Listings and summaries of a text.
 use crate::lent;
 use crate::lent::bytes;
+use crate::lent::front;
 use crate::say;
 use graph_file::Answer;
 use resolution::listing;
 use resolution::summary;
-
-// A query's listing put into the first `room` bytes.
-fn list_into(text: &[u8], query: usize, out: &mut [u8], room: usize) -> Answer {
-    if out.len() < room {
-        return Answer::Refused(0);
-    }
-    listing(text, query, &mut out[..room])
-}
-
-// The summary put there.
-fn sum_into(text: &[u8], out: &mut [u8], room: usize) -> Answer {
-    if out.len() < room {
-        return Answer::Refused(0);
-    }
-    summary(text, &mut out[..room])
-}
 
 // What was answered, and what the lent bytes hold: a short text is printed whole.
 fn shown(verb: &[u8], a: Answer, lent: &[u8]) {
@@ -41,14 +26,14 @@ fn shown(verb: &[u8], a: Answer, lent: &[u8]) {
 // A query's listing in a lent buffer of `room` bytes.
 pub fn listed(text: &[u8], query: usize, room: usize, out: &mut [u8]) {
     lent::mark_bytes(out);
-    let a = list_into(text, query, out, room);
+    let a = listing(text, query, front(out, room));
     shown(b"listed", a, bytes(out, 0, room));
 }
 
 // The summary in a lent buffer of `room` bytes.
 pub fn summed(text: &[u8], room: usize, out: &mut [u8]) {
     lent::mark_bytes(out);
-    let a = sum_into(text, out, room);
+    let a = summary(text, front(out, room));
     shown(b"summed", a, bytes(out, 0, room));
 }
 

@@ -1,6 +1,7 @@
 // Path rows: one taken apart and written again, two compared by a file.
 use crate::lent;
 use crate::lent::bytes;
+use crate::lent::front;
 use crate::say;
 use path_row::compare::Compared;
 use path_row::compare::steps_due;
@@ -38,10 +39,7 @@ fn row_into(
     scopes: &[u8],
     count: usize,
 ) -> usize {
-    if out.len() < room {
-        return 0;
-    }
-    put_row(&mut out[..room], 0, mark, start, letters, scopes, count)
+    put_row(front(out, room), 0, mark, start, letters, scopes, count)
 }
 
 // A row taken apart, and its parts written into a lent buffer of `room` bytes.
@@ -60,7 +58,7 @@ pub fn apart(row: &[u8], room: usize, out: &mut [u8]) {
     let n = row_into(out, room, mark, start, &letters, &scopes, count);
     say::done(b", written", n, lent::bytes_sum(bytes(out, 0, n)));
     say::rest(lent::bytes_kept(bytes(out, 0, room), n));
-    say::back(check::same(bytes(out, 0, n), row));
+    say::back(check::same(bytes(out, 0, n), bytes(row, 0, n)));
 }
 
 // Two rows compared by a text, where n records are lent for the steps of a and m for those of b.
