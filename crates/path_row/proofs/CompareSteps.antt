@@ -24,7 +24,7 @@ use Rattle.path_row.specs.declared.form.RowRead.the-variants.{Row, NoRow
 use Rattle.path_row.specs.declared.form.StepRead.{StepRead}
 use Rattle.path_row.specs.declared.form.StepRead.the-variants.{Taken, NoStep}
 use Rattle.path_row.specs.Form.{PathRow, mostSteps, mostBytes, stepHere, stepsOf, afterSteps, stepPlaced, headHere, rowBy, rowHere, rowAnswer, stepsAfter, stepsIn}
-use Rattle.graph_file.specs.Decode.{lettersOf, rulesOf}
+use Rattle.graph_file.specs.Decode.{lettersOf}
 use Rattle.scope_graph.specs.Rows.{Rules}
 use Rattle.path_row.specs.Compare.{Comparison, whichOf, first, second, neither, labelNumber, hopOf, pathOf, rowBefore, comparison, WasRead, compareRows}
 use Rattle.path_row.specs.Scan.{scannedLetters, scannedOrder, scannedRules, stepsPreferred, stepsCompared, endHere}

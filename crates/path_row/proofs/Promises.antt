@@ -1,26 +1,25 @@
 -- The values of specs/Promises. Assumes nothing.
 use Prim.Native.Nat.{ℕ, _≤_, _<_}
-use mathlib.Core.Path.{_≡_, refl, ap, _∙_}
+use mathlib.Core.Path.{_≡_, refl}
 use mathlib.Core.Bool.{Bool, true, false}
 use mathlib.Core.Logic.{_↔_}
 use mathlib.Core.List.{List}
 use native.Mathlib.Omega.{arith}
 use lib.ListN.{length}
 use borrow.Author.Tests.{le-ltb}
-use Rattle.graph_file.specs.Outcome.{Outcome, done, andThen, refuseIf}
+use Rattle.graph_file.specs.Outcome.{done, andThen, refuseIf}
 use Rattle.graph_file.specs.File.{readCells}
 use Rattle.graph_file.specs.Decode.{lettersOf, rulesOf}
 use Rattle.graph_file.specs.Accepted.{AcceptedTable}
 use Rattle.graph_file.proofs.DecodeAccepted.{read-accepted}
-use Rattle.scope_graph.specs.Language.{_∈_, End, by, Language}
+use Rattle.scope_graph.specs.Language.{by, Language}
 use Rattle.scope_graph.specs.Rows.{language}
-use Rattle.scope_graph.specs.Path.{MoreSpecific}
 use Rattle.scope_graph.specs.Promises.{OrderPromises}
 use Rattle.scope_graph.proofs.Lists.{not-true, true-false}
 use Rattle.scope_graph.proofs.Rows.{preferredBy-row}
 use Rattle.scope_graph.proofs.Promises.{promises}
 use Rattle.path_row.specs.Form.{PathRow, rowHere}
-use Rattle.path_row.specs.Compare.{Comparison, first, second, neither, whichOf, labelNumber, pathIn, rowBefore, comparison, compareRows, compareAnswer}
+use Rattle.path_row.specs.Compare.{first, second, neither, whichOf, labelNumber, pathIn, rowBefore, comparison, compareRows, compareAnswer}
 use Rattle.path_row.specs.Promises.{Numbers, Unlisted, SaysWhich, CompareIs}
 use Rattle.path_row.proofs.NumberingLaws.{number-tells, number-beyond, number-within}
 

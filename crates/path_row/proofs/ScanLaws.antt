@@ -17,7 +17,7 @@ use Rattle.graph_file.proofs.DecodeWay.{takenAll, AdmittedRows, cellsOf, tableC
 use Rattle.graph_file.proofs.DecodeSections.{joinedIf, gathered, gathered-later}
 use Rattle.graph_file.proofs.DecodeTable.{rows-are}
 use Rattle.graph_file.proofs.DecodeAccepted.{read-accepted}
-use Rattle.scope_graph.specs.Rows.{OrderPair, Rules}
+use Rattle.scope_graph.specs.Rows.{OrderPair}
 use Rattle.path_row.specs.Compare.{WasRead}
 use Rattle.path_row.specs.Scan.{rowsFrom, scannedLabels, scannedPairs, firstValue, scannedLetters, scannedOrder, scannedRules}
 use Rattle.path_row.proofs.OrderSteps.{rows-on, rows-off}
