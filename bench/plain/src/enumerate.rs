@@ -1,0 +1,259 @@
+//! Document 01's rules by plain enumeration: every simple path, each held against every other. Slow,
+//! for small graphs, and with no code of the search in it. Only a gym's rows are taken from the reader.
+
+use crate::gym::{Gym, Query};
+use std::cmp::Ordering;
+
+/// A graph or a completion of one: any number of scopes, any marks.
+#[derive(Clone)]
+pub struct Graph {
+    /// Pairs of ends, `None` being `$`.
+    pub order: Vec<(Option<u8>, Option<u8>)>,
+    pub labels: u8,
+    /// State, label, next state.
+    pub transitions: Vec<(u8, u8, u8)>,
+    pub accepts: Vec<u8>,
+    pub scopes: usize,
+    pub edges: Vec<(usize, u8, usize)>,
+    pub declarations: Vec<(usize, u128, u64)>,
+}
+
+#[derive(Clone, Debug, PartialEq, Eq)]
+pub struct Path {
+    pub start: usize,
+    pub steps: Vec<(u8, usize)>,
+}
+
+pub type Entry = (Path, u64);
+
+#[derive(Clone, Copy, Debug, PartialEq, Eq)]
+pub enum Verdict {
+    Visible,
+    Shadowed,
+    Unreached,
+}
+
+pub fn end(cell: u8) -> Option<u8> {
+    cell.checked_sub(1)
+}
+
+impl Path {
+    fn last(&self) -> usize {
+        self.steps.last().map_or(self.start, |step| step.1)
+    }
+
+    fn visits(&self, scope: usize) -> bool {
+        self.start == scope || self.steps.iter().any(|step| step.1 == scope)
+    }
+}
+
+impl Graph {
+    pub fn of(gym: &Gym) -> Graph {
+        Graph {
+            order: gym.order.iter().map(|&(a, b)| (end(a), end(b))).collect(),
+            labels: gym.labels.len() as u8,
+            transitions: gym
+                .transitions
+                .iter()
+                .map(|t| (t.state, t.label, t.next))
+                .collect(),
+            accepts: gym.accepts.clone(),
+            scopes: gym.scopes as usize,
+            edges: gym
+                .edges
+                .iter()
+                .map(|e| (e.from as usize, e.label, e.to as usize))
+                .collect(),
+            declarations: gym
+                .declarations
+                .iter()
+                .map(|d| (d.at as usize, d.name, u64::from(d.mark)))
+                .collect(),
+        }
+    }
+
+    fn states(&self) -> usize {
+        let named = self
+            .transitions
+            .iter()
+            .flat_map(|t| [t.0, t.2])
+            .chain(self.accepts.iter().copied());
+        1 + named.max().unwrap_or(0) as usize
+    }
+
+    fn paths(&self, start: usize) -> Vec<Path> {
+        let mut paths = vec![Path {
+            start,
+            steps: Vec::new(),
+        }];
+        let mut at = 0;
+        while at < paths.len() {
+            let path = paths[at].clone();
+            for &(from, label, to) in &self.edges {
+                if from == path.last() && !path.visits(to) {
+                    let mut longer = path.clone();
+                    longer.steps.push((label, to));
+                    paths.push(longer);
+                }
+            }
+            at += 1;
+        }
+        paths
+    }
+
+    fn lawful(&self, path: &Path) -> bool {
+        let mut state = 0;
+        for step in &path.steps {
+            match self
+                .transitions
+                .iter()
+                .find(|t| t.0 == state && t.1 == step.0)
+            {
+                Some(t) => state = t.2,
+                None => return false,
+            }
+        }
+        self.accepts.contains(&state)
+    }
+
+    fn marks(&self, scope: usize, name: u128) -> impl Iterator<Item = u64> + '_ {
+        self.declarations
+            .iter()
+            .filter(move |d| d.0 == scope && d.1 == name)
+            .map(|d| d.2)
+    }
+
+    fn reached(&self, start: usize, name: u128) -> Vec<Path> {
+        let mut paths = self.paths(start);
+        paths.retain(|p| self.lawful(p) && self.marks(p.last(), name).next().is_some());
+        paths
+    }
+
+    pub fn more_specific(&self, p: &Path, q: &Path) -> bool {
+        if p.start != q.start {
+            return false;
+        }
+        for i in 0.. {
+            let (a, b) = (p.steps.get(i), q.steps.get(i));
+            if a != b {
+                return self.order.contains(&(a.map(|s| s.0), b.map(|s| s.0)));
+            }
+            if a.is_none() {
+                return false;
+            }
+        }
+        false
+    }
+
+    /// What a query sees, in the listing's order.
+    pub fn entries(&self, start: usize, name: u128) -> Vec<Entry> {
+        let reached = self.reached(start, name);
+        let mut entries = Vec::new();
+        for path in &reached {
+            if !reached.iter().any(|other| self.more_specific(other, path)) {
+                for mark in self.marks(path.last(), name) {
+                    entries.push((path.clone(), mark));
+                }
+            }
+        }
+        entries.sort_by(listing_order);
+        entries
+    }
+
+    pub fn verdict(&self, start: usize, name: u128, path: &Path, mark: u64) -> Verdict {
+        let reached = self.reached(start, name);
+        if !reached.contains(path) || !self.marks(path.last(), name).any(|m| m == mark) {
+            Verdict::Unreached
+        } else if reached.iter().any(|other| self.more_specific(other, path)) {
+            Verdict::Shadowed
+        } else {
+            Verdict::Visible
+        }
+    }
+
+    /// A completion that adds to the old scopes at one pair only, as much as can matter: a
+    /// declaration with an unused mark, or an edge into a chain of new scopes, as many as there are
+    /// states, linked by every label, that all declare the name.
+    fn fullest(&self, name: u128, scope: usize, end: Option<u8>) -> Graph {
+        let mut graph = self.clone();
+        let unused = 1 + self.declarations.iter().map(|d| d.2).max().unwrap_or(0);
+        match end {
+            None => graph.declarations.push((scope, name, unused)),
+            Some(label) => {
+                graph.edges.push((scope, label, self.scopes));
+                graph.scopes += self.states();
+                for new in self.scopes..graph.scopes {
+                    graph.declarations.push((new, name, unused));
+                    for label in 0..self.labels {
+                        if new + 1 < graph.scopes {
+                            graph.edges.push((new, label, new + 1));
+                        }
+                    }
+                }
+            }
+        }
+        graph
+    }
+
+    pub fn decisive(&self, start: usize, name: u128, scope: usize, end: Option<u8>) -> bool {
+        self.fullest(name, scope, end).entries(start, name) != self.entries(start, name)
+    }
+}
+
+/// An ended path first, then label number, then scope; equal paths by mark.
+fn listing_order(a: &Entry, b: &Entry) -> Ordering {
+    for i in 0.. {
+        match (a.0.steps.get(i), b.0.steps.get(i)) {
+            (None, None) => break,
+            (None, Some(_)) => return Ordering::Less,
+            (Some(_), None) => return Ordering::Greater,
+            (Some(x), Some(y)) if x != y => return x.cmp(y),
+            _ => {}
+        }
+    }
+    a.1.cmp(&b.1)
+}
+
+/// The first decisive open pair.
+pub fn awaits(gym: &Gym, query: Query) -> Option<(u8, u8)> {
+    let graph = Graph::of(gym);
+    let mut open = gym.open.clone();
+    open.sort();
+    open.into_iter().find(|&(scope, e)| {
+        graph.decisive(query.start as usize, query.name, scope as usize, end(e))
+    })
+}
+
+/// A query's listing.
+pub fn listing(gym: &Gym, query: Query) -> Vec<u8> {
+    let entries = Graph::of(gym).entries(query.start as usize, query.name);
+    let found = match entries.len() {
+        0 => "none",
+        1 => "one",
+        _ => "several",
+    };
+    let awaits = match awaits(gym, query) {
+        None => "-".to_string(),
+        Some((scope, 0)) => format!("{scope}$"),
+        Some((scope, e)) => format!("{scope}{}", gym.labels[e as usize - 1] as char),
+    };
+    let name: String = query
+        .name
+        .to_be_bytes()
+        .iter()
+        .filter(|&&b| b != 0)
+        .map(|&b| b as char)
+        .collect();
+    let mut out = format!(
+        "start seek found awaits\n{} {name} {found} {awaits}\nmark path\n",
+        query.start
+    );
+    for (path, mark) in entries {
+        out += &format!("{mark} {}", path.start);
+        for (label, scope) in path.steps {
+            out += &format!("{}{scope}", gym.labels[label as usize] as char);
+        }
+        out += "\n";
+    }
+    out.into_bytes()
+}

@@ -1,0 +1,9 @@
+//! A plain Rust implementation of document 01, written apart from the proved one, to measure and
+//! to test that one against. Nothing here is proved.
+
+pub mod answers;
+pub mod enumerate;
+pub mod gym;
+pub mod path_row;
+pub mod random;
+pub mod search;

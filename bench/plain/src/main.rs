@@ -1,0 +1,15 @@
+//! Reads a gym file from standard input and prints each query's listing, then the summary.
+
+use std::io::{self, Read, Write};
+
+fn main() -> io::Result<()> {
+    let mut text = Vec::new();
+    // One byte past the longest file is enough to refuse it.
+    io::stdin()
+        .lock()
+        .take(plain::gym::LONGEST as u64 + 1)
+        .read_to_end(&mut text)?;
+    io::stdout()
+        .lock()
+        .write_all(&plain::answers::program(&text))
+}

@@ -1,0 +1,352 @@
+//! Random gyms, path rows, and damage to them. The same seed gives the same inputs everywhere.
+
+pub struct Rng(u64);
+
+impl Rng {
+    pub fn new(seed: u64) -> Rng {
+        Rng(seed.wrapping_mul(0x9E37_79B9_7F4A_7C15) | 1)
+    }
+
+    fn next(&mut self) -> u64 {
+        self.0 ^= self.0 >> 12;
+        self.0 ^= self.0 << 25;
+        self.0 ^= self.0 >> 27;
+        self.0.wrapping_mul(0x2545_F491_4F6C_DD1D)
+    }
+
+    pub fn below(&mut self, n: usize) -> usize {
+        ((self.next() >> 33) % n as u64) as usize
+    }
+
+    pub fn pick<'a, T>(&mut self, items: &'a [T]) -> &'a T {
+        &items[self.below(items.len())]
+    }
+
+    fn shuffle<T>(&mut self, items: &mut [T]) {
+        for i in (1..items.len()).rev() {
+            items.swap(i, self.below(i + 1));
+        }
+    }
+}
+
+/// How large the random gyms are at most.
+#[derive(Clone, Copy)]
+pub struct Size {
+    pub labels: usize,
+    pub states: usize,
+    pub scopes: usize,
+    pub edges: usize,
+    pub declarations: usize,
+    pub open: usize,
+    pub queries: usize,
+}
+
+pub const SMALL: Size = Size {
+    labels: 3,
+    states: 3,
+    scopes: 5,
+    edges: 12,
+    declarations: 8,
+    open: 4,
+    queries: 3,
+};
+
+/// For tests of program against program, where nothing is enumerated.
+pub const MIDDLE: Size = Size {
+    labels: 5,
+    states: 6,
+    scopes: 14,
+    edges: 40,
+    declarations: 14,
+    open: 20,
+    queries: 12,
+};
+
+/// Ascending, and one a beginning of the other.
+const NAMES: [&str; 2] = ["service", "service_2"];
+const MARKS: [usize; 6] = [0, 1, 2, 10, 99, 65_535];
+
+/// Up to `most` different numbers below `all`, ascending.
+fn subset(rng: &mut Rng, all: usize, most: usize) -> Vec<usize> {
+    let count = rng.below(most.min(all) + 1);
+    let mut chosen: Vec<usize> = (0..all).collect();
+    rng.shuffle(&mut chosen);
+    chosen.truncate(count);
+    chosen.sort();
+    chosen
+}
+
+/// A strict order on the ends 0 to `ends` - 1: pairs from a random line, closed under chains.
+fn order(rng: &mut Rng, ends: usize) -> Vec<(usize, usize)> {
+    let mut line: Vec<usize> = (0..ends).collect();
+    rng.shuffle(&mut line);
+    let density = rng.below(5);
+    let mut less = vec![vec![false; ends]; ends];
+    for i in 0..ends {
+        for j in i + 1..ends {
+            less[i][j] = rng.below(4) < density;
+        }
+    }
+    for k in 0..ends {
+        for i in 0..ends {
+            for j in 0..ends {
+                less[i][j] |= less[i][k] && less[k][j];
+            }
+        }
+    }
+    let mut pairs = Vec::new();
+    for i in 0..ends {
+        for j in 0..ends {
+            if less[i][j] {
+                pairs.push((line[i], line[j]));
+            }
+        }
+    }
+    pairs.sort();
+    pairs
+}
+
+/// A gym file's text that is accepted.
+pub fn gym(rng: &mut Rng, size: Size) -> Vec<u8> {
+    let mut letters: Vec<char> = ('A'..='Z').collect();
+    rng.shuffle(&mut letters);
+    // Mostly with labels; a gym without any has one-scope paths only.
+    let labels = if rng.below(20) == 0 {
+        0
+    } else {
+        1 + rng.below(size.labels)
+    };
+    let letters = &letters[..labels];
+    let end = |e: usize| if e == 0 { '$' } else { letters[e - 1] };
+    let states = 1 + rng.below(size.states);
+    let scopes = 1 + rng.below(size.scopes);
+    let mut text = String::from("label\n");
+    for letter in letters {
+        text += &format!("{letter}\n");
+    }
+    text += "less more\n";
+    for (a, b) in order(rng, labels + 1) {
+        text += &format!("{} {}\n", end(a), end(b));
+    }
+    text += "state label next\n";
+    let sparse = rng.below(3);
+    for state in 0..states {
+        for letter in letters {
+            if sparse == 0 || rng.below(4) > 0 {
+                text += &format!("{state} {letter} {}\n", rng.below(states));
+            }
+        }
+    }
+    text += "accept\n";
+    for state in 0..states {
+        if rng.below(3) > 0 {
+            text += &format!("{state}\n");
+        }
+    }
+    text += &format!("scopes\n{scopes}\nfrom label to\n");
+    for edge in subset(rng, scopes * labels * scopes, size.edges) {
+        let (from, label, to) = (
+            edge / scopes / labels,
+            edge / scopes % labels,
+            edge % scopes,
+        );
+        text += &format!("{from} {} {to}\n", letters[label]);
+    }
+    text += "at name mark\n";
+    let each = NAMES.len() * MARKS.len();
+    for decl in subset(rng, scopes * each, size.declarations) {
+        let (at, rest) = (decl / each, decl % each);
+        text += &format!(
+            "{at} {} {}\n",
+            NAMES[rest / MARKS.len()],
+            MARKS[rest % MARKS.len()]
+        );
+    }
+    text += "at open\n";
+    for open in subset(rng, scopes * (labels + 1), size.open) {
+        text += &format!("{} {}\n", open / (labels + 1), end(open % (labels + 1)));
+    }
+    text += "start seek\n";
+    for _ in 0..rng.below(size.queries + 1) {
+        text += &format!("{} {}\n", rng.below(scopes), rng.pick(&NAMES));
+    }
+    text.into_bytes()
+}
+
+const BYTES: &[u8] = b"0123456789 \n\n$ABIPZ[@abz_`{-/:+\x00\x7f\x80\xff";
+const PIECES: [&str; 26] = [
+    "0",
+    "1",
+    "15",
+    "16",
+    "63",
+    "64",
+    "65",
+    "00",
+    "05",
+    "65535",
+    "65536",
+    "99999",
+    "100000",
+    "$",
+    "I",
+    "P",
+    "Z",
+    "service",
+    "hours",
+    "a",
+    "abcdefghijklmnop",
+    "abcdefghijklmnopq",
+    " ",
+    "\n",
+    "accept",
+    "start seek",
+];
+
+/// One to three small faults in a text; it may still be accepted.
+pub fn damage(rng: &mut Rng, text: &[u8]) -> Vec<u8> {
+    let mut text = text.to_vec();
+    for _ in 0..1 + rng.below(3) {
+        damage_once(rng, &mut text);
+    }
+    text
+}
+
+fn damage_once(rng: &mut Rng, text: &mut Vec<u8>) {
+    let at = rng.below(text.len() + 1);
+    match rng.below(10) {
+        0 => text.truncate(at),
+        1 => text.insert(at, *rng.pick(BYTES)),
+        2 if at < text.len() => {
+            text.remove(at);
+        }
+        3 if at < text.len() => text[at] = *rng.pick(BYTES),
+        4 => {
+            let piece = *rng.pick(&PIECES);
+            text.splice(at..at, piece.bytes());
+        }
+        5 if at < text.len() => {
+            // A whole field is replaced.
+            let is_gap = |b: &u8| *b == b' ' || *b == b'\n';
+            let from = text[..at].iter().rposition(is_gap).map_or(0, |i| i + 1);
+            let to = text[at..]
+                .iter()
+                .position(is_gap)
+                .map_or(text.len(), |i| at + i);
+            if from <= to {
+                let piece = *rng.pick(&PIECES);
+                text.splice(from..to, piece.bytes());
+            }
+        }
+        _ => {
+            // Lines are dropped, doubled, swapped or moved; the row limits are met by doubling many times.
+            let mut lines: Vec<Vec<u8>> = text
+                .split_inclusive(|&b| b == b'\n')
+                .map(<[u8]>::to_vec)
+                .collect();
+            if lines.is_empty() {
+                return;
+            }
+            let (a, b) = (rng.below(lines.len()), rng.below(lines.len()));
+            match rng.below(5) {
+                0 => {
+                    lines.remove(a);
+                }
+                1 => lines.insert(a, lines[a].clone()),
+                2 => lines.swap(a, b),
+                3 => {
+                    let line = lines.remove(a);
+                    lines.insert(b.min(lines.len()), line);
+                }
+                _ => {
+                    let line = lines[a].clone();
+                    let times = rng.below(40);
+                    lines.splice(a..a, std::iter::repeat_n(line, times));
+                }
+            }
+            *text = lines.concat();
+        }
+    }
+}
+
+/// A path row that may or may not be a path of the text's graph: scopes below `scopes`, letters
+/// mostly of `letters`.
+pub fn path_row(rng: &mut Rng, scopes: usize, letters: &[u8]) -> Vec<u8> {
+    let mut row = format!("{} {}", rng.pick(&MARKS), rng.below(scopes)).into_bytes();
+    for _ in 0..rng.below(5) {
+        let listed = !letters.is_empty() && rng.below(8) > 0;
+        row.push(if listed {
+            *rng.pick(letters)
+        } else {
+            b'A' + rng.below(26) as u8
+        });
+        row.extend(rng.below(scopes).to_string().bytes());
+    }
+    row
+}
+
+/// A path row with a fault, or a very long one.
+pub fn damaged_row(rng: &mut Rng, row: &[u8]) -> Vec<u8> {
+    let mut row = row.to_vec();
+    if rng.below(6) == 0 {
+        for _ in 0..60 + rng.below(8) {
+            row.push(b'A' + rng.below(26) as u8);
+            let scopes = if rng.below(30) == 0 { 70 } else { 64 };
+            row.extend(rng.below(scopes).to_string().bytes());
+        }
+        return row;
+    }
+    let at = rng.below(row.len() + 1);
+    match rng.below(4) {
+        0 => row.truncate(at),
+        1 => row.insert(at, *rng.pick(BYTES)),
+        2 if at < row.len() => {
+            row.remove(at);
+        }
+        _ => {
+            let piece = *rng.pick(&PIECES);
+            row.splice(at..at, piece.bytes());
+        }
+    }
+    row
+}
+
+/// Some cells of a graph table changed, dropped or added.
+pub fn damaged_table(rng: &mut Rng, cells: &[u64]) -> Vec<u64> {
+    let mut cells = cells.to_vec();
+    for _ in 0..1 + rng.below(2) {
+        if cells.is_empty() {
+            return cells;
+        }
+        let at = rng.below(cells.len());
+        let odd = [
+            0,
+            1,
+            2,
+            5,
+            8,
+            9,
+            15,
+            16,
+            64,
+            65,
+            90,
+            91,
+            99_999,
+            100_000,
+            1 << 32,
+            u64::MAX,
+        ];
+        match rng.below(5) {
+            0 => cells.truncate(at),
+            1 => {
+                let row = at / 6 * 6;
+                cells.drain((row + 1).min(cells.len())..(row + 7).min(cells.len()));
+            }
+            2 => cells[at] = cells[at].wrapping_add(1),
+            3 => cells[at] = cells[at].wrapping_sub(1),
+            _ => cells[at] = *rng.pick(&odd),
+        }
+    }
+    cells
+}
