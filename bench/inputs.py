@@ -105,9 +105,9 @@ def realistic():
             g.decls.add((w, name, 200 + w))
     bases = profiles[:9]
     for p in profiles[9:]:
-        for b in r.some(bases, 1 + r.below(2)):
+        for b in r.some(bases, 1 + (r.below(4) == 0)):
             g.edges.add((p, I, b))
-        for name in r.some(names, 1 + r.below(3)):
+        for name in r.some(names, 2 + r.below(3)):
             g.decls.add((p, name, 1000 + 10 * p + r.below(10)))
     for i, b in enumerate(bases):
         if i > 0:
@@ -117,7 +117,7 @@ def realistic():
     g.edges.add((bases[0], I, bases[8]))  # families that import one another
     for n, lane in enumerate(lanes):
         g.edges.add((lane, P, walls[n // 4]))
-        for p in r.some(profiles[9:], 1 + r.below(3)):
+        for p in r.some(profiles[9:], 1 + (r.below(4) == 0)):
             g.edges.add((lane, I, p))
         if r.below(3) == 0:
             g.decls.add((lane, r.pick(names), 3000 + lane))

@@ -165,7 +165,7 @@ impl Admission {
             End => cell <= self.labels.len() as u64,
             Label => cell < self.labels.len() as u64,
             State => cell < 16,
-            Count => 1 <= cell && cell <= 64,
+            Count => (1..=64).contains(&cell),
             Scope => cell < self.scopes,
             Mark => cell <= 65_535,
         }
