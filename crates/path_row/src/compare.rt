@@ -60,7 +60,7 @@ fn count_rows(cells: &[u64], at: usize, k: u64, most: usize) -> usize
 }
 
 // The number of a letter among the labels, or one past theirs if it is not listed.
-fn label_number(cells: &[u64], x: u8) -> u64
+pub fn label_number(cells: &[u64], x: u8) -> u64
     ensures { λ r. ⌜ r ≡ labelNumber (scannedLetters (now (cells .entry))) x ⌝ }
 {
     let mut n: u64 = 0;

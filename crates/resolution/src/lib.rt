@@ -7,5 +7,7 @@ mod walks;
 
 pub use lists::listing;
 pub use lists::listing_of;
+pub use parts::row_count;
+pub use parts::row_value;
 pub use sums::summary;
 pub use sums::summary_of;

@@ -1,0 +1,117 @@
+-- Laws of one step of a path row: rows looked through one by one, the state after a hop, the ends that are cut. Assumes nothing.
+use mathlib.Core.Path.{_≡_, refl, sym, ap, _∙_}
+use mathlib.Core.Bool.{Bool, true, false, not, _&&_, _||_, and-false, and-true}
+use mathlib.Core.List.{List, [], _∷_, map}
+use Prim.Native.Nat.{ℕ, zero, suc, _+_, _-_, _≤_, _<_}
+use native.Mathlib.Omega.{arith}
+use native.Mathlib.Numerals.{add-one}
+use borrow.Author.Tests.{eq-eqb, ne-eqb}
+use lib.Dec.{eqb}
+use lib.ListN.{length, getD, drop, drop-of-length-le}
+use lib.Seq.{drop-cons}
+use Rattle.scope_graph.specs.Language.{End, stop, by}
+use Rattle.scope_graph.specs.Order.{endOf}
+use Rattle.scope_graph.specs.Path.{HopOf}
+use Rattle.scope_graph.specs.Rows.{anyOf}
+use Rattle.graph_file.specs.Admission.{Row, value, blank}
+use Rattle.search.specs.Board.{Board, cutHere, cutAlong}
+use Rattle.search.specs.Tables.{nextCell, freeFlag, endNumber, tableOrder}
+use Rattle.search.specs.Steps.{hopTo}
+use Rattle.search.proofs.RulesLists.{anyOf-no}
+use Rattle.search.proofs.Cells.{pair-no-second}
+use Rattle.prepared.specs.Sections.{rowsOf}
+use Rattle.judge.specs.Steps.{rowIs, hasRow, stateOn, stateAlong}
+
+-- a row's values one by one
+module _ (four : Bool) (a b c d : ℕ) (row : Row) (v0 : ℕ) (e0 : v0 ≡ value row 0) where
+  pub row-apart : (v0 ≡ a → ⊥) → false ≡ rowIs four a b c d row
+  unfolding rowIs
+  row-apart h = rw (← e0, ne-eqb v0 a h)
+
+  module _ (h : v0 ≡ a) (v1 : ℕ) (e1 : v1 ≡ value row 1) where
+    pub row-apart-1 : (v1 ≡ b → ⊥) → false ≡ rowIs four a b c d row
+    unfolding rowIs
+    row-apart-1 k = rw (← e0, eq-eqb v0 a h, ← e1, ne-eqb v1 b k)
+
+    module _ (k : v1 ≡ b) (v2 : ℕ) (e2 : v2 ≡ value row 2) where
+      pub row-apart-2 : (v2 ≡ c → ⊥) → false ≡ rowIs four a b c d row
+      unfolding rowIs
+      row-apart-2 m = rw (← e0, eq-eqb v0 a h, ← e1, eq-eqb v1 b k, ← e2, ne-eqb v2 c m)
+
+      module _ (m : v2 ≡ c) where
+        pub row-three : four ≡ false → true ≡ rowIs four a b c d row
+        unfolding rowIs
+        row-three n = rw (← e0, eq-eqb v0 a h, ← e1, eq-eqb v1 b k, ← e2, eq-eqb v2 c m, n)
+
+        pub row-four : four ≡ true → (v3 : ℕ) → v3 ≡ value row 3 → eqb d v3 ≡ rowIs four a b c d row
+        unfolding rowIs
+        row-four n v3 e3 = rw (← e0, eq-eqb v0 a h, ← e1, eq-eqb v1 b k, ← e2, eq-eqb v2 c m, n, ← e3)
+
+-- rows from place i on
+module _ (four : Bool) (a b c d : ℕ) (rows : List Row) (i : ℕ) where
+  abbrev pub has : ℕ → Bool
+  has k = hasRow four a b c d (drop k rows)
+
+  pub has-none : length rows ≤ i → has i ≡ false
+  unfolding hasRow anyOf
+  has-none h = rw (drop-of-length-le rows {i = i} h)
+
+  module _ (h : i < length rows) (t : Bool) (e : t ≡ rowIs four a b c d (getD rows i blank)) where
+    pub has-here : t ≡ true → has i ≡ true
+    unfolding hasRow anyOf
+    has-here f = rw (drop-cons rows i blank h, ← e, f, anyOf)
+
+    pub has-on : t ≡ false → has i ≡ has (i + 1)
+    unfolding hasRow anyOf
+    has-on f = rw (drop-cons rows i blank h, ← e, f, anyOf, add-one i)
+
+-- the state after a hop
+module _ (delta free : List ℕ) (q l t : ℕ) where
+  pub on-taken : freeFlag free t ≡ false → stateOn delta free q (hopTo l t) ≡ 16
+  unfolding stateOn
+  on-taken h = rw (h, stateOn)
+
+  pub on-free : freeFlag free t ≡ true → stateOn delta free q (hopTo l t) ≡ nextCell delta q l
+  unfolding stateOn
+  on-free h = rw (h, stateOn)
+
+  module _ (edges : List ℕ) (s : ℕ) (u : Bool) (e : u ≡ hasRow false s l t 0 (rowsOf edges)) where
+    pub along-none : u ≡ false → stateAlong edges delta free s q (hopTo l t) ≡ 16
+    unfolding stateAlong
+    along-none h = rw (sym e ∙ h, stateAlong)
+
+    pub along-edge : u ≡ true → stateAlong edges delta free s q (hopTo l t) ≡ stateOn delta free q (hopTo l t)
+    unfolding stateAlong
+    along-edge h = rw (sym e ∙ h, stateAlong)
+
+-- an end that is cut here
+module _ (b : Board ℕ) (order : List ℕ) (free : ℕ → Bool) (s q : ℕ) where
+  end-never : (c : ℕ) → 9 ≤ c → (x : End ℕ) → tableOrder order x (endOf c) ≡ false
+  unfolding tableOrder endNumber endOf
+  end-never zero h x = absurd (omega arith)
+  end-never (suc c) h x = pair-no-second order (endNumber x) (suc c) h
+
+  pub cut-no-fuel : (fuel : ℕ) (hs : List (HopOf ℕ)) (e : End ℕ) → fuel ≡ 0 → cutAlong b (tableOrder order) fuel free s q hs e ≡ false
+  unfolding cutAlong
+  cut-no-fuel fuel hs e h = rw h
+
+  pub cut-no-end : (fuel c : ℕ) → 9 ≤ c → cutAlong b (tableOrder order) fuel free s q [] (endOf c) ≡ false
+  unfolding cutAlong cutHere
+  cut-no-end zero c h = refl
+  cut-no-end (suc fuel) c h = rw (end-never c h stop, and-false (b .here s q)) (anyOf-no _ (b .hops s) (λ y m. rw (end-never c h (by (y .step)))))
+
+  pub cut-no-label : (fuel l : ℕ) → 8 ≤ l → cutAlong b (tableOrder order) fuel free s q [] (by l) ≡ false
+  unfolding endOf
+  cut-no-label fuel l h = cut-no-end fuel (suc l) (omega arith)
+
+  pub cut-label : (fuel l : ℕ) → cutAlong b (tableOrder order) fuel free s q [] (endOf (l + 1)) ≡ cutAlong b (tableOrder order) fuel free s q [] (by l)
+  unfolding endOf
+  cut-label fuel l = rw (add-one l)
+
+  pub cut-flag : (fuel c : ℕ) (cut : List ℕ) → (fuel ≡ 0 → ⊥) → c < 9
+      → ((k : ℕ) → k < 9 → freeFlag cut k ≡ cutHere b (tableOrder order) (fuel - 1) free s q (endOf k))
+      → eqb (getD cut c 0) 1 ≡ cutAlong b (tableOrder order) fuel free s q [] (endOf c)
+  unfolding cutAlong freeFlag
+  cut-flag fuel c cut h k flags =
+      let one : fuel ≡ suc (fuel - 1) = omega arith in
+      flags c k ∙ ap (λ (n : ℕ). cutAlong b (tableOrder order) n free s q [] (endOf c)) (sym one)

@@ -1,0 +1,6 @@
+-- What the proofs of several functions use, and the theorem that ties the judge to the rules. Assumes nothing.
+pub mod HopLaws
+pub mod WalkLaws
+pub mod Tied
+pub mod Calls
+pub mod Right

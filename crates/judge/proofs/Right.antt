@@ -1,0 +1,74 @@
+-- The judge's answer is the row's standing by the rules, and the only one (specs/Standing). Assumes nothing.
+use mathlib.Core.Path.{_≡_, refl, sym, ap, _∙_}
+use mathlib.Core.Logic.{_↔_}
+use mathlib.Core.List.{List}
+use Prim.Native.Nat.{ℕ, _≤_, _<_}
+use borrow.Author.Tests.{lt-leb, le-ltb}
+use lib.ListN.{length}
+use Rattle.scope_graph.specs.Language.{Language}
+use Rattle.scope_graph.specs.Graph.{Graph, Query}
+use Rattle.scope_graph.specs.Path.{PathRow as RulesRow}
+use Rattle.scope_graph.specs.Rows.{language}
+use Rattle.scope_graph.specs.Computed.{Standing, is-visible, is-shadowed, is-unreached, judged}
+use Rattle.scope_graph.specs.Promises.{QueryPromises}
+use Rattle.scope_graph.proofs.Promises.{promises}
+use Rattle.graph_file.specs.Outcome.{Outcome, refused, done, andThen, refuseIf}
+use Rattle.graph_file.specs.File.{readCells}
+use Rattle.graph_file.specs.Decode.{rulesOf, graphOf, opensOf, queriesOf, scopesOf}
+use Rattle.path_row.specs.Form.{PathRow, rowHere}
+use Rattle.resolution.specs.Listing.{queryAt}
+use Rattle.resolution.proofs.Demand.{getD-in}
+use Rattle.resolution.proofs.Given.{accepted}
+use Rattle.judge.specs.Judge.{ruled, judgeOf, judgeAnswer}
+use Rattle.judge.specs.Standing.{Stands, JudgedRight}
+
+done-same : {A : Type 0} (a b : A) → _≡_ {A = Outcome A} (done a) (done b) → a ≡ b
+done-same a b e = cc
+
+module _ (text cells : List ℕ) (read : readCells text ≡ done cells) (i : ℕ) (inside : i < length (queriesOf cells)) (row : List ℕ) (p : PathRow)
+    (row-is : rowHere row ≡ done p) (room : ℕ) (fits : length (p .steps) ≤ room) where
+  abbrev L : Language
+  L = language (rulesOf cells)
+
+  abbrev g : Graph L
+  g = graphOf cells
+
+  abbrev q : Query L
+  q = queryAt cells i
+
+  abbrev found : Standing
+  found = judged L g q (ruled cells p)
+
+  starts : queryAt cells i .start < scopesOf cells
+  unfolding queryAt
+  starts = accepted cells (text, read) .starts (queryAt cells i) (getD-in (queriesOf cells) i _ inside)
+
+  kept : QueryPromises L g (opensOf cells) q
+  kept = promises .query L g (opensOf cells) q (accepted cells (text, read) .accepted q starts)
+
+  answer-is : judgeAnswer text i row room ≡ done found
+  unfolding judgeAnswer judgeOf andThen refuseIf
+  answer-is = rw (read, lt-leb (length (queriesOf cells)) i inside, row-is, le-ltb room (length (p .steps)) fits)
+
+  by-rules : (s : Standing) → (found ≡ s) ↔ Stands cells i p s
+  by-rules is-visible = kept .judged-visible (ruled cells p)
+  by-rules is-shadowed = kept .judged-shadowed (ruled cells p)
+  by-rules is-unreached = kept .judged-unreached (ruled cells p)
+
+  pub answers : (s : Standing) → (judgeAnswer text i row room ≡ done s) ↔ Stands cells i p s
+  answers s = (λ e. by-rules s .0 (done-same found s (sym answer-is ∙ e)), λ k. answer-is ∙ ap {B = Outcome Standing} (λ (z : Standing). done z) (by-rules s .1 k))
+
+  pub holds : Stands cells i p found
+  holds = by-rules found .0 refl
+
+  pub no-other : (s : Standing) → Stands cells i p s → s ≡ found
+  no-other s k = sym (by-rules s .1 k)
+
+-- every answer is right
+pub judged-right : JudgedRight
+judged-right text cells read i inside row p row-is room fits = record {
+  answered = answers text cells read i inside row p row-is room fits;
+  standing = judged (language (rulesOf cells)) (graphOf cells) (queryAt cells i) (ruled cells p);
+  stands = holds text cells read i inside row p row-is room fits;
+  only = no-other text cells read i inside row p row-is room fits;
+}

@@ -1,0 +1,39 @@
+-- A path row judged for a query of a gym file (document 01, "Paths" and "Who can cause a refusal"). Assumes nothing: these are definitions.
+use Prim.Native.Nat.{ℕ}
+use mathlib.Core.List.{List}
+use lib.Dec.{leb, ltb}
+use lib.ListN.{length}
+use Rattle.scope_graph.specs.Rows.{language}
+use Rattle.scope_graph.specs.Path.{PathRow as RulesRow}
+use Rattle.scope_graph.specs.Computed.{Standing, is-visible, is-shadowed, is-unreached, judged}
+use Rattle.graph_file.specs.Outcome.{Outcome, refused, done, andThen, refuseIf}
+use Rattle.graph_file.specs.File.{readCells}
+use Rattle.graph_file.specs.Decode.{rulesOf, graphOf, queriesOf, lettersOf}
+use Rattle.path_row.specs.Form.{PathRow, rowHere}
+use Rattle.path_row.specs.Compare.{pathOf}
+use Rattle.resolution.specs.Listing.{queryAt}
+use Rattle.judge.specs.declared.standing.Judged.{Judged}
+use Rattle.judge.specs.declared.standing.Judged.the-variants.{Visible, Shadowed, Unreached, Refused}
+
+-- what an answer means: a refusal by its number, or one of the three standings (01, "Where each language form goes")
+unfoldable pub meaning : Judged → Outcome Standing
+meaning Visible = done is-visible
+meaning Shadowed = done is-shadowed
+meaning Unreached = done is-unreached
+meaning (Refused n) = refused n
+
+-- The row as the rules have it: its steps by their labels' numbers. A letter that is not listed has a number that no edge has.
+unfoldable pub ruled : (cells : List ℕ) → PathRow → RulesRow (language (rulesOf cells))
+ruled cells p = record { mark = p .mark; path = pathOf (rulesOf cells) (lettersOf cells) p }
+
+-- With the graph table in hand: 7 where there is no query i, 8 for a row that is none, 9 where its steps outnumber the records lent for them.
+unfoldable pub judgeOf : List ℕ → ℕ → List ℕ → ℕ → Outcome Standing
+judgeOf cells i row room =
+    refuseIf (leb (length (queriesOf cells)) i) 7
+    (andThen (rowHere row) (λ p.
+    refuseIf (ltb room (length (p .steps))) 9
+    (done (judged (language (rulesOf cells)) (graphOf cells) (queryAt cells i) (ruled cells p)))))
+
+-- The whole call: first the file's refusals, 1 to 6.
+unfoldable pub judgeAnswer : List ℕ → ℕ → List ℕ → ℕ → Outcome Standing
+judgeAnswer text i row room = andThen (readCells text) (λ cells. judgeOf cells i row room)

@@ -1,0 +1,8 @@
+// A path row judged for a query of a gym file.
+mod hops;
+mod standing;
+mod text;
+
+pub use standing::Judged;
+pub use text::judge_of;
+pub use text::judge_text;
