@@ -4,3 +4,4 @@ pub mod WalkLaws
 pub mod Tied
 pub mod Calls
 pub mod Right
+pub mod LentLaws

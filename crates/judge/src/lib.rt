@@ -1,8 +1,10 @@
 // A path row judged for a query of a gym file.
 mod hops;
+mod lent;
 mod standing;
 mod text;
 
+pub use lent::judge;
 pub use standing::Judged;
 pub use text::judge_of;
 pub use text::judge_text;
