@@ -206,27 +206,23 @@ answered-refused a n out b e f = rw e f
 pub queries-counted : (cells : List ℕ) → WasRead cells → (rows : List ℕ) → rows ≡ partOf querySection cells → length rows / 6 ≡ length (queriesOf cells)
 queries-counted cells was rows part = count-is cells was rows 0 (length rows / 6) part (rows-count rows)
 
--- a part in a buffer of the program's own
-module _ (cells : List ℕ) (i : ℕ) (o h : List ℕ) (k : ℕ) (room : length o ≡ lent) (e : _≡_ {A = Buf} (h, k) (puts (o, 0) (partText (length o) cells i))) where
-  own-part : _≡_ {A = Buf} (h, k) (puts (o, 0) (partText lent cells i))
-  own-part = e ∙ ap (λ (n : ℕ). puts (o, 0) (partText n cells i)) room
+-- a text that stands in the first k bytes of a buffer of the program's own
+pub record Stands (text h : List ℕ) (k : ℕ) : Type 0 where
+  pub within : k ≤ length h
+  pub taken : k ≡ length (take k h)
+  pub whole : take k h ≡ text
+  pub size : k ≡ length text
 
-  own-fits : length (partText lent cells i) ≤ length o
-  own-fits = let s = part-short lent cells i (omega arith) in omega arith
+stands : (text o h : List ℕ) (k : ℕ) → _≡_ {A = Buf} (h, k) (puts (o, 0) text) → length text ≤ length o → Stands text h k
+stands text o h k e fits =
+    let w = own-within text o h k e fits in
+    let f = head-fits o h k text e fits in
+    record { within = w .0; taken = w .1; whole = f .1; size = f .0 }
 
-  pub part-within : (k ≤ length h) × (k ≡ length (take k h))
-  part-within = own-within (partText lent cells i) o h k own-part own-fits
+pub part-stands : (cells : List ℕ) (i : ℕ) (o h : List ℕ) (k : ℕ) → length o ≡ lent → _≡_ {A = Buf} (h, k) (puts (o, 0) (partText (length o) cells i))
+    → Stands (partText lent cells i) h k
+part-stands cells i o h k room e =
+    stands (partText lent cells i) o h k (e ∙ ap (λ (n : ℕ). puts (o, 0) (partText n cells i)) room) (let s = part-short lent cells i (omega arith) in omega arith)
 
-  pub part-size : k ≡ length (partText lent cells i)
-  part-size = head-fits o h k (partText lent cells i) own-part own-fits .0
-
--- a refusal's line in one of 32 bytes
-module _ (n : ℕ) (small : n < 18446744073709551616) (o h : List ℕ) (k : ℕ) (room : length o ≡ 32) (e : _≡_ {A = Buf} (h, k) (puts (o, 0) (refusedLine n))) where
-  line-fits : length (refusedLine n) ≤ length o
-  line-fits = let s = refused-short n small in omega arith
-
-  pub line-within : (k ≤ length h) × (k ≡ length (take k h))
-  line-within = own-within (refusedLine n) o h k e line-fits
-
-  pub line-size : k ≡ length (refusedLine n)
-  line-size = head-fits o h k (refusedLine n) e line-fits .0
+pub line-stands : (n : ℕ) → n < 18446744073709551616 → (o h : List ℕ) (k : ℕ) → length o ≡ 32 → _≡_ {A = Buf} (h, k) (puts (o, 0) (refusedLine n)) → Stands (refusedLine n) h k
+line-stands n small o h k room e = stands (refusedLine n) o h k e (let s = refused-short n small in omega arith)

@@ -1,7 +1,7 @@
 // Lists the queries of the gym file on standard input, then the summary; for a refused file only its refusal.
 //
-// Proved is what each part of the output is, and how many bytes are handed over to be written in all. Not proved, since no contract can say it:
-// that the C library reads the whole input, and that it writes the bytes it is handed.
+// Proved is what each part of the output is, that these very bytes are handed over to be written, and how many they are in all. Not proved, since
+// no contract can say it: that the C library reads the whole input, and that it writes what it is handed.
 mod parts;
 
 use graph_file::Answer;
@@ -15,13 +15,26 @@ ghost use Rattle.resolution.specs.Asked.{WasRead};
 ghost use Rattle.resolve.specs.Printed.{refusedLine, lent, tableText, programText};
 ghost use Rattle.resolve.specs.Parts.{partText};
 
+// The two writes. What they write cannot be promised, so it is asked: the line of that refusal, the bytes of that part.
+fn write_line(n: u64, line: &[u8])
+    requires { ⌜ now line ≡ refusedLine n ⌝ }
+{
+    io::write_all(1, line);
+}
+
+fn write_part(table: &[u64], i: usize, part: &[u8])
+    requires { ⌜ now part ≡ partText lent (now table) i ⌝ }
+{
+    io::write_all(1, part);
+}
+
 // The line of a refused file; its length.
 fn print_refused(n: u64) -> usize
     ensures { λ r. ⌜ r ≡ length (refusedLine n) ⌝ }
 {
     let mut out = [0u8; 32];
     let k = put_refused(&mut out, n);
-    io::write_all(1, &out[..k]);
+    write_line(n, &out[..k]);
     k
 }
 
@@ -32,7 +45,7 @@ fn print_part(table: &[u64], i: usize) -> usize
 {
     let mut out = [0u8; 65536];
     let k = put_part(table, i, &mut out);
-    io::write_all(1, &out[..k]);
+    write_part(table, i, &out[..k]);
     k
 }
 

@@ -1,7 +1,7 @@
 -- `resolve::print_part` hands over the whole part: it fits the bytes lent for it. Assumes nothing.
 use Prim.Native.Nat.{ℕ}
 use lib.ListN.{length-replicate}
-use Rattle.resolve.proofs.Laws.{part-within, part-size}
+use Rattle.resolve.proofs.Laws.{part-stands}
 use borrow.Author.Needs.{needs}
 use Rattle.resolve.proofs.print_part.Statement.{statement}
 use Rattle.resolve.proofs.print_part.Tie as tie
@@ -13,16 +13,16 @@ put-part-requires : tie.Need-put-part-requires
 put-part-requires c κs = search needs
 
 array-share-prefix-out : tie.Need-array-share-prefix-out
-array-share-prefix-out c = part-within (c .before .before .before .before .args .table .now) (c .before .before .before .before .args .i) _ _ _ (length-replicate {A = ℕ} 65536 0) (c .before .put-part .ensures) .0
+array-share-prefix-out c = part-stands (c .before .before .before .before .args .table .now) (c .before .before .before .before .args .i) _ _ _ (length-replicate {A = ℕ} 65536 0) (c .before .put-part .ensures) .within
 
-slice-aggregate-write-all : tie.Need-slice-aggregate-write-all
-slice-aggregate-write-all c = part-within (c .before .before .before .before .before .args .table .now) (c .before .before .before .before .before .args .i) _ _ _ (length-replicate {A = ℕ} 65536 0) (c .before .before .put-part .ensures) .1
+slice-aggregate-write-part : tie.Need-slice-aggregate-write-part
+slice-aggregate-write-part c = part-stands (c .before .before .before .before .before .args .table .now) (c .before .before .before .before .before .args .i) _ _ _ (length-replicate {A = ℕ} 65536 0) (c .before .before .put-part .ensures) .taken
 
-write-all-requires : tie.Need-write-all-requires
-write-all-requires c κs = search needs
+write-part-requires : tie.Need-write-part-requires
+write-part-requires c κs = part-stands (c .before .before .before .before .before .args .table .now) (c .before .before .before .before .before .args .i) _ _ _ (length-replicate {A = ℕ} 65536 0) (c .before .before .put-part .ensures) .whole
 
 returns : tie.Need-returns
-returns c = part-size (c .before .before .before .before .before .before .args .table .now) (c .before .before .before .before .before .before .args .i) _ _ _ (length-replicate {A = ℕ} 65536 0) (c .before .before .before .put-part .ensures)
+returns c = part-stands (c .before .before .before .before .before .before .args .table .now) (c .before .before .before .before .before .before .args .i) _ _ _ (length-replicate {A = ℕ} 65536 0) (c .before .before .before .put-part .ensures) .size
 
 pub print-part-spec : {M : Type 1} → statement M
 print-part-spec =
@@ -31,6 +31,6 @@ print-part-spec =
     slice-aggregate-put-part
     put-part-requires
     array-share-prefix-out
-    slice-aggregate-write-all
-    write-all-requires
+    slice-aggregate-write-part
+    write-part-requires
     returns)
