@@ -1,0 +1,221 @@
+// Draws small gyms by chance, and compares for each of their queries what `resolution` answers with what a plain enumerator finds, byte for byte. The
+// enumerator shares no code with the search and goes by document 01 alone: for `awaits` it tries completions.
+mod cells;
+mod completed;
+mod drawn;
+mod due;
+mod gym;
+mod paths;
+mod rows;
+mod say;
+mod text;
+
+use cells::part;
+use cells::plus;
+use completed::NONE;
+use completed::ROWS;
+use completed::TOO_MANY;
+use graph_file::Answer;
+use gym::SIZE;
+use paths::MOST;
+use paths::ROOM;
+use resolution::listing;
+use resolution::summary;
+
+const GYMS: usize = 6000;
+
+// The bytes of a listing or a gym's text that are kept.
+const TEXT: usize = 17408;
+
+// How many queries of a gym are found none, one and several, and how many were left out.
+pub struct Found {
+    pub none: usize,
+    pub one: usize,
+    pub several: usize,
+    pub left_out: usize,
+}
+
+// One query more, of which so many entries are due.
+fn with_query(f: Found, entries: usize) -> Found {
+    let none = f.none;
+    let one = f.one;
+    let several = f.several;
+    let left_out = f.left_out;
+    if entries == 0 {
+        return Found {
+            none: plus(none, 1),
+            one,
+            several,
+            left_out,
+        };
+    }
+    if entries == 1 {
+        return Found {
+            none,
+            one: plus(one, 1),
+            several,
+            left_out,
+        };
+    }
+    if entries == usize::MAX {
+        return Found {
+            none,
+            one,
+            several,
+            left_out: plus(left_out, 1),
+        };
+    }
+    Found {
+        none,
+        one,
+        several: plus(several, 1),
+        left_out,
+    }
+}
+
+fn compare(counts: &mut [u64], text: &[u8], due: &[u8], got: &[u8]) {
+    say::add_to_sum(counts, got);
+    if !check::same(due, got) {
+        say::difference(counts, text, due, got);
+    }
+}
+
+// The place in the counts of what was found, and of what is awaited.
+fn found_place(entries: usize) -> usize {
+    match entries {
+        0 => say::FOUND,
+        1 => say::FOUND + 1,
+        _ => say::FOUND + 2,
+    }
+}
+
+fn awaits_place(pair: usize) -> usize {
+    if pair == NONE {
+        return say::SETTLED;
+    }
+    if pair % 4 == 0 {
+        return say::END;
+    }
+    say::LABEL
+}
+
+// The library's listing of query i, held to what is due.
+fn compare_listing(counts: &mut [u64], text: &[u8], i: usize, due: &[u8]) {
+    let mut out = [0u8; TEXT];
+    let a = listing(text, i, &mut out);
+    match a {
+        Answer::Written(n) => compare(counts, text, due, part(&out, 0, n)),
+        Answer::Refused(_) => compare(counts, text, due, b"refused\n"),
+    }
+}
+
+fn compare_summary(counts: &mut [u64], text: &[u8], due: &[u8]) {
+    let mut out = [0u8; 128];
+    let a = summary(text, &mut out);
+    match a {
+        Answer::Written(n) => compare(counts, text, due, part(&out, 0, n)),
+        Answer::Refused(_) => compare(counts, text, due, b"refused\n"),
+    }
+}
+
+// A pair is awaited exactly if the completion at all open pairs at once has other entries: else the enumerator is at odds with itself, and that is a difference too.
+fn compare_settled(counts: &mut [u64], text: &[u8], due: &[u8], pair: usize, all: usize) {
+    if pair == NONE && all == 0 {
+        return;
+    }
+    if pair != NONE && all == 1 {
+        return;
+    }
+    say::difference(counts, text, due, b"all open pairs at once\n");
+}
+
+// Query i with so many entries, whose rows are given.
+fn entries_due(counts: &mut [u64], g: &[u8], text: &[u8], i: usize, entries: usize, rows: &[u8]) {
+    let pair = completed::awaited(g, i / 2, i % 2, rows);
+    let all = completed::unsettled(g, i / 2, i % 2, rows);
+    if pair == TOO_MANY || all == 2 {
+        say::add(counts, say::LEFT_OUT, 1);
+        return;
+    }
+    let mut due = [0u8; TEXT];
+    let n = due::put_listing(&mut due, g, i / 2, i % 2, entries, pair, rows);
+    say::add(counts, say::QUERIES, 1);
+    say::add(counts, say::ENTRIES, entries);
+    say::add(counts, found_place(entries), 1);
+    say::add(counts, awaits_place(pair), 1);
+    compare_listing(counts, text, i, part(&due, 0, n));
+    compare_settled(counts, text, part(&due, 0, n), pair, all);
+}
+
+// Query i; its entries, or the largest number where there are too many paths.
+fn query(counts: &mut [u64], g: &[u8], text: &[u8], i: usize) -> usize {
+    let mut table = [0u8; ROOM];
+    let n = paths::resolve(g, i / 2, i % 2, &mut table);
+    let mut rows = [0u8; ROWS];
+    let m = rows::put_rows(&mut rows, g, i % 2, &table, n);
+    if MOST < n || ROWS < m {
+        say::add(counts, say::LEFT_OUT, 1);
+        return usize::MAX;
+    }
+    say::add(counts, say::PATHS, n);
+    let entries = paths::entries(g, i % 2, &table, n);
+    entries_due(counts, g, text, i, entries, part(&rows, 0, m));
+    entries
+}
+
+fn queries(counts: &mut [u64], g: &[u8], text: &[u8]) -> Found {
+    let n = gym::scopes(g) % 16 * 2;
+    let mut f = Found {
+        none: 0,
+        one: 0,
+        several: 0,
+        left_out: 0,
+    };
+    let mut i = 0;
+    while i < n {
+        f = with_query(f, query(counts, g, text, i));
+        i += 1;
+    }
+    f
+}
+
+fn summary_due(counts: &mut [u64], text: &[u8], f: Found) {
+    let none = f.none;
+    let one = f.one;
+    let several = f.several;
+    let left_out = f.left_out;
+    if left_out != 0 {
+        return;
+    }
+    let mut due = [0u8; 128];
+    let n = due::put_summary(&mut due, one, several, none);
+    say::add(counts, say::SUMMARIES, 1);
+    compare_summary(counts, text, part(&due, 0, n));
+}
+
+// The gym that is drawn from a number on; the last number drawn.
+fn one_gym(counts: &mut [u64], seed: usize) -> usize {
+    let mut g = [0u8; SIZE];
+    let x = drawn::draw(&mut g, seed);
+    let mut text = [0u8; TEXT];
+    let n = text::put_gym(&mut text, &g);
+    say::add(counts, say::GYMS, 1);
+    let f = queries(counts, &g, part(&text, 0, n));
+    summary_due(counts, part(&text, 0, n), f);
+    x
+}
+
+fn gyms(counts: &mut [u64]) {
+    let mut x = 20260114;
+    let mut i = 0;
+    while i < GYMS {
+        x = one_gym(counts, x);
+        i += 1;
+    }
+}
+
+fn main() {
+    let mut counts = [0u64; 16];
+    gyms(&mut counts);
+    say::all(&counts);
+}
