@@ -11,7 +11,7 @@ use Rattle.graph_file.specs.Admission.{nothing, begun, joined, counted, 
 use Rattle.graph_file.specs.Line.{numberTaken, nameTaken, byteTaken, place, endTaken, readField, startsWith, readItem, placeOf, readItems, endByte, fieldText, itemText, lineText, fieldFormed, itemFormed, sparesPlace, idleZero, idleZeros, formed}
 use Rattle.graph_file.specs.Order.{someRow, sameEnds, gap, pairFault, orderFault}
 use Rattle.graph_file.specs.File.{ifAdmitted, afterRow, oneRow, throughRows, afterNames, enough, throughSection, isEmpty, throughSections, ordered, atStart, whole, readNames, rowFollows, readRow, reading, readStage, madeOf, readCells, writeNames, cellsFollow, writeRow, writing, hasForm, writeText, answer, written, leaves}
-use Rattle.graph_file.specs.NameSought.{afterLines, lineCount, namePart, restOf, isNameField, nameIn, queryName, nameWithin, nameSought}
+use Rattle.graph_file.specs.NameSought.{afterLines, lineCount, namePart, restOf, isNameField, fromName, queryFrom, fromWithin, fromSought, nameFront, nameSought}
 
 abbrev pub exampleText : List ℕ
 exampleText = 108 ∷ 97 ∷ 98 ∷ 101 ∷ 108 ∷ 10 ∷ 73 ∷ 10 ∷ 80 ∷ 10 ∷ 108 ∷ 101 ∷ 115 ∷ 115 ∷ 32 ∷ 109 ∷ 111 ∷ 114 ∷ 101 ∷ 10 ∷ 36 ∷ 32 ∷ 73 ∷ 10 ∷ 36 ∷ 32 ∷ 80 ∷ 10 ∷ 73 ∷ 32 ∷ 80 ∷ 10 ∷ 115 ∷ 116 ∷ 97 ∷ 116 ∷ 101 ∷ 32 ∷ 108 ∷ 97 ∷ 98 ∷ 101 ∷ 108 ∷ 32 ∷ 110 ∷ 101 ∷ 120 ∷ 116 ∷ 10 ∷ 48 ∷ 32 ∷ 73 ∷ 32 ∷ 49 ∷ 10 ∷ 48 ∷ 32 ∷ 80 ∷ 32 ∷ 48 ∷ 10 ∷ 49 ∷ 32 ∷ 73 ∷ 32 ∷ 49 ∷ 10 ∷ 97 ∷ 99 ∷ 99 ∷ 101 ∷ 112 ∷ 116 ∷ 10 ∷ 48 ∷ 10 ∷ 49 ∷ 10 ∷ 115 ∷ 99 ∷ 111 ∷ 112 ∷ 101 ∷ 115 ∷ 10 ∷ 53 ∷ 10 ∷ 102 ∷ 114 ∷ 111 ∷ 109 ∷ 32 ∷ 108 ∷ 97 ∷ 98 ∷ 101 ∷ 108 ∷ 32 ∷ 116 ∷ 111 ∷ 10 ∷ 49 ∷ 32 ∷ 80 ∷ 32 ∷ 48 ∷ 10 ∷ 50 ∷ 32 ∷ 73 ∷ 32 ∷ 52 ∷ 10 ∷ 50 ∷ 32 ∷ 80 ∷ 32 ∷ 49 ∷ 10 ∷ 51 ∷ 32 ∷ 80 ∷ 32 ∷ 49 ∷ 10 ∷ 97 ∷ 116 ∷ 32 ∷ 110 ∷ 97 ∷ 109 ∷ 101 ∷ 32 ∷ 109 ∷ 97 ∷ 114 ∷ 107 ∷ 10 ∷ 48 ∷ 32 ∷ 104 ∷ 111 ∷ 117 ∷ 114 ∷ 115 ∷ 32 ∷ 53 ∷ 10 ∷ 49 ∷ 32 ∷ 115 ∷ 101 ∷ 114 ∷ 118 ∷ 105 ∷ 99 ∷ 101 ∷ 32 ∷ 49 ∷ 48 ∷ 10 ∷ 50 ∷ 32 ∷ 115 ∷ 101 ∷ 114 ∷ 118 ∷ 105 ∷ 99 ∷ 101 ∷ 32 ∷ 50 ∷ 49 ∷ 10 ∷ 52 ∷ 32 ∷ 104 ∷ 111 ∷ 117 ∷ 114 ∷ 115 ∷ 32 ∷ 52 ∷ 48 ∷ 10 ∷ 97 ∷ 116 ∷ 32 ∷ 111 ∷ 112 ∷ 101 ∷ 110 ∷ 10 ∷ 51 ∷ 32 ∷ 36 ∷ 10 ∷ 115 ∷ 116 ∷ 97 ∷ 114 ∷ 116 ∷ 32 ∷ 115 ∷ 101 ∷ 101 ∷ 107 ∷ 10 ∷ 50 ∷ 32 ∷ 115 ∷ 101 ∷ 114 ∷ 118 ∷ 105 ∷ 99 ∷ 101 ∷ 10 ∷ 51 ∷ 32 ∷ 115 ∷ 101 ∷ 114 ∷ 118 ∷ 105 ∷ 99 ∷ 101 ∷ 10 ∷ 50 ∷ 32 ∷ 104 ∷ 111 ∷ 117 ∷ 114 ∷ 115 ∷ 10 ∷ []
@@ -29,10 +29,10 @@ example-written = refl
 
 -- the last query's name is `hours`
 pub example-name : nameSought exampleText 2 ≡ 104 ∷ 111 ∷ 117 ∷ 114 ∷ 115 ∷ []
-unfolding labels pairs transitions accepts scopeCount edges declarations openPairs queries sections sectionAt andThen refuseIf nothing begun joined counted taken everyItem kindInRange itemInRange inRange keyLess listed follows unless admission someRow sameEnds gap pairFault orderFault ifAdmitted afterRow oneRow throughRows afterNames enough throughSection isEmpty throughSections ordered atStart whole madeOf within isDigit isCapital isLower isNameByte numberTaken nameTaken byteTaken place endTaken readField startsWith readItem placeOf readItems growing digitsFrom numberHere packed packHigh packLow nameRun nameOf nameHere readNames rowFollows readRow reading readStage readCells afterLines lineCount namePart restOf valuesOf isNameField nameIn queryName nameWithin nameSought
+unfolding labels pairs transitions accepts scopeCount edges declarations openPairs queries sections sectionAt andThen refuseIf nothing begun joined counted taken everyItem kindInRange itemInRange inRange keyLess listed follows unless admission someRow sameEnds gap pairFault orderFault ifAdmitted afterRow oneRow throughRows afterNames enough throughSection isEmpty throughSections ordered atStart whole madeOf within isDigit isCapital isLower isNameByte numberTaken nameTaken byteTaken place endTaken readField startsWith readItem placeOf readItems growing digitsFrom numberHere packed packHigh packLow nameRun nameOf nameHere readNames rowFollows readRow reading readStage readCells afterLines lineCount namePart restOf valuesOf isNameField fromName queryFrom fromWithin fromSought nameFront nameSought
 example-name = refl
 
 -- there is no query 3
 pub example-no-name : nameSought exampleText 3 ≡ []
-unfolding labels pairs transitions accepts scopeCount edges declarations openPairs queries sections sectionAt andThen refuseIf nothing begun joined counted taken everyItem kindInRange itemInRange inRange keyLess listed follows unless admission someRow sameEnds gap pairFault orderFault ifAdmitted afterRow oneRow throughRows afterNames enough throughSection isEmpty throughSections ordered atStart whole madeOf within isDigit isCapital isLower isNameByte numberTaken nameTaken byteTaken place endTaken readField startsWith readItem placeOf readItems growing digitsFrom numberHere packed packHigh packLow nameRun nameOf nameHere readNames rowFollows readRow reading readStage readCells afterLines lineCount namePart restOf valuesOf isNameField nameIn queryName nameWithin nameSought
+unfolding labels pairs transitions accepts scopeCount edges declarations openPairs queries sections sectionAt andThen refuseIf nothing begun joined counted taken everyItem kindInRange itemInRange inRange keyLess listed follows unless admission someRow sameEnds gap pairFault orderFault ifAdmitted afterRow oneRow throughRows afterNames enough throughSection isEmpty throughSections ordered atStart whole madeOf within isDigit isCapital isLower isNameByte numberTaken nameTaken byteTaken place endTaken readField startsWith readItem placeOf readItems growing digitsFrom numberHere packed packHigh packLow nameRun nameOf nameHere readNames rowFollows readRow reading readStage readCells afterLines lineCount namePart restOf valuesOf isNameField fromName queryFrom fromWithin fromSought nameFront nameSought
 example-no-name = refl

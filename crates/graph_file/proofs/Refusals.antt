@@ -11,7 +11,7 @@ use Rattle.graph_file.specs.Admission.{nothing, begun, joined, counted, 
 use Rattle.graph_file.specs.Line.{numberTaken, nameTaken, byteTaken, place, endTaken, readField, startsWith, readItem, placeOf, readItems, endByte, fieldText, itemText, lineText, fieldFormed, itemFormed, sparesPlace, idleZero, idleZeros, formed}
 use Rattle.graph_file.specs.Order.{someRow, sameEnds, gap, pairFault, orderFault}
 use Rattle.graph_file.specs.File.{ifAdmitted, afterRow, oneRow, throughRows, afterNames, enough, throughSection, isEmpty, throughSections, ordered, atStart, whole, readNames, rowFollows, readRow, reading, readStage, madeOf, readCells, writeNames, cellsFollow, writeRow, writing, hasForm, writeText, answer, written, leaves}
-use Rattle.graph_file.specs.NameSought.{afterLines, lineCount, namePart, restOf, isNameField, nameIn, queryName, nameWithin, nameSought}
+use Rattle.graph_file.specs.NameSought.{afterLines, lineCount, namePart, restOf, isNameField, fromName, queryFrom, fromWithin, fromSought, nameFront, nameSought}
 
 -- a refusal's number, or 0
 unfoldable pub refusalOf : Outcome (List ℕ) → ℕ

@@ -1,30 +1,32 @@
 -- Laws of lines and of the name in a query's line. Assumes nothing.
 use Prim.Native.Nat.{ℕ, zero, suc, _+_, _-_, _≤_, _<_}
-use mathlib.Core.Path.{_≡_, refl, sym, ap, _∙_}
+use mathlib.Core.Path.{_≡_, refl, sym, ap, subst, _∙_}
 use mathlib.Core.List.{List, [], _∷_}
 use mathlib.Core.Bool.{Bool, true, false}
 use native.Mathlib.Omega.{arith}
 use native.Mathlib.Numerals.{add-one}
 use native.Mathlib.Nat.{add-comm}
-use borrow.Author.Tests.{eq-eqb, ne-eqb, lt-ltb, le-ltb}
-use lib.Dec.{eqb}
+use borrow.Author.Tests.{eq-eqb, ne-eqb, lt-ltb, le-ltb, leb-true, leb-false}
+use lib.Dec.{eqb, ltb, leb}
 use lib.ListN.{length, getD, take, drop, length-drop, drop-of-length-le}
 use Rattle.text_field.proofs.NameLaws.{name-found}
-use lib.Seq.{drop-cons, drop-drop}
+use lib.Seq.{drop-cons, drop-drop, drop-length, length-take-le}
 use Rattle.text_field.specs.declared.NumberRead.{NumberRead}
 use Rattle.text_field.specs.declared.NumberRead.the-variants.{Number, NoNumber}
 use Rattle.text_field.specs.declared.NameRead.{NameRead}
 use Rattle.text_field.specs.declared.NameRead.the-variants.{Name, NoName}
 use Rattle.text_field.specs.Number.{numberHere, numberPlaced}
 use Rattle.text_field.specs.Name.{nameHere, namePlaced}
+use Rattle.text_field.specs.Bytes.{isCapital}
 use Rattle.graph_file.specs.declared.reader.Part.{Part}
-use Rattle.graph_file.specs.Format.{Item, byte, field, name, valuesOf, sections, sectionAt, queries, querySection}
+use Rattle.graph_file.specs.declared.sought.NamePlace.{NamePlace}
+use Rattle.graph_file.specs.Format.{Item, byte, field, state, scope, mark, count, letter, label, end, name, valuesOf, sections, sectionAt, queries, querySection}
 use Rattle.graph_file.specs.Outcome.{Outcome, refused, done, andThen}
-use Rattle.graph_file.specs.Line.{Reading, numberTaken, readField, startsWith, readItem}
+use Rattle.graph_file.specs.Line.{Reading, numberTaken, nameTaken, byteTaken, place, endTaken, readField, startsWith, readItem}
 use Rattle.graph_file.specs.File.{Stage, readStage}
 use Rattle.graph_file.specs.Table.{sofarAt}
 use Rattle.graph_file.specs.Reader.{stageAt, refusedOr, partOutcome}
-use Rattle.graph_file.specs.NameSought.{afterLines, lineCount, namePart, restOf, isNameField, nameIn, queryName, nameWithin, nameSought}
+use Rattle.graph_file.specs.NameSought.{afterLines, lineCount, namePart, restOf, isNameField, fromName, queryFrom, fromWithin, fromSought, nameFront, nameSought, placeFrom, placeSought}
 
 -- a byte more
 pub count-step : (b : ℕ) (s : List ℕ) → lineCount (b ∷ s) ≡ lineCount (b ∷ []) + lineCount s
@@ -88,80 +90,76 @@ unfolding namePlaced
 unplaced-name (Name h l w) at e = absurd (let z : _≡_ {A = ℕ} 0 1 = cc in omega arith)
 unplaced-name NoName at e = refl
 
--- behind the number: nothing, another byte than the space, or the space and what is a name there
-empty-behind : nameIn behind [] ≡ []
-unfolding behind nameIn isNameField valuesOf restOf readItem startsWith namePart nameHere
+-- behind the number: nothing, another byte than the space, or the space and what comes after it
+empty-behind : fromName behind [] ≡ []
+unfolding behind fromName isNameField valuesOf restOf readItem startsWith
 empty-behind = refl
 
-other-behind : (b : ℕ) (u : List ℕ) → (b ≡ 32 → ⊥) → nameIn behind (b ∷ u) ≡ []
-unfolding behind nameIn isNameField valuesOf restOf readItem startsWith namePart nameHere
+other-behind : (b : ℕ) (u : List ℕ) → (b ≡ 32 → ⊥) → fromName behind (b ∷ u) ≡ []
+unfolding behind fromName isNameField valuesOf restOf readItem startsWith
 other-behind b u h = by-byte (eqb b 32) (ne-eqb b 32 h)
   where
     by-byte : (t : Bool) → t ≡ false
-        → (let v : List ℕ = restOf (elim t as (λ _. Outcome Reading) [ true ↦ done (record { values = []; rest = u }) | false ↦ refused 2 ]) in namePart (nameHere v) v) ≡ []
+        → restOf (elim t as (λ _. Outcome Reading) [ true ↦ done (record { values = []; rest = u }) | false ↦ refused 2 ]) ≡ []
     by-byte true e = absurd (mathlib.Core.Bool.true≢false e)
     by-byte false e = refl
 
-space-behind : (u : List ℕ) → nameIn behind (32 ∷ u) ≡ namePart (nameHere u) u
-unfolding behind nameIn isNameField valuesOf restOf readItem startsWith
+space-behind : (u : List ℕ) → fromName behind (32 ∷ u) ≡ u
+unfolding behind fromName isNameField valuesOf restOf readItem startsWith
 space-behind u = refl
 
 -- the whole line: the number first
-taken-none : (t : List ℕ) (x : NumberRead) → x ≡ NoNumber → nameIn behind (restOf (numberTaken x t)) ≡ []
+taken-none : (t : List ℕ) (x : NumberRead) → x ≡ NoNumber → fromName behind (restOf (numberTaken x t)) ≡ []
 unfolding restOf numberTaken
 taken-none t x e = rw e empty-behind
 
-taken-some : (t : List ℕ) (x : NumberRead) (v w : ℕ) → x ≡ Number v w → nameIn behind (restOf (numberTaken x t)) ≡ nameIn behind (drop w t)
+taken-some : (t : List ℕ) (x : NumberRead) (v w : ℕ) → x ≡ Number v w → fromName behind (restOf (numberTaken x t)) ≡ fromName behind (drop w t)
 unfolding restOf numberTaken
 taken-some t x v w e = rw e refl
 
-first-is : (t : List ℕ) → nameIn (sectionAt querySection .row) t ≡ nameIn behind (restOf (numberTaken (numberHere t) t))
-unfolding nameIn isNameField valuesOf readItem readField sectionAt sections queries behind
+first-is : (t : List ℕ) → fromName (sectionAt querySection .row) t ≡ fromName behind (restOf (numberTaken (numberHere t) t))
+unfolding fromName isNameField valuesOf readItem readField sectionAt sections queries behind
 first-is t = refl
 
-pub no-number : (t : List ℕ) → numberHere t ≡ NoNumber → [] ≡ nameIn (sectionAt querySection .row) t
-no-number t e = sym (first-is t ∙ taken-none t (numberHere t) e)
+-- an empty last part stands at the end
+at-end : (s x : List ℕ) → x ≡ [] → length s ≡ length s - length x
+at-end s x e = let z : length x ≡ 0 = ap length e in omega (arith, z)
 
-number-first : (t : List ℕ) (v w : ℕ) → numberHere t ≡ Number v w → nameIn (sectionAt querySection .row) t ≡ nameIn behind (drop w t)
-number-first t v w e = first-is t ∙ taken-some t (numberHere t) v w e
+pub no-number : (s : List ℕ) (at : ℕ) → NoNumber ≡ numberPlaced at (numberHere (drop at s)) → length s ≡ length s - length (fromName (sectionAt querySection .row) (drop at s))
+no-number s at e = at-end s _ (first-is (drop at s) ∙ taken-none (drop at s) (numberHere (drop at s)) (unplaced-number _ at e))
 
 -- a line at a place of the text, whose number ends before a
 module _ (s : List ℕ) (at v a : ℕ) (e : Number v a ≡ numberPlaced at (numberHere (drop at s))) where
-  line : nameIn (sectionAt querySection .row) (drop at s) ≡ nameIn behind (drop a s)
+  line : fromName (sectionAt querySection .row) (drop at s) ≡ fromName behind (drop a s)
   line =
       let k = placed-number (numberHere (drop at s)) at v a e in
-      number-first (drop at s) v (k .0) (k .1) ∙ ap (nameIn behind) (drop-drop (k .0) at s ∙ ap (λ (n : ℕ). drop n s) (sym (k .2)))
+      first-is (drop at s) ∙ taken-some (drop at s) (numberHere (drop at s)) v (k .0) (k .1) ∙ ap (fromName behind) (drop-drop (k .0) at s ∙ ap (λ (n : ℕ). drop n s) (sym (k .2)))
 
-  pub ends-there : length s ≤ a → [] ≡ nameIn (sectionAt querySection .row) (drop at s)
-  ends-there h = sym (line ∙ ap (nameIn behind) (drop-of-length-le s {i = a} h) ∙ empty-behind)
+  pub ends-there : length s ≤ a → length s ≡ length s - length (fromName (sectionAt querySection .row) (drop at s))
+  ends-there h = at-end s _ (line ∙ ap (fromName behind) (drop-of-length-le s {i = a} h) ∙ empty-behind)
 
-  pub no-space : a < length s → (getD s a 0 ≡ 32 → ⊥) → [] ≡ nameIn (sectionAt querySection .row) (drop at s)
-  no-space h k = sym (line ∙ ap (nameIn behind) (drop-cons s a 0 h) ∙ other-behind (getD s a 0) (drop (suc a) s) k)
+  pub no-space : a < length s → (getD s a 0 ≡ 32 → ⊥) → length s ≡ length s - length (fromName (sectionAt querySection .row) (drop at s))
+  no-space h k = at-end s _ (line ∙ ap (fromName behind) (drop-cons s a 0 h) ∙ other-behind (getD s a 0) (drop (suc a) s) k)
 
-  spaced : a < length s → getD s a 0 ≡ 32 → nameIn (sectionAt querySection .row) (drop at s) ≡ namePart (nameHere (drop (a + 1) s)) (drop (a + 1) s)
+  pub spaced : a < length s → getD s a 0 ≡ 32 → a + 1 ≡ length s - length (fromName (sectionAt querySection .row) (drop at s))
   spaced h k =
-      line ∙ ap (nameIn behind) (drop-cons s a 0 h ∙ ap (λ (b : ℕ). b ∷ drop (suc a) s) k) ∙ space-behind (drop (suc a) s)
-      ∙ ap (λ (n : ℕ). namePart (nameHere (drop n s)) (drop n s)) (sym (add-one a))
+      let l : fromName (sectionAt querySection .row) (drop at s) ≡ drop (suc a) s = line ∙ ap (fromName behind) (drop-cons s a 0 h ∙ ap (λ (b : ℕ). b ∷ drop (suc a) s) k) ∙ space-behind (drop (suc a) s)
+      in let z : length (fromName (sectionAt querySection .row) (drop at s)) ≡ length s - suc a = ap length l ∙ length-drop (suc a) s
+      in omega (arith, z)
 
-  pub no-name-there : a < length s → getD s a 0 ≡ 32 → NoName ≡ namePlaced (a + 1) (nameHere (drop (a + 1) s))
-      → [] ≡ nameIn (sectionAt querySection .row) (drop at s)
-  unfolding namePart
-  no-name-there h k n = sym (spaced h k ∙ ap (λ (x : NameRead). namePart x (drop (a + 1) s)) (unplaced-name _ (a + 1) n))
+-- the name at a place
+pub no-name-there : (s : List ℕ) (at : ℕ) → NoName ≡ namePlaced at (nameHere (drop at s)) → at ≡ at + length (nameFront (drop at s))
+unfolding nameFront namePart
+no-name-there s at e =
+    let z : length (nameFront (drop at s)) ≡ 0 = ap (λ (x : NameRead). length (namePart x (drop at s))) (unplaced-name _ at e)
+    in omega (arith, z)
 
-  pub name-there : a < length s → getD s a 0 ≡ 32 → (high low end : ℕ) → Name high low end ≡ namePlaced (a + 1) (nameHere (drop (a + 1) s))
-      → take (end - (a + 1)) (drop (a + 1) s) ≡ nameIn (sectionAt querySection .row) (drop at s)
-  unfolding namePart
-  name-there h k high low end n =
-      let p = placed-name (nameHere (drop (a + 1) s)) (a + 1) high low end n in
-      let w : end - (a + 1) ≡ p .0 = omega (arith, p .2) in
-      rw w (sym (spaced h k ∙ ap (λ (x : NameRead). namePart x (drop (a + 1) s)) (p .1)))
-
--- a name that was read ends within the text
-pub name-within : (s : List ℕ) (b high low end : ℕ) → b ≤ length s → Name high low end ≡ namePlaced b (nameHere (drop b s)) → (b ≤ end) × (end ≤ length s)
-name-within s b high low end h n =
-    let p = placed-name (nameHere (drop b s)) b high low end n in
-    let k = name-found (drop b s) high low (p .0) (p .1) in
-    (omega (arith, p .2), omega (arith, p .2, k .inside, length-drop b s))
+pub name-there : (s : List ℕ) (at high low after : ℕ) → Name high low after ≡ namePlaced at (nameHere (drop at s)) → after ≡ at + length (nameFront (drop at s))
+unfolding nameFront namePart
+name-there s at high low after e =
+    let p = placed-name (nameHere (drop at s)) at high low after e
+    in let k = name-found (drop at s) high low (p .0) (p .1)
+    in p .2 ∙ ap (λ (n : ℕ). at + n) (sym (ap (λ (x : NameRead). length (namePart x (drop at s))) (p .1) ∙ length-take-le (p .0) (drop at s) (k .inside)))
 
 -- for the loops over a text
 pub count-small : (b : ℕ) → lineCount (b ∷ []) ≤ 1
@@ -195,30 +193,178 @@ after-next k l t i x h z e w =
     ∙ sym (after-step k (getD t i 0) (drop (suc i) t) z)
     ∙ ap (afterLines k) (sym (drop-cons t i 0 h)) ∙ w
 
--- the whole answer: nothing where the file or the query's number is refused
+-- What is left after an item, after lines, from a name on, is a last part of the text: the text from some place on.
+abbrev LastOf : List ℕ → List ℕ → Type 0
+LastOf x s = (w : ℕ) × (x ≡ drop w s)
+
+none-last : (s : List ℕ) → LastOf [] s
+none-last s = (length s, sym (drop-length s))
+
+last-trans : (x y s : List ℕ) → LastOf x y → LastOf y s → LastOf x s
+last-trans x y s (v, e) (w, f) = (w + v, e ∙ ap (drop v) f ∙ drop-drop v w s)
+
+number-last : (x : NumberRead) (t : List ℕ) → LastOf (restOf (numberTaken x t)) t
+unfolding restOf numberTaken
+number-last (Number v w) t = (w, refl)
+number-last NoNumber t = none-last t
+
+name-last : (x : NameRead) (t : List ℕ) → LastOf (restOf (nameTaken x t)) t
+unfolding restOf nameTaken
+name-last (Name h l w) t = (w, refl)
+name-last NoName t = none-last t
+
+byte-last : (b : Bool) (v : ℕ) (t : List ℕ) → LastOf (restOf (byteTaken b v t)) t
+unfolding restOf byteTaken
+byte-last true v t = (1, refl)
+byte-last false v t = none-last t
+
+end-last : (ls : List ℕ) (x : ℕ) (t : List ℕ) → LastOf (restOf (endTaken ls x t)) t
+unfolding endTaken
+end-last ls x t = by-mark (eqb x 36)
+  where
+    by-mark : (b : Bool) → LastOf (restOf (elim b as (λ _. Outcome Reading) [ true ↦ byteTaken true 0 t | false ↦ byteTaken (isCapital x) (suc (place x ls)) t ])) t
+    by-mark true = byte-last true 0 t
+    by-mark false = byte-last (isCapital x) (suc (place x ls)) t
+
+item-last : (i : Item) (t : List ℕ) → LastOf (restOf (readItem [] i t)) t
+unfolding readItem readField restOf
+item-last (byte b) t = by-byte (startsWith b t)
+  where
+    by-byte : (z : Bool) → LastOf (restOf (elim z as (λ _. Outcome Reading) [ true ↦ done (record { values = []; rest = drop 1 t }) | false ↦ refused 2 ])) t
+    by-byte true = (1, refl)
+    by-byte false = none-last t
+item-last (field state c) t = number-last (numberHere t) t
+item-last (field scope c) t = number-last (numberHere t) t
+item-last (field mark c) t = number-last (numberHere t) t
+item-last (field count c) t = number-last (numberHere t) t
+item-last (field letter c) t = byte-last (isCapital (getD t 0 0)) (getD t 0 0) t
+item-last (field label c) t = byte-last (isCapital (getD t 0 0)) (place (getD t 0 0) []) t
+item-last (field end c) t = end-last [] (getD t 0 0) t
+item-last (field name c) t = name-last (nameHere t) t
+
+from-last : (items : List Item) (t : List ℕ) → LastOf (fromName items t) t
+unfolding fromName
+from-last [] t = none-last t
+from-last (i ∷ items) t = by-item (from-last items (restOf (readItem [] i t))) (isNameField i)
+  where
+    by-item : LastOf (fromName items (restOf (readItem [] i t))) (restOf (readItem [] i t)) → (b : Bool) → LastOf (elim b as (λ _. List ℕ) [ true ↦ t | false ↦ fromName items (restOf (readItem [] i t)) ]) t
+    by-item l true = (0, refl)
+    by-item l false = last-trans _ (restOf (readItem [] i t)) t l (item-last i t)
+
+after-last : (n : ℕ) (t : List ℕ) → LastOf (afterLines n t) t
+unfolding afterLines
+after-last zero t = (0, refl)
+after-last (suc n) [] = (0, refl)
+after-last (suc n) (x ∷ t) = by-byte (after-last n t) (after-last (suc n) t) (eqb x 10)
+  where
+    by-byte : LastOf (afterLines n t) t → LastOf (afterLines (suc n) t) t → (b : Bool) → LastOf (elim b as (λ _. List ℕ) [ true ↦ afterLines n t | false ↦ afterLines (suc n) t ]) (x ∷ t)
+    by-byte l m true = last-trans _ t (x ∷ t) l (1, refl)
+    by-byte l m false = last-trans _ t (x ∷ t) m (1, refl)
+
+line-last : (n : ℕ) (t : List ℕ) → LastOf (fromName (sectionAt querySection .row) (afterLines n t)) t
+line-last n t = last-trans _ (afterLines n t) t (from-last (sectionAt querySection .row) (afterLines n t)) (after-last n t)
+
+query-last : (n : ℕ) (text : List ℕ) (q : ℕ) → LastOf (queryFrom n text q) text
+unfolding queryFrom
+query-last n text q = by-test (ltb q n)
+  where
+    by-test : (b : Bool) → LastOf (elim b as (λ _. List ℕ) [ true ↦ fromName (sectionAt querySection .row) (afterLines (lineCount text - n + q) text) | false ↦ [] ]) text
+    by-test true = line-last (lineCount text - n + q) text
+    by-test false = none-last text
+
+within-last : (o : Outcome Stage) (text : List ℕ) (q : ℕ) → LastOf (fromWithin o text q) text
+unfolding fromWithin
+within-last (refused n) text q = none-last text
+within-last (done g) text q = query-last (g .sofar .rows) text q
+
+sought-last : (text : List ℕ) (q : ℕ) → LastOf (fromSought text q) text
+unfolding fromSought
+sought-last text q = within-last (readStage text) text q
+
+-- a last part is the text from its place on
+last-place : (x s : List ℕ) → LastOf x s → drop (length s - length x) s ≡ x
+last-place x s (w, e) = by-place (leb w (length s)) refl
+  where
+    long : length x ≡ length s - w
+    long = ap length e ∙ length-drop w s
+
+    by-place : (b : Bool) → leb w (length s) ≡ b → drop (length s - length x) s ≡ x
+    by-place true t = let z : length s - length x ≡ w = omega (arith, long, leb-true w (length s) t) in ap (λ (n : ℕ). drop n s) z ∙ sym e
+    by-place false t =
+        let h : length s < w = leb-false w (length s) t
+        in let z : length s - length x ≡ length s = omega (arith, long, h)
+        in ap (λ (n : ℕ). drop n s) z ∙ drop-length s ∙ sym (e ∙ drop-of-length-le s {i = w} (omega (arith, h)))
+
+front-within : (x : List ℕ) → (take (length (nameFront x)) x ≡ nameFront x) × (length (nameFront x) ≤ length x)
+unfolding nameFront namePart
+front-within x = by-name (nameHere x) refl
+  where
+    by-name : (r : NameRead) → nameHere x ≡ r → (take (length (namePart r x)) x ≡ namePart r x) × (length (namePart r x) ≤ length x)
+    by-name (Name h l w) e =
+        let k = name-found x h l w e
+        in let z : length (take w x) ≡ w = length-take-le w x (k .inside)
+        in (ap (λ (n : ℕ). take n x) z, subst (λ (n : ℕ). n ≤ length x) (sym z) (k .inside))
+    by-name NoName e = (refl, omega arith)
+
+-- a place by its two numbers
+pub same-place : (p : NamePlace) (a b : ℕ) → (a ≡ p .from) × (b ≡ p .to) → record { from = a; to = b } ≡ p
+same-place p a b (e, f) = rw (e, f) refl
+
+-- the answer of the search for a name in a line
+pub place-after : (s : List ℕ) (n k from to : ℕ) → drop k s ≡ afterLines n s → from ≡ length s - length (fromName (sectionAt querySection .row) (drop k s)) → to ≡ from + length (nameFront (drop from s))
+    → (from ≡ placeFrom s (fromName (sectionAt querySection .row) (afterLines n s)) .from) × (to ≡ placeFrom s (fromName (sectionAt querySection .row) (afterLines n s)) .to)
+unfolding placeFrom
+place-after s n k from to d e f =
+    let x = fromName (sectionAt querySection .row) (afterLines n s)
+    in let z : from ≡ length s - length x = e ∙ ap (λ (y : List ℕ). length s - length (fromName (sectionAt querySection .row) y)) d
+    in let y : drop from s ≡ x = ap (λ (m : ℕ). drop m s) z ∙ last-place x s (line-last n s)
+    in (z, f ∙ ap (λ (y : List ℕ). from + length (nameFront y)) y ∙ ap (λ (m : ℕ). m + length (nameFront x)) z)
+
+-- The part of the text at the place sought is the name sought.
+pub sought-there : (text : List ℕ) (q : ℕ)
+    → (take (placeSought text q .to - placeSought text q .from) (drop (placeSought text q .from) text) ≡ nameSought text q)
+    × ((placeSought text q .from ≤ placeSought text q .to) × (placeSought text q .to ≤ length text))
+unfolding placeSought placeFrom nameSought
+sought-there text q =
+    let x = fromSought text q
+    in let l = sought-last text q
+    in let d : drop (length text - length x) text ≡ x = last-place x text l
+    in let k = front-within x
+    in let z : length text - length x + length (nameFront x) - (length text - length x) ≡ length (nameFront x) = omega arith
+    in let b : length x ≡ length text - l .0 = ap length (l .1) ∙ length-drop (l .0) text
+    in (ap (λ (n : ℕ). take n (drop (length text - length x) text)) z ∙ ap (take (length (nameFront x))) d ∙ k .0, (omega arith, omega (arith, k .1, b)))
+
+-- the whole answer: the text's end where the file or the query's number is refused
+nowhere : (text x : List ℕ) → x ≡ [] → (length text ≡ placeFrom text x .from) × (length text ≡ placeFrom text x .to)
+unfolding placeFrom nameFront namePart nameHere
+nowhere text x e =
+    let z : length text ≡ length text - length x = at-end text x e
+    in let y : length (nameFront x) ≡ 0 = ap (λ (u : List ℕ). length (nameFront u)) e
+    in (z, z ∙ omega (arith, y))
+
 module _ (r : Part) (table text : List ℕ) (q : ℕ) (e : partOutcome r table text ≡ readStage text) where
-  pub file-refused : (r .refusal ≡ 0 → ⊥) → [] ≡ nameSought text q
-  unfolding partOutcome refusedOr nameSought nameWithin
-  file-refused h = go (r .refusal) h e
+  pub file-refused : (r .refusal ≡ 0 → ⊥) → (length text ≡ placeSought text q .from) × (length text ≡ placeSought text q .to)
+  unfolding partOutcome refusedOr fromSought fromWithin placeSought
+  file-refused h = nowhere text (fromSought text q) (go (r .refusal) h e)
     where
-      go : (k : ℕ) → (k ≡ 0 → ⊥) → refusedOr k (stageAt table (r .cells) (r .counts) (drop (r .next) text)) ≡ readStage text → [] ≡ nameWithin (readStage text) text q
+      go : (k : ℕ) → (k ≡ 0 → ⊥) → refusedOr k (stageAt table (r .cells) (r .counts) (drop (r .next) text)) ≡ readStage text → fromWithin (readStage text) text q ≡ []
       go zero h e = absurd (h refl)
       go (suc k) h e = rw (← e)
 
-  file-read : r .refusal ≡ 0 → nameSought text q ≡ queryName (r .counts .rows) text q
-  unfolding partOutcome refusedOr nameSought nameWithin stageAt sofarAt
+  file-read : r .refusal ≡ 0 → fromSought text q ≡ queryFrom (r .counts .rows) text q
+  unfolding partOutcome refusedOr fromSought fromWithin stageAt sofarAt
   file-read h = go (r .refusal) h e
     where
       go : (k : ℕ) → k ≡ 0 → refusedOr k (stageAt table (r .cells) (r .counts) (drop (r .next) text)) ≡ readStage text
-          → nameWithin (readStage text) text q ≡ queryName (r .counts .rows) text q
+          → fromWithin (readStage text) text q ≡ queryFrom (r .counts .rows) text q
       go zero h e = rw (← e)
       go (suc k) h e = absurd (omega arith)
 
-  pub query-refused : r .refusal ≡ 0 → r .counts .rows ≤ q → [] ≡ nameSought text q
-  unfolding queryName
-  query-refused h k = sym (file-read h ∙ rw (le-ltb q (r .counts .rows) k, queryName))
+  pub query-refused : r .refusal ≡ 0 → r .counts .rows ≤ q → (length text ≡ placeSought text q .from) × (length text ≡ placeSought text q .to)
+  unfolding queryFrom placeSought
+  query-refused h k = nowhere text (fromSought text q) (file-read h ∙ rw (le-ltb q (r .counts .rows) k, queryFrom))
 
   pub query-read : r .refusal ≡ 0 → q < r .counts .rows → (k : ℕ) → k ≡ lineCount text - r .counts .rows + q
-      → nameIn (sectionAt querySection .row) (afterLines k text) ≡ nameSought text q
-  unfolding queryName
-  query-read h l k z = sym (file-read h ∙ rw (lt-ltb q (r .counts .rows) l, queryName, z))
+      → placeFrom text (fromName (sectionAt querySection .row) (afterLines k text)) ≡ placeSought text q
+  unfolding queryFrom placeSought
+  query-read h l k z = ap (placeFrom text) (sym (file-read h ∙ rw (lt-ltb q (r .counts .rows) l, queryFrom, z)))

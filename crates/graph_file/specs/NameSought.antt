@@ -3,10 +3,11 @@ use Prim.Native.Nat.{ℕ, zero, suc, _+_, _-_}
 use mathlib.Core.List.{List, [], _∷_}
 use mathlib.Core.Bool.{Bool, true, false}
 use lib.Dec.{eqb, ltb}
-use lib.ListN.{take}
+use lib.ListN.{length, take}
 use Rattle.text_field.specs.declared.NameRead.{NameRead}
 use Rattle.text_field.specs.declared.NameRead.the-variants.{Name, NoName}
 use Rattle.text_field.specs.Name.{nameHere}
+use Rattle.graph_file.specs.declared.sought.NamePlace.{NamePlace}
 use Rattle.graph_file.specs.Format.{Item, byte, field, valuesOf, sectionAt, querySection}
 use Rattle.graph_file.specs.Outcome.{Outcome, refused, done}
 use Rattle.graph_file.specs.Line.{Reading, readItem}
@@ -37,20 +38,38 @@ unfoldable pub isNameField : Item → Bool
 isNameField (byte b) = false
 isNameField (field k c) = eqb (valuesOf k) 2
 
--- the part of a line that its name takes; a line with a name before its end has no label before the name
-unfoldable pub nameIn : List Item → List ℕ → List ℕ
-nameIn [] text = []
-nameIn (i ∷ items) text = elim (isNameField i) [ true ↦ namePart (nameHere text) text | false ↦ nameIn items (restOf (readItem [] i text)) ]
+-- what is left of a line from its name on, nothing where it has none; a line with a name before its end has no label before the name
+unfoldable pub fromName : List Item → List ℕ → List ℕ
+fromName [] text = []
+fromName (i ∷ items) text = elim (isNameField i) [ true ↦ text | false ↦ fromName items (restOf (readItem [] i text)) ]
 
--- Queries are the last section, so the last n lines of a file with n queries are theirs: the name in query q's line, if there is a query q.
-unfoldable pub queryName : ℕ → List ℕ → ℕ → List ℕ
-queryName n text q = elim (ltb q n) [ true ↦ nameIn (sectionAt querySection .row) (afterLines (lineCount text - n + q) text) | false ↦ [] ]
+-- Queries are the last section, so the last n lines of a file with n queries are theirs: the text from the name in query q's line on, if there is
+-- a query q.
+unfoldable pub queryFrom : ℕ → List ℕ → ℕ → List ℕ
+queryFrom n text q = elim (ltb q n) [ true ↦ fromName (sectionAt querySection .row) (afterLines (lineCount text - n + q) text) | false ↦ [] ]
 
-unfoldable pub nameWithin : Outcome Stage → List ℕ → ℕ → List ℕ
-nameWithin (refused n) text q = []
-nameWithin (done g) text q = queryName (g .sofar .rows) text q
+unfoldable pub fromWithin : Outcome Stage → List ℕ → ℕ → List ℕ
+fromWithin (refused n) text q = []
+fromWithin (done g) text q = queryFrom (g .sofar .rows) text q
 
--- The name that query q of the file seeks; nothing where a refusal stands in the way. After the last section the rows so
+-- The text from the name on that query q of the file seeks; nothing where a refusal stands in the way. After the last section the rows so
 -- far are the queries.
+unfoldable pub fromSought : List ℕ → ℕ → List ℕ
+fromSought text q = fromWithin (readStage text) text q
+
+-- the name at the front of the text
+unfoldable pub nameFront : List ℕ → List ℕ
+nameFront text = namePart (nameHere text) text
+
+-- the name that query q of the file seeks; nothing where a refusal stands in the way
 unfoldable pub nameSought : List ℕ → ℕ → List ℕ
-nameSought text q = nameWithin (readStage text) text q
+nameSought text q = nameFront (fromSought text q)
+
+-- where the name at the front of the last part of a text stands in the text
+unfoldable pub placeFrom : List ℕ → List ℕ → NamePlace
+placeFrom text last = record { from = length text - length last; to = length text - length last + length (nameFront last) }
+
+-- Where the name sought stands in the text: the place of its first byte and the place after its last. Where a refusal stands in the way both are the
+-- text's end.
+unfoldable pub placeSought : List ℕ → ℕ → NamePlace
+placeSought text q = placeFrom text (fromSought text q)

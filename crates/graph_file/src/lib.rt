@@ -10,5 +10,7 @@ mod writer;
 
 pub use reader::Answer;
 pub use reader::read;
+pub use sought::NamePlace;
+pub use sought::name_place;
 pub use sought::name_sought;
 pub use writer::write;

@@ -7,10 +7,16 @@ use text_field::read_name;
 use text_field::read_number;
 ghost use mathlib.Core.Path.{_≡_};
 ghost use mathlib.Core.List.{List, [], _∷_};
-ghost use Prim.Native.Nat.{ℕ, _-_};
-ghost use lib.ListN.{drop};
+ghost use Prim.Native.Nat.{ℕ, _+_, _-_};
+ghost use lib.ListN.{length, drop};
 ghost use Rattle.graph_file.specs.Format.{sectionAt, querySection};
-ghost use Rattle.graph_file.specs.NameSought.{afterLines, lineCount, nameIn, nameSought};
+ghost use Rattle.graph_file.specs.NameSought.{afterLines, lineCount, fromName, nameFront, placeFrom, nameSought, placeSought};
+
+// The place of a name's first byte in the text, and the place after its last.
+pub struct NamePlace {
+    pub from: usize,
+    pub to: usize,
+}
 
 // One for a byte that ends a line, 0 for any other.
 fn ends_line(b: u8) -> usize
@@ -56,24 +62,65 @@ fn after_lines(text: &[u8], lines: usize) -> usize
     i
 }
 
-// The name of the query whose line starts at a place: behind the start and a space.
-fn query_name(text: &[u8], at: usize) -> &[u8]
-    ensures { λ r. ⌜ now r ≡ nameIn (sectionAt querySection .row) (drop at (now (text .entry))) ⌝ }
+// Where the name stands in the query's line at a place: behind the start and a space. The text's end where the line is of another form.
+fn name_start(text: &[u8], at: usize) -> usize
+    ensures { λ r. ⌜ r ≡ length (now (text .entry)) - length (fromName (sectionAt querySection .row) (drop at (now (text .entry)))) ⌝ }
 {
     let NumberRead::Number(_, a) = read_number(text, at) else {
-        return &text[..0];
+        return text.len();
     };
     if text.len() <= a {
-        return &text[..0];
+        return text.len();
     }
     if byte_at(text, a, 0) != 32 {
-        return &text[..0];
+        return text.len();
     }
-    let b = a + 1;
-    let NameRead::Name(_, _, end) = read_name(text, b) else {
-        return &text[..0];
+    a + 1
+}
+
+// The place after the name that stands at a place; the same place where none does.
+fn name_stop(text: &[u8], at: usize) -> usize
+    ensures { λ r. ⌜ r ≡ at + length (nameFront (drop at (now (text .entry)))) ⌝ }
+{
+    let NameRead::Name(_, _, end) = read_name(text, at) else {
+        return at;
     };
-    &text[b..end]
+    end
+}
+
+// The name in the query's line after so many lines.
+fn name_after(text: &[u8], lines: usize) -> NamePlace
+    ensures { λ r. ⌜ r ≡ placeFrom (now (text .entry)) (fromName (sectionAt querySection .row) (afterLines lines (now (text .entry)))) ⌝ }
+{
+    let from = name_start(text, after_lines(text, lines));
+    let to = name_stop(text, from);
+    NamePlace { from, to }
+}
+
+// Where the name that a query of the file seeks stands in the text; the text's end where a refusal stands in the way.
+pub fn name_place(text: &[u8], query: usize) -> NamePlace
+    ensures { λ r. ⌜ r ≡ placeSought (now (text .entry)) query ⌝ }
+{
+    let none = NamePlace {
+        from: text.len(),
+        to: text.len(),
+    };
+    let mut own = [0u64; 12277];
+    let r = read_whole(text, &mut own);
+    if r.refusal != 0 {
+        return none;
+    }
+    let counts = r.counts;
+    let n = counts.rows as usize;
+    if n <= query {
+        return none;
+    }
+    let lines = line_count(text);
+    // an accepted file has more lines than queries; the definition's difference is 0 here
+    if lines < n {
+        return name_after(text, query);
+    }
+    name_after(text, lines - n + query)
 }
 
 // The name that a query of the file seeks, as a part of the lent text; an empty part where a refusal stands in the way. The contract speaks of the part's
@@ -81,20 +128,8 @@ fn query_name(text: &[u8], at: usize) -> &[u8]
 pub fn name_sought(text: &[u8], query: usize) -> &[u8]
     ensures { λ r. ⌜ now r ≡ nameSought (now (text .entry)) query ⌝ }
 {
-    let mut own = [0u64; 12277];
-    let r = read_whole(text, &mut own);
-    if r.refusal != 0 {
-        return &text[..0];
-    }
-    let counts = r.counts;
-    let n = counts.rows as usize;
-    if n <= query {
-        return &text[..0];
-    }
-    let lines = line_count(text);
-    // an accepted file has more lines than queries; the definition's difference is 0 here
-    if lines < n {
-        return query_name(text, after_lines(text, query));
-    }
-    query_name(text, after_lines(text, lines - n + query))
+    let p = name_place(text, query);
+    let from = p.from;
+    let to = p.to;
+    &text[from..to]
 }
