@@ -1,0 +1,235 @@
+-- Every refusal of every call has a number from 1 to 9, so the number of an answer tells it. Assumes nothing.
+use Prim.Native.Nat.{ℕ, zero, suc, _+_, _-_, _≤_, _<_}
+use mathlib.Core.Path.{_≡_, refl, sym, ap, _∙_}
+use mathlib.Core.List.{List, [], _∷_, map}
+use mathlib.Core.Bool.{Bool, true, false, not}
+use native.Mathlib.Omega.{arith}
+use borrow.Author.Tests.{lt-ltb, le-ltb}
+use lib.Dec.{eqb, ltb, leb}
+use lib.ListN.{length, drop}
+use lib.Seq.{sets}
+use Rattle.text_field.specs.declared.NumberRead.{NumberRead}
+use Rattle.text_field.specs.declared.NumberRead.the-variants.{Number, NoNumber}
+use Rattle.text_field.specs.declared.NameRead.{NameRead}
+use Rattle.text_field.specs.declared.NameRead.the-variants.{Name, NoName}
+use Rattle.text_field.specs.Bytes.{isCapital}
+use Rattle.text_field.specs.Number.{numberHere}
+use Rattle.text_field.specs.Name.{nameHere}
+use Rattle.graph_file.specs.Format.{Item, byte, field, state, scope, mark, count, letter, label, end, name, Section, sectionAt, form}
+use Rattle.graph_file.specs.Outcome.{Outcome, refused, done, andThen, refuseIf}
+use Rattle.graph_file.specs.Admission.{Row, Sofar, blank, rowOf, unless, inRange, follows, admission}
+use Rattle.graph_file.specs.Line.{Reading, numberTaken, nameTaken, byteTaken, place, endTaken, readField, startsWith, readItem, placeOf, readItems, lineText, formed}
+use Rattle.graph_file.specs.Order.{orderFault}
+use Rattle.graph_file.specs.File.{Piece, Way, Stage, ifAdmitted, afterRow, oneRow, throughRows, afterNames, enough, throughSection, isEmpty, throughSections, ordered, atStart, whole, readNames, readRow, reading, readStage, madeOf, readCells, writeNames, writeRow, writing, hasForm, writeText, answer}
+use Rattle.path_row.specs.declared.form.HeadRead.{HeadRead}
+use Rattle.path_row.specs.declared.form.HeadRead.the-variants.{Head, NoHead}
+use Rattle.path_row.specs.Form.{PathRow, headHere, rowBy, rowHere}
+use Rattle.path_row.specs.Compare.{Comparison, compareRows, compareAnswer}
+use Rattle.resolution.specs.Listing.{listingOf, listingFor, summaryFor}
+use Rattle.host.specs.Numbers.{told, comparisonCase}
+use Rattle.host.specs.Listed.{Listed, listed, carried, heard, numbered, Plain, Numbers}
+
+-- what refuses by a number of the list, and goes on so
+then-listed : {A B : Type 0} (o : Outcome A) (f : A → Outcome B) → Listed o → ((a : A) → Listed (f a)) → Listed (andThen o f)
+unfolding andThen
+then-listed _ f (listed n low high) h = listed n low high
+then-listed _ f (carried a) h = h a
+
+if-listed : {A : Type 0} (b : Bool) (n : ℕ) (o : Outcome A) → 1 ≤ n → n ≤ 9 → Listed o → Listed (refuseIf b n o)
+unfolding refuseIf
+if-listed true n o low high h = listed n low high
+if-listed false n o low high h = h
+
+two : {A : Type 0} → Listed {A = A} (refused 2)
+two = listed 2 (omega arith) (omega arith)
+
+-- a line
+number-listed : (x : NumberRead) (t : List ℕ) → Listed (numberTaken x t)
+unfolding numberTaken
+number-listed (Number v w) t = carried _
+number-listed NoNumber t = two
+
+name-listed : (x : NameRead) (t : List ℕ) → Listed (nameTaken x t)
+unfolding nameTaken
+name-listed (Name h l w) t = carried _
+name-listed NoName t = two
+
+byte-listed : (b : Bool) (v : ℕ) (t : List ℕ) → Listed (byteTaken b v t)
+unfolding byteTaken
+byte-listed true v t = carried _
+byte-listed false v t = two
+
+end-listed : (ls : List ℕ) (x : ℕ) (t : List ℕ) → Listed (endTaken ls x t)
+unfolding endTaken
+end-listed ls x t = by-mark (eqb x 36)
+  where
+    by-mark : (b : Bool) → Listed {A = Reading} (elim b as (λ _. Outcome Reading) [ true ↦ byteTaken true 0 t | false ↦ byteTaken (isCapital x) (suc (place x ls)) t ])
+    by-mark true = byte-listed true 0 t
+    by-mark false = byte-listed (isCapital x) (suc (place x ls)) t
+
+item-listed : (ls : List ℕ) (i : Item) (t : List ℕ) → Listed (readItem ls i t)
+unfolding readItem readField
+item-listed ls (byte b) t = by-byte (startsWith b t)
+  where
+    by-byte : (z : Bool) → Listed {A = Reading} (elim z as (λ _. Outcome Reading) [ true ↦ done (record { values = []; rest = drop 1 t }) | false ↦ refused 2 ])
+    by-byte true = carried _
+    by-byte false = two
+item-listed ls (field state c) t = number-listed (numberHere t) t
+item-listed ls (field scope c) t = number-listed (numberHere t) t
+item-listed ls (field mark c) t = number-listed (numberHere t) t
+item-listed ls (field count c) t = number-listed (numberHere t) t
+item-listed ls (field letter c) t = byte-listed _ _ t
+item-listed ls (field label c) t = byte-listed _ _ t
+item-listed ls (field end c) t = end-listed ls _ t
+item-listed ls (field name c) t = name-listed (nameHere t) t
+
+items-listed : (ls : List ℕ) (items : List Item) (row : Row) (t : List ℕ) → Listed (readItems ls items row t)
+unfolding readItems
+items-listed ls [] row t = carried _
+items-listed ls (i ∷ items) row t =
+    then-listed (readItem ls i t) _ (item-listed ls i t) (λ r. items-listed ls items (sets row (placeOf i) (r .values)) (r .rest))
+
+-- a row's admission
+unless-small : (b : Bool) (n m : ℕ) → n ≤ 9 → m ≤ 9 → unless b n m ≤ 9
+unfolding unless
+unless-small true n m h k = k
+unless-small false n m h k = h
+
+admission-small : (s : Section) (st : Sofar) (row : Row) → admission s st row ≤ 9
+unfolding admission
+admission-small s st row =
+    unless-small _ 5 _ (omega arith) (unless-small _ 3 _ (omega arith) (unless-small _ 4 0 (omega arith) (omega arith)))
+
+admitted-listed : (n : ℕ) (g : Stage) → n ≤ 9 → Listed (ifAdmitted n (done g))
+unfolding ifAdmitted
+admitted-listed zero g h = carried g
+admitted-listed (suc n) g h = listed (suc n) (omega arith) h
+
+-- both ways through the file
+module _ (w : Way) (names : (k : ℕ) (rest : List ℕ) → Listed (w .names k rest)) (row : (k : ℕ) (letters rest : List ℕ) → Listed (w .row k letters rest)) where
+  row-listed : (k : ℕ) (g : Stage) → Listed (oneRow w k g)
+  unfolding oneRow
+  row-listed k g =
+      then-listed (w .row k (g .sofar .letters) (g .rest)) _ (row k (g .sofar .letters) (g .rest))
+      (λ p. admitted-listed (admission (sectionAt k) (g .sofar) (p .row)) (afterRow k g p) (admission-small (sectionAt k) (g .sofar) (p .row)))
+
+  rows-listed : (turns k : ℕ) (g : Stage) → Listed (throughRows w turns k g)
+  unfolding throughRows
+  rows-listed zero k g = listed 5 (omega arith) (omega arith)
+  rows-listed (suc turns) k g = by-more (w .more k (g .rest)) (then-listed (oneRow w k g) (throughRows w turns k) (row-listed k g) (rows-listed turns k))
+    where
+      by-more : (b : Bool) → Listed (andThen (oneRow w k g) (throughRows w turns k)) → Listed {A = Stage} (elim b as (λ _. Outcome Stage) [ true ↦ andThen (oneRow w k g) (throughRows w turns k) | false ↦ done g ])
+      by-more true h = h
+      by-more false h = carried g
+
+  section-listed : (k : ℕ) (g : Stage) → Listed (throughSection w k g)
+  unfolding throughSection enough
+  section-listed k g =
+      then-listed (w .names k (g .rest)) _ (names k (g .rest)) (λ p.
+      then-listed (throughRows w (suc (sectionAt k .most)) k (afterNames g p)) _ (rows-listed (suc (sectionAt k .most)) k (afterNames g p))
+      (λ h. if-listed _ 2 (done h) (omega arith) (omega arith) (carried h)))
+
+  sections-listed : (left k : ℕ) (g : Stage) → Listed (throughSections w left k g)
+  unfolding throughSections
+  sections-listed zero k g = if-listed _ 2 (done g) (omega arith) (omega arith) (carried g)
+  sections-listed (suc left) k g = then-listed (throughSection w k g) _ (section-listed k g) (sections-listed left (suc k))
+
+  whole-listed : (made rest : List ℕ) → Listed (whole w made rest)
+  unfolding whole ordered
+  whole-listed made rest =
+      then-listed (throughSections w 9 0 (atStart made rest)) _ (sections-listed 9 0 (atStart made rest))
+      (λ g. if-listed _ 6 (done g) (omega arith) (omega arith) (carried g))
+
+made-listed : (o : Outcome Stage) → Listed o → Listed (madeOf o)
+unfolding madeOf
+made-listed o h = then-listed o _ h (λ g. carried (g .made))
+
+read-names : (k : ℕ) (rest : List ℕ) → Listed (reading .names k rest)
+unfolding reading readNames
+read-names k rest = then-listed (readItems [] (map byte (sectionAt k .names)) blank rest) _ (items-listed [] (map byte (sectionAt k .names)) blank rest) (λ r. carried _)
+
+read-row : (k : ℕ) (letters rest : List ℕ) → Listed (reading .row k letters rest)
+unfolding reading readRow
+read-row k letters rest = then-listed (readItems letters (sectionAt k .row) blank rest) _ (items-listed letters (sectionAt k .row) blank rest) (λ r. carried _)
+
+stage-listed : (text : List ℕ) → Listed (readStage text)
+unfolding readStage
+stage-listed text = by-length (ltb 32768 (length text))
+  where
+    by-length : (b : Bool) → Listed {A = Stage} (elim b as (λ _. Outcome Stage) [ true ↦ refused 1 | false ↦ whole reading (form ∷ []) text ])
+    by-length true = listed 1 (omega arith) (omega arith)
+    by-length false = whole-listed reading read-names read-row (form ∷ []) text
+
+read-listed : (text : List ℕ) → Listed (readCells text)
+unfolding readCells
+read-listed text = made-listed (readStage text) (stage-listed text)
+
+write-names : (k : ℕ) (rest : List ℕ) → Listed (writing .names k rest)
+unfolding writing writeNames
+write-names k rest = carried _
+
+write-row : (k : ℕ) (letters rest : List ℕ) → Listed (writing .row k letters rest)
+unfolding writing writeRow
+write-row k letters rest = if-listed _ 2 _ (omega arith) (omega arith) (if-listed _ 2 _ (omega arith) (omega arith) (carried _))
+
+write-listed : (cells : List ℕ) → Listed (writeText cells)
+unfolding writeText
+write-listed cells = by-form (hasForm cells)
+  where
+    by-form : (b : Bool) → Listed {A = (List ℕ)} (elim b as (λ _. Outcome (List ℕ)) [ true ↦ madeOf (whole writing [] (drop 1 cells)) | false ↦ refused 2 ])
+    by-form true = made-listed _ (whole-listed writing write-names write-row [] (drop 1 cells))
+    by-form false = two
+
+-- an output and its room
+answer-listed : (o : Outcome (List ℕ)) (room : ℕ) → Listed o → Listed (answer o room)
+unfolding answer
+answer-listed o room h = then-listed o _ h (λ out. if-listed _ 9 _ (omega arith) (omega arith) (carried (length out)))
+
+listing-listed : (text : List ℕ) (i : ℕ) → Listed (listingFor text i)
+unfolding listingFor listingOf
+listing-listed text i = then-listed (readCells text) _ (read-listed text) (λ cells. if-listed _ 7 _ (omega arith) (omega arith) (carried _))
+
+summary-listed : (text : List ℕ) → Listed (summaryFor text)
+unfolding summaryFor
+summary-listed text = then-listed (readCells text) _ (read-listed text) (λ cells. carried _)
+
+-- path rows
+by-head : (x : HeadRead) (s : List ℕ) → Listed (rowBy x s)
+unfolding rowBy
+by-head (Head m v width) s = if-listed _ 8 _ (omega arith) (omega arith) (carried _)
+by-head NoHead s = listed 8 (omega arith) (omega arith)
+
+here-listed : (s : List ℕ) → Listed (rowHere s)
+unfolding rowHere
+here-listed s = if-listed _ 8 _ (omega arith) (omega arith) (by-head (headHere s) s)
+
+compare-listed : (text a b : List ℕ) (n m : ℕ) → Listed (compareAnswer text a b n m)
+unfolding compareAnswer compareRows
+compare-listed text a b n m =
+    then-listed (readCells text) _ (read-listed text) (λ cells.
+    then-listed (rowHere a) _ (here-listed a) (λ p.
+    then-listed (rowHere b) _ (here-listed b) (λ q.
+    if-listed _ 9 _ (omega arith) (omega arith) (if-listed _ 9 _ (omega arith) (omega arith) (carried _)))))
+
+-- the number tells the answer
+heard-low : (n : ℕ) → n < 16 → heard n ≡ refused n
+unfolding heard
+heard-low n h = rw (lt-ltb n 16 h, heard)
+
+heard-high : (k : ℕ) → heard (16 + k) ≡ done k
+unfolding heard
+heard-high k = let z : 16 + k - 16 ≡ k = omega arith in rw (le-ltb (16 + k) 16 (omega arith), heard) (ap done z)
+
+plain : {A : Type 0} (case : A → ℕ) (o : Outcome A) → Listed o → Plain case o
+unfolding told numbered
+plain case _ (listed n low high) = (listed n low high, heard-low n (omega (arith, high)))
+plain case _ (carried a) = (carried a, heard-high (case a))
+
+pub numbers : Numbers
+numbers = record {
+  read = λ text room. plain (λ n. n) (answer (readCells text) room) (answer-listed (readCells text) room (read-listed text));
+  write = λ cells room. plain (λ n. n) (answer (writeText cells) room) (answer-listed (writeText cells) room (write-listed cells));
+  listing = λ text query room. plain (λ n. n) (answer (listingFor text query) room) (answer-listed (listingFor text query) room (listing-listed text query));
+  summary = λ text room. plain (λ n. n) (answer (summaryFor text) room) (answer-listed (summaryFor text) room (summary-listed text));
+  compare = λ text a b n m. plain comparisonCase (compareAnswer text a b n m) (compare-listed text a b n m);
+}

@@ -1,0 +1,88 @@
+// What a host written in C or Rust calls. A slice is passed as its address and its length; every answer is one number, and include/tewhoranu.h names the
+// cases.
+mod numbers;
+
+use crate::numbers::compared_number;
+use crate::numbers::written_number;
+use graph_file::name_place;
+use graph_file::read;
+use graph_file::write;
+use path_row::form::Step;
+use path_row::lent::compare;
+use resolution::listing;
+use resolution::summary;
+ghost use mathlib.Core.Path.{_≡_};
+ghost use lib.ListN.{length};
+ghost use Rattle.graph_file.specs.File.{readCells, writeText, answer, leaves};
+ghost use Rattle.graph_file.specs.NameSought.{nameSought};
+ghost use Rattle.path_row.specs.Compare.{compareAnswer, stepsLeft};
+ghost use Rattle.resolution.specs.Listing.{listingFor, summaryFor};
+ghost use Rattle.host.specs.Numbers.{written, compared, placeLeft};
+
+// A gym file's text read into the lent table.
+#[no_mangle]
+pub extern "C" fn tewhoranu_read(text: &[u8], table: &mut [u64]) -> u64
+    ensures { λ r. ⌜ r ≡ written (answer (readCells (now (text .entry))) (length (now (table .entry)))) ⌝ }
+    ensures { λ _. ⌜ now (table .exit) ≡ leaves (readCells (now (text .entry))) (now (table .entry)) ⌝ }
+{
+    written_number(read(text, table))
+}
+
+// A graph table written into the lent buffer as a gym file's text.
+#[no_mangle]
+pub extern "C" fn tewhoranu_write(table: &[u64], out: &mut [u8]) -> u64
+    ensures { λ r. ⌜ r ≡ written (answer (writeText (now (table .entry))) (length (now (out .entry)))) ⌝ }
+    ensures { λ _. ⌜ now (out .exit) ≡ leaves (writeText (now (table .entry))) (now (out .entry)) ⌝ }
+{
+    written_number(write(table, out))
+}
+
+// The name that a query seeks: its length, 0 where a refusal stands in the way, and the place of its first byte in the text. No copy is made.
+#[no_mangle]
+pub extern "C" fn tewhoranu_name_sought(text: &[u8], query: usize, place: &mut u64) -> u64
+    ensures { λ r. ⌜ r ≡ length (nameSought (now (text .entry)) query) ⌝ }
+    ensures { λ _. ⌜ now (place .exit) ≡ placeLeft (now (text .entry)) query (now (place .entry)) ⌝ }
+{
+    let p = name_place(text, query);
+    let from = p.from;
+    let to = p.to;
+    if to <= from {
+        return 0;
+    }
+    *place = from as u64;
+    (to - from) as u64
+}
+
+// A query's listing, written into the lent buffer.
+#[no_mangle]
+pub extern "C" fn tewhoranu_listing(text: &[u8], query: usize, out: &mut [u8]) -> u64
+    ensures { λ r. ⌜ r ≡ written (answer (listingFor (now (text .entry)) query) (length (now (out .entry)))) ⌝ }
+    ensures { λ _. ⌜ now (out .exit) ≡ leaves (listingFor (now (text .entry)) query) (now (out .entry)) ⌝ }
+{
+    written_number(listing(text, query, out))
+}
+
+// Which of two path rows is more specific, by the order of a gym file's text. The steps of each go into the table lent for it.
+#[no_mangle]
+pub extern "C" fn tewhoranu_compare<'s, 'p, 'q>(
+    text: &'s [u8],
+    a: &'s [u8],
+    b: &'s [u8],
+    first: &'p mut [Step],
+    second: &'q mut [Step],
+) -> u64
+    ensures { λ r. ⌜ (r ≡ compared (compareAnswer (now (text .entry)) (now (a .entry)) (now (b .entry)) (length (now (first .entry))) (length (now (second .entry)))))
+        × (now (first .exit) ≡ stepsLeft (compareAnswer (now (text .entry)) (now (a .entry)) (now (b .entry)) (length (now (first .entry))) (length (now (second .entry)))) (now (a .entry)) (now (first .entry)))
+        × (now (second .exit) ≡ stepsLeft (compareAnswer (now (text .entry)) (now (a .entry)) (now (b .entry)) (length (now (first .entry))) (length (now (second .entry)))) (now (b .entry)) (now (second .entry))) ⌝ }
+{
+    compared_number(compare(text, a, b, first, second))
+}
+
+// The summary, written into the lent buffer.
+#[no_mangle]
+pub extern "C" fn tewhoranu_summary(text: &[u8], out: &mut [u8]) -> u64
+    ensures { λ r. ⌜ r ≡ written (answer (summaryFor (now (text .entry))) (length (now (out .entry)))) ⌝ }
+    ensures { λ _. ⌜ now (out .exit) ≡ leaves (summaryFor (now (text .entry))) (now (out .entry)) ⌝ }
+{
+    written_number(summary(text, out))
+}
