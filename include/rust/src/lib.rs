@@ -1,0 +1,210 @@
+//! Names in a climbing gym's file, resolved by scope graphs: safe functions over the proved library.
+//!
+//! Every function is total. A refusal leaves all that was lent as it was. What each function takes, answers and refuses is
+//! said in `include/tewhoranu.h`; the numbers there are the cases of the enums here.
+
+/// Cells of a graph table that serve every file.
+pub const CELLS: usize = 12_271;
+/// Bytes that serve every file's text.
+pub const TEXT: usize = 32_768;
+/// Records of a step table that serve every path row.
+pub const STEPS: usize = 63;
+/// Bytes that serve every summary.
+pub const SUMMARY: usize = 64;
+/// Bytes that the program lends for a listing.
+pub const LISTING: usize = 65_536;
+/// Stack that serves every call, in bytes.
+pub const STACK: usize = 1024 * 1024;
+
+/// A step of a path: the label's letter and the scope that it comes to.
+#[repr(C)]
+#[derive(Clone, Copy, Debug, Default, PartialEq, Eq)]
+pub struct Step {
+    pub label: u8,
+    pub scope: u8,
+}
+
+/// Why a call was refused, by its number.
+#[derive(Clone, Copy, Debug, PartialEq, Eq)]
+#[repr(u8)]
+pub enum Refusal {
+    TooLong = 1,
+    Malformed = 2,
+    OutOfRange = 3,
+    NotAscending = 4,
+    TooManyRows = 5,
+    NoOrder = 6,
+    NoQuery = 7,
+    NoPathRow = 8,
+    NoRoom = 9,
+}
+
+impl Refusal {
+    pub fn number(self) -> u8 {
+        self as u8
+    }
+
+    fn of(number: u64) -> Refusal {
+        match number {
+            1 => Refusal::TooLong,
+            2 => Refusal::Malformed,
+            3 => Refusal::OutOfRange,
+            4 => Refusal::NotAscending,
+            5 => Refusal::TooManyRows,
+            6 => Refusal::NoOrder,
+            7 => Refusal::NoQuery,
+            8 => Refusal::NoPathRow,
+            9 => Refusal::NoRoom,
+            _ => unreachable!("the library answers no such number: {number}"),
+        }
+    }
+}
+
+/// Which of two path rows is more specific.
+#[derive(Clone, Copy, Debug, PartialEq, Eq)]
+pub enum Compared {
+    First,
+    Second,
+    Neither,
+}
+
+/// What a path row is for a query.
+#[derive(Clone, Copy, Debug, PartialEq, Eq)]
+pub enum Standing {
+    Visible,
+    Shadowed,
+    Unreached,
+}
+
+mod library {
+    use super::Step;
+
+    // Nothing checks these declarations against the library but the host test.
+    extern "C" {
+        pub fn tewhoranu_read(text: *const u8, text_length: usize, table: *mut u64, table_length: usize) -> u64;
+        pub fn tewhoranu_write(table: *const u64, table_length: usize, out: *mut u8, out_length: usize) -> u64;
+        pub fn tewhoranu_name_sought(text: *const u8, text_length: usize, query: usize, place: *mut u64) -> u64;
+        pub fn tewhoranu_listing(text: *const u8, text_length: usize, query: usize, out: *mut u8, out_length: usize)
+            -> u64;
+        pub fn tewhoranu_judge(
+            text: *const u8,
+            text_length: usize,
+            query: usize,
+            row: *const u8,
+            row_length: usize,
+            steps: *mut Step,
+            steps_length: usize,
+        ) -> u64;
+        pub fn tewhoranu_compare(
+            text: *const u8,
+            text_length: usize,
+            first: *const u8,
+            first_length: usize,
+            second: *const u8,
+            second_length: usize,
+            first_steps: *mut Step,
+            first_steps_length: usize,
+            second_steps: *mut Step,
+            second_steps_length: usize,
+        ) -> u64;
+        pub fn tewhoranu_summary(text: *const u8, text_length: usize, out: *mut u8, out_length: usize) -> u64;
+    }
+}
+
+/// What is above 16, or the refusal.
+fn result(answer: u64) -> Result<usize, Refusal> {
+    match answer.checked_sub(16) {
+        Some(value) => Ok(value as usize),
+        None => Err(Refusal::of(answer)),
+    }
+}
+
+// In each function below the pointers and lengths are those of slices, which Rust keeps valid, aligned, initialised and,
+// where they are `&mut`, apart from all others for the call; the library keeps none of them. That is all that its
+// header asks, the stack aside.
+
+/// Reads a gym file's text into a graph table and answers how many cells were written.
+pub fn read(text: &[u8], table: &mut [u64]) -> Result<usize, Refusal> {
+    // SAFETY: as said above.
+    result(unsafe { library::tewhoranu_read(text.as_ptr(), text.len(), table.as_mut_ptr(), table.len()) })
+}
+
+/// Writes a graph table as a gym file's text and answers how many bytes were written.
+pub fn write(table: &[u64], out: &mut [u8]) -> Result<usize, Refusal> {
+    // SAFETY: as said above.
+    result(unsafe { library::tewhoranu_write(table.as_ptr(), table.len(), out.as_mut_ptr(), out.len()) })
+}
+
+/// The name that a query of the file seeks, as the part of the text that holds it; `None` where the file or the query
+/// number is refused.
+pub fn name_sought(text: &[u8], query: usize) -> Option<&[u8]> {
+    let mut place = 0;
+    // SAFETY: as said above.
+    let length = unsafe { library::tewhoranu_name_sought(text.as_ptr(), text.len(), query, &mut place) };
+    (length != 0).then(|| &text[place as usize..][..length as usize])
+}
+
+/// Writes a query's listing and answers how many bytes were written.
+pub fn listing(text: &[u8], query: usize, out: &mut [u8]) -> Result<usize, Refusal> {
+    // SAFETY: as said above.
+    result(unsafe { library::tewhoranu_listing(text.as_ptr(), text.len(), query, out.as_mut_ptr(), out.len()) })
+}
+
+/// Judges a path row for a query; its steps go into the table.
+pub fn judge(text: &[u8], query: usize, row: &[u8], steps: &mut [Step]) -> Result<Standing, Refusal> {
+    // SAFETY: as said above.
+    let answer = unsafe {
+        library::tewhoranu_judge(
+            text.as_ptr(),
+            text.len(),
+            query,
+            row.as_ptr(),
+            row.len(),
+            steps.as_mut_ptr(),
+            steps.len(),
+        )
+    };
+    Ok(match result(answer)? {
+        0 => Standing::Visible,
+        1 => Standing::Shadowed,
+        2 => Standing::Unreached,
+        _ => unreachable!("the library answers no such number: {answer}"),
+    })
+}
+
+/// Compares two path rows by the file's order; the steps of each go into its table.
+pub fn compare(
+    text: &[u8],
+    first: &[u8],
+    second: &[u8],
+    first_steps: &mut [Step],
+    second_steps: &mut [Step],
+) -> Result<Compared, Refusal> {
+    // SAFETY: as said above.
+    let answer = unsafe {
+        library::tewhoranu_compare(
+            text.as_ptr(),
+            text.len(),
+            first.as_ptr(),
+            first.len(),
+            second.as_ptr(),
+            second.len(),
+            first_steps.as_mut_ptr(),
+            first_steps.len(),
+            second_steps.as_mut_ptr(),
+            second_steps.len(),
+        )
+    };
+    Ok(match result(answer)? {
+        0 => Compared::First,
+        1 => Compared::Second,
+        2 => Compared::Neither,
+        _ => unreachable!("the library answers no such number: {answer}"),
+    })
+}
+
+/// Writes the summary and answers how many bytes were written.
+pub fn summary(text: &[u8], out: &mut [u8]) -> Result<usize, Refusal> {
+    // SAFETY: as said above.
+    result(unsafe { library::tewhoranu_summary(text.as_ptr(), text.len(), out.as_mut_ptr(), out.len()) })
+}

@@ -1,0 +1,129 @@
+/* Names in a climbing gym's file, resolved by scope graphs.
+ *
+ * Every function is total: any bytes, any query number, memory of any length. Each answers one number:
+ *
+ *   1 to 9        a refusal (TEWHORANU_TOO_LONG and so on); nothing that was lent has changed
+ *   16 and more   the call was carried out; what is above 16 is its result: how many cells or bytes were
+ *                 written, or which case holds (TEWHORANU_FIRST and so on)
+ *
+ * Only tewhoranu_name_sought differs: it answers a length, and 0 for any refusal.
+ *
+ * What a caller owes, for every call:
+ *   - A pointer is followed by its length: bytes for text, cells for a graph table, records for a step table.
+ *   - A pointer is not NULL, also where its length is 0, and is aligned for its type. What it points to takes at
+ *     most PTRDIFF_MAX bytes.
+ *   - Lent memory that a call may write (a pointer without const) overlaps nothing else that the call is given, and
+ *     all of it is initialised.
+ *   - About 1 MiB of stack is free (TEWHORANU_STACK).
+ * No call keeps a pointer, allocates, or has state: calls on different memory may run at the same time.
+ *
+ * The contracts are proved: see crates/host/src and docs/PROMISES.md. Nothing checks these declarations against them
+ * but the test beside this file.
+ */
+#ifndef TEWHORANU_H
+#define TEWHORANU_H
+
+#include <stddef.h>
+#include <stdint.h>
+
+#ifdef __cplusplus
+extern "C" {
+#endif
+
+/* Refusals. The sender of a file causes 1 to 6, the writer of a path row 8, the host 7 and 9. */
+#define TEWHORANU_TOO_LONG 1      /* the file is longer than 32,768 bytes */
+#define TEWHORANU_MALFORMED 2     /* a line, or a row of a graph table, not of its section's form; a missing section */
+#define TEWHORANU_OUT_OF_RANGE 3  /* a scope, state, mark, count or label outside its range or list */
+#define TEWHORANU_NOT_ASCENDING 4 /* a row that repeats or does not ascend */
+#define TEWHORANU_TOO_MANY_ROWS 5 /* a row past its section's limit */
+#define TEWHORANU_NO_ORDER 6      /* an order pair with equal ends, or pairs a, b and b, c without a, c */
+#define TEWHORANU_NO_QUERY 7      /* a query number at or past the number of queries */
+#define TEWHORANU_NO_PATH_ROW 8   /* a path row not of its form */
+#define TEWHORANU_NO_ROOM 9       /* an output longer than the memory lent for it */
+
+/* An answer of this and more is no refusal. */
+#define TEWHORANU_DONE 16
+
+/* tewhoranu_compare */
+#define TEWHORANU_FIRST 16   /* the first row is more specific */
+#define TEWHORANU_SECOND 17  /* the second row is more specific */
+#define TEWHORANU_NEITHER 18 /* neither is */
+
+/* tewhoranu_judge */
+#define TEWHORANU_VISIBLE 16   /* an entry of the query */
+#define TEWHORANU_SHADOWED 17  /* reached, and another reached path is more specific */
+#define TEWHORANU_UNREACHED 18 /* neither */
+
+/* Sizes that always serve: cells of a graph table, bytes of a file, records of a step table, bytes of a summary. A
+ * listing has no such size: 65,536 bytes is what the program lends. */
+#define TEWHORANU_CELLS 12271
+#define TEWHORANU_TEXT 32768
+#define TEWHORANU_STEPS 63
+#define TEWHORANU_SUMMARY 64
+#define TEWHORANU_LISTING 65536
+
+/* Stack that serves every call, in bytes; the host test runs every call on a thread with this much. */
+#define TEWHORANU_STACK (1024 * 1024)
+
+/* A step of a path: the label's letter (A to Z) and the scope that it comes to (0 to 63). */
+typedef struct {
+    uint8_t label;
+    uint8_t scope;
+} tewhoranu_step;
+
+/* Was the call refused? */
+static inline int tewhoranu_refused(uint64_t answer) { return answer < TEWHORANU_DONE; }
+
+/* How many cells or bytes were written by a call that was not refused. */
+static inline size_t tewhoranu_written(uint64_t answer) { return (size_t)(answer - TEWHORANU_DONE); }
+
+/* Reads a gym file's text into a graph table: cell 0 is the file's form, 0, then come six cells for each row (DESIGN in
+ * docs/ARCHITECTURE.md, "The graph table").
+ * Answers 16 and the number of cells, at most TEWHORANU_CELLS; cells behind them stay as they were.
+ * Refuses by 1; then from the top line by line 2, 5, 3, 4; then 6; then 9. */
+uint64_t tewhoranu_read(const uint8_t *text, size_t text_length, uint64_t *table, size_t table_length);
+
+/* Writes a graph table as a gym file's text: the inverse of reading.
+ * Answers 16 and the number of bytes, at most TEWHORANU_TEXT; bytes behind them stay as they were.
+ * Refuses from the first row row by row by 2, 5, 3, 4; then 6; then 9. */
+uint64_t tewhoranu_write(const uint64_t *table, size_t table_length, uint8_t *out, size_t out_length);
+
+/* Finds the name that a query of the file seeks.
+ * Answers its length, 1 to 16, and puts the place of its first byte in the text into *place: the name is
+ * text[*place] to text[*place + length - 1].
+ * Answers 0 where the file or the query number is refused, and leaves *place as it was; tewhoranu_listing of the same
+ * query tells the refusal. */
+uint64_t tewhoranu_name_sought(const uint8_t *text, size_t text_length, size_t query, uint64_t *place);
+
+/* Writes the listing of a query of the file: what it sees, and whether rows still to come could change that.
+ * Answers 16 and the number of bytes; bytes behind them stay as they were.
+ * Refuses by 1 to 6 as tewhoranu_read does, then 7, then 9. */
+uint64_t tewhoranu_listing(const uint8_t *text, size_t text_length, size_t query, uint8_t *out, size_t out_length);
+
+/* Judges a path row for a query of the file.
+ * Answers TEWHORANU_VISIBLE, TEWHORANU_SHADOWED or TEWHORANU_UNREACHED, and puts the row's steps into the table;
+ * records behind them stay as they were.
+ * Refuses by 1 to 6 as tewhoranu_read does, then 7, then 8, then 9 where the steps outnumber the records. */
+uint64_t tewhoranu_judge(const uint8_t *text, size_t text_length, size_t query, const uint8_t *row, size_t row_length,
+                         tewhoranu_step *steps, size_t steps_length);
+
+/* Compares two path rows by the order of the file, by their letters and scopes alone.
+ * Answers TEWHORANU_FIRST, TEWHORANU_SECOND or TEWHORANU_NEITHER, and puts each row's steps into the table lent for
+ * it; records behind them stay as they were.
+ * Refuses by 1 to 6 as tewhoranu_read does, then 8 for the first row, 8 for the second, then 9 where the steps of one
+ * outnumber its records. */
+uint64_t tewhoranu_compare(const uint8_t *text, size_t text_length, const uint8_t *first, size_t first_length,
+                           const uint8_t *second, size_t second_length, tewhoranu_step *first_steps,
+                           size_t first_steps_length, tewhoranu_step *second_steps, size_t second_steps_length);
+
+/* Writes the summary of the file: how many queries it has, how many are found one, several and none, and the share of
+ * those found one.
+ * Answers 16 and the number of bytes, at most TEWHORANU_SUMMARY; bytes behind them stay as they were.
+ * Refuses by 1 to 6 as tewhoranu_read does, then 9. */
+uint64_t tewhoranu_summary(const uint8_t *text, size_t text_length, uint8_t *out, size_t out_length);
+
+#ifdef __cplusplus
+}
+#endif
+
+#endif
