@@ -393,6 +393,19 @@ def with_more(k, *rows):
     return text_of(at_section(EXAMPLE, k, EXAMPLE[k] + list(rows)))
 
 
+def refused_files():
+    """For each refusal of a file a text that meets it."""
+    text = text_of(EXAMPLE)
+    return {
+        1: text + b"2 hours\n" * 4096,
+        2: text[:-1],
+        3: text_of(changed(EXAMPLE, s3=["16"])),
+        4: text_of(changed(EXAMPLE, s0=["I", "I"])),
+        5: text_of(changed(EXAMPLE, s4=["5", "5"])),
+        6: text_of(changed(EXAMPLE, s1=["I I"])),
+    }
+
+
 def example_cases():
     text = text_of(EXAMPLE)
     n = len(try_read(text))

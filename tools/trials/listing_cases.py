@@ -1,7 +1,7 @@
 """Cases of listings and summaries, and the output that is due for them, by a reference written from document 01: all simple paths of a query are
 enumerated, kept where they are lawful and end at the name, and compared with each other, two by two."""
 from case_file import Dice, bytes_of, case, sum_of
-from gym_cases import ACCEPT, DECLARED, EDGE, EXAMPLE, OPEN, ORDER, QUERY, SCOPES, SMALLEST, STEP, TOP, Refused, changed, graph, read, text_of
+from gym_cases import ACCEPT, DECLARED, EDGE, EXAMPLE, OPEN, ORDER, QUERY, SCOPES, SMALLEST, STEP, TOP, Refused, changed, graph, read, refused_files, text_of
 from row_cases import more_specific
 
 # ---------------------------------------------------------------------------------------------------------------- reference
@@ -248,15 +248,7 @@ def number_cases():
     listed("query 255 of 256", many, 255, "2 service one -")
     listed("query 256 of 256", many, 256, 7)
     summed("256 queries", many)
-    files = {
-        1: text + b"2 hours\n" * 4096,
-        2: text[:-1],
-        3: text_of(changed(EXAMPLE, s3=["16"])),
-        4: text_of(changed(EXAMPLE, s0=["I", "I"])),
-        5: text_of(changed(EXAMPLE, s4=["5", "5"])),
-        6: text_of(changed(EXAMPLE, s1=["I I"])),
-    }
-    for k, t in files.items():
+    for k, t in refused_files().items():
         listed("file refused %d, query 0" % k, t, 0, k)
         listed("file refused %d, query 0, no bytes" % k, t, 0, k, 0)
         listed("file refused %d, query past the last" % k, t, 99, k)

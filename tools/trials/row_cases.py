@@ -2,7 +2,7 @@
 import re
 
 from case_file import Dice, bytes_of, case, sum_of
-from gym_cases import EXAMPLE, ORDER, SMALLEST, Refused, changed, read, text_of
+from gym_cases import EXAMPLE, ORDER, SMALLEST, Refused, changed, read, refused_files, text_of
 
 # ---------------------------------------------------------------------------------------------------------------- reference
 
@@ -224,16 +224,8 @@ def room_cases():
 
 def refusal_cases():
     text = text_of(EXAMPLE)
-    files = {
-        1: text + b"2 hours\n" * 4096,
-        2: text[:-1],
-        3: text_of(changed(EXAMPLE, s3=["16"])),
-        4: text_of(changed(EXAMPLE, s0=["I", "I"])),
-        5: text_of(changed(EXAMPLE, s4=["5", "5"])),
-        6: text_of(changed(EXAMPLE, s1=["I I"])),
-    }
     well, bad = "1 2I4", "1 2i4"
-    for k, t in files.items():
+    for k, t in refused_files().items():
         compare("file refused %d, rows well" % k, t, well, well, k)
         compare("file refused %d, first row malformed" % k, t, bad, well, k)
         compare("file refused %d, second row malformed" % k, t, well, bad, k)
