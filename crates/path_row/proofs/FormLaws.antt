@@ -22,7 +22,7 @@ use Rattle.path_row.specs.declared.form.HeadRead.{HeadRead}
 use Rattle.path_row.specs.declared.form.HeadRead.the-variants.{Head, NoHead}
 use Rattle.path_row.specs.declared.form.StepRead.{StepRead}
 use Rattle.path_row.specs.declared.form.StepRead.the-variants.{Taken, NoStep}
-use Rattle.path_row.specs.Form.{PathRow, mostMark, mostScope, mostSteps, mostBytes, atMost, numberUpTo, stepBy, stepHere, stepsOf, afterSteps, startBy, markBy, headHere, rowBy, rowHere, stepsText, rowText, areSteps, isRow}
+use Rattle.path_row.specs.Form.{PathRow, mostMark, mostScope, mostSteps, mostBytes, atMost, numberUpTo, stepBy, stepHere, stepsOf, afterSteps, stepsWidth, startBy, markBy, headHere, rowBy, rowHere, stepsText, rowText, areSteps, isRow}
 use Rattle.path_row.specs.Inverse.{ReadThenWritten, WrittenThenRead}
 
 -- a number up to a limit
@@ -104,6 +104,14 @@ module _ (n : ℕ) (s : List ℕ) where
   pub after-off : stepHere s ≡ NoStep → afterSteps (suc n) s ≡ s
   unfolding afterSteps
   after-off e = rw (e, afterSteps)
+
+  pub width-on : (x v w : ℕ) → stepHere s ≡ Taken x v w → stepsWidth (suc n) s ≡ w + stepsWidth n (drop w s)
+  unfolding stepsWidth
+  width-on x v w e = rw (e, stepsWidth)
+
+  pub width-off : stepHere s ≡ NoStep → stepsWidth (suc n) s ≡ 0
+  unfolding stepsWidth
+  width-off e = rw (e, stepsWidth)
 
 pub record StepsStand (n : ℕ) (s : List ℕ) : Type 0 where
   pub text : s ≡ stepsText (stepsOf n s) ++ afterSteps n s

@@ -16,6 +16,7 @@ use Rattle.path_row.specs.declared.compare.Compared.the-variants.{First,
 use Rattle.path_row.specs.Form.{PathRow, rowHere, stepsIn, noStep}
 use Rattle.path_row.specs.Compare.{Comparison, first, second, neither, meaning, comparison, compareRows, compareAnswer, rowSteps, stepsLeft}
 use Rattle.path_row.specs.Lent.{filled, stepsDue}
+use Rattle.path_row.specs.Promises.{FilledIs}
 use Rattle.path_row.proofs.CompareSteps.{steps-shown}
 
 -- how many steps are due
@@ -41,7 +42,7 @@ module _ (answer : Compared) (ss : List Step) (r : ℕ) (f : r ≡ length ss) wh
   due-neither e = due-all answer neither ss r (ap meaning e) f
 
 -- k records are filled
-filled-part : (ss lent : List Step) (k : ℕ) → k ≤ length ss → k ≤ length lent → filled ss k lent ≡ take k ss ++ drop k lent
+pub filled-part : FilledIs
 filled-part ss lent zero h g = refl
 filled-part ss lent (suc k) h g =
     ap (λ (l : List Step). set l k (getD ss k noStep)) (filled-part ss lent k (omega arith) (omega arith) ∙ ap (λ (l : List Step). take k ss ++ l) (drop-cons lent k noStep (omega arith)))

@@ -1,13 +1,13 @@
 -- The values of specs/Promises. Assumes nothing.
 use Prim.Native.Nat.{ℕ, _≤_, _<_}
-use mathlib.Core.Path.{_≡_, refl}
+use mathlib.Core.Path.{_≡_, refl, sym, ap}
 use mathlib.Core.Bool.{Bool, true, false}
 use mathlib.Core.Logic.{_↔_}
 use mathlib.Core.List.{List}
 use native.Mathlib.Omega.{arith}
 use lib.ListN.{length}
 use borrow.Author.Tests.{le-ltb}
-use Rattle.graph_file.specs.Outcome.{done, andThen, refuseIf}
+use Rattle.graph_file.specs.Outcome.{Outcome, refused, done, andThen, refuseIf}
 use Rattle.graph_file.specs.File.{readCells}
 use Rattle.graph_file.specs.Decode.{lettersOf, rulesOf}
 use Rattle.graph_file.specs.Accepted.{AcceptedTable}
@@ -18,10 +18,20 @@ use Rattle.scope_graph.specs.Promises.{OrderPromises}
 use Rattle.scope_graph.proofs.Lists.{not-true, true-false}
 use Rattle.scope_graph.proofs.Rows.{preferredBy-row}
 use Rattle.scope_graph.proofs.Promises.{promises}
-use Rattle.path_row.specs.Form.{PathRow, rowHere}
+use Rattle.path_row.specs.Form.{PathRow, rowHere, rowAnswer, inLarge, rowMeaning}
 use Rattle.path_row.specs.Compare.{first, second, neither, whichOf, labelNumber, pathIn, rowBefore, comparison, compareRows, compareAnswer}
-use Rattle.path_row.specs.Promises.{Numbers, Unlisted, SaysWhich, CompareIs}
+use Rattle.path_row.specs.Promises.{RowMeant, Numbers, LettersNumbered, SaysWhich, CompareIs, FilledIs}
+use Rattle.path_row.proofs.CompareSteps.{only-eight}
+use Rattle.path_row.proofs.LentLaws.{filled-part}
 use Rattle.path_row.proofs.NumberingLaws.{number-tells, number-beyond, number-within}
+
+meant : (o : Outcome PathRow) → ((n : ℕ) → o ≡ refused n → n ≡ 8) → rowMeaning (rowAnswer o) ≡ andThen o (λ r. done (inLarge r))
+unfolding rowAnswer rowMeaning andThen
+meant (done r) eight = refl
+meant (refused n) eight = ap refused (sym (eight n refl))
+
+pub row-meant : RowMeant
+row-meant s = meant (rowHere s) (only-eight s)
 
 module _ (cells : List ℕ) (table : AcceptedTable cells) where
   numbers : Numbers cells
@@ -40,8 +50,8 @@ module _ (cells : List ℕ) (table : AcceptedTable cells) where
     apart = λ x y differ same. differ (number-tells (lettersOf cells) x y same);
   }
 
-pub unlisted : Unlisted
-unlisted text cells e = numbers cells (read-accepted text cells e)
+pub letters-numbered : LettersNumbered
+letters-numbered text cells e = numbers cells (read-accepted text cells e)
 
 -- two tests that are two claims, of which one at most holds
 module _ {P Q : Type 0} where
@@ -85,3 +95,6 @@ pub compare-is : CompareIs
 compare-is text cells a b n m p q e f g h k =
     rw (answered text cells a b n m p q e f g h k)
     (compared cells p q (promises .order (language (rulesOf cells)) (promises .language (rulesOf cells) (read-accepted text cells e .rules))))
+
+pub filled-is : FilledIs
+filled-is = filled-part

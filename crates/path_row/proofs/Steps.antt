@@ -23,8 +23,8 @@ use Rattle.path_row.specs.declared.form.RowRead.{RowRead}
 use Rattle.path_row.specs.declared.form.RowRead.the-variants.{Row, NoRow}
 use Rattle.path_row.specs.declared.form.StepRead.{StepRead}
 use Rattle.path_row.specs.declared.form.StepRead.the-variants.{Taken, NoStep}
-use Rattle.path_row.specs.Form.{mostMark, mostScope, mostSteps, noStep, atMost, numberUpTo, stepBy, stepHere, stepsOf, afterSteps, stepPlaced, startBy, markBy, headHere, rowBy, rowHere, rowAnswer, stepsAfter, stepsIn}
-use Rattle.path_row.proofs.FormLaws.{most-in, most-past, UpTo, up-found, step-on, step-off, head-on, head-off, steps-on, steps-off, after-on, after-off}
+use Rattle.path_row.specs.Form.{mostMark, mostScope, mostSteps, noStep, atMost, numberUpTo, stepBy, stepHere, stepsOf, afterSteps, stepsWidth, stepPlaced, startBy, markBy, headHere, rowBy, rowHere, rowAnswer, stepsAfter, stepsIn}
+use Rattle.path_row.proofs.FormLaws.{most-in, most-past, UpTo, up-found, step-on, step-off, head-on, head-off, steps-on, steps-off, after-on, after-off, width-on, width-off}
 
 -- a number read at a place is held to its limit
 module _ (at most : ℕ) where
@@ -184,10 +184,20 @@ unfolding stepsOf
 no-steps zero s e = refl
 no-steps (suc n) s e = steps-off n s e
 
-all-after : (n : ℕ) (s : List ℕ) → stepHere s ≡ NoStep → afterSteps n s ≡ s
-unfolding afterSteps
-all-after zero s e = refl
-all-after (suc n) s e = after-off n s e
+no-width : (n : ℕ) (s : List ℕ) → stepHere s ≡ NoStep → stepsWidth n s ≡ 0
+unfolding stepsWidth
+no-width zero s e = refl
+no-width (suc n) s e = width-off n s e
+
+-- what stands after the steps is what is left where they end
+after-width : (n : ℕ) (s : List ℕ) → drop (stepsWidth n s) s ≡ afterSteps n s
+unfolding stepsWidth afterSteps
+after-width zero s = refl
+after-width (suc n) s = by (stepHere s) refl (λ w. after-width n (drop w s))
+  where
+    by : (r : StepRead) → stepHere s ≡ r → ((w : ℕ) → drop (stepsWidth n (drop w s)) (drop w s) ≡ afterSteps n (drop w s)) → drop (stepsWidth (suc n) s) s ≡ afterSteps (suc n) s
+    by NoStep e onward = rw (width-off n s e, after-off n s e)
+    by (Taken x v w) e onward = rw (width-on n s x v w e, after-on n s x v w e) (sym (drop-drop (stepsWidth n (drop w s)) w s) ∙ onward w)
 
 module _ (s : List ℕ) (i left : ℕ) (a : StepRead) (e : a ≡ stepPlaced i (stepHere (drop i s))) where
   module _ (x v next : ℕ) (f : a ≡ Taken x v next) (h : 1 ≤ left) where
@@ -206,44 +216,46 @@ module _ (s : List ℕ) (i left : ℕ) (a : StepRead) (e : a ≡ stepPlaced i (s
         ∙ steps-on (left - 1) (drop i s) x v (found-here .width) (found-here .here)
         ∙ ap (λ (z : List ℕ). record { label = x; scope = v } ∷ stepsOf (left - 1) z) onward
 
-    pub after-next : afterSteps left (drop i s) ≡ afterSteps (left - 1) (drop next s)
-    after-next =
-        ap (λ (k : ℕ). afterSteps k (drop i s)) one-more
-        ∙ after-on (left - 1) (drop i s) x v (found-here .width) (found-here .here)
-        ∙ ap (afterSteps (left - 1)) onward
+    pub width-next : i + stepsWidth left (drop i s) ≡ next + stepsWidth (left - 1) (drop next s)
+    width-next =
+        let w : stepsWidth left (drop i s) ≡ found-here .width + stepsWidth (left - 1) (drop next s) =
+        ap (λ (k : ℕ). stepsWidth k (drop i s)) one-more
+        ∙ width-on (left - 1) (drop i s) x v (found-here .width) (found-here .here)
+        ∙ ap (λ (z : List ℕ). found-here .width + stepsWidth (left - 1) z) onward
+        in omega (arith, found-here .place)
 
   pub steps-none : a ≡ NoStep → stepsOf left (drop i s) ≡ []
   steps-none f = no-steps left (drop i s) (unplaced i (stepHere (drop i s)) (sym e ∙ f))
 
-  pub after-none : a ≡ NoStep → afterSteps left (drop i s) ≡ drop i s
-  after-none f = all-after left (drop i s) (unplaced i (stepHere (drop i s)) (sym e ∙ f))
+  pub width-none : a ≡ NoStep → i + stepsWidth left (drop i s) ≡ i
+  width-none f = let w : stepsWidth left (drop i s) ≡ 0 = no-width left (drop i s) (unplaced i (stepHere (drop i s)) (sym e ∙ f)) in omega arith
 
 -- Going through the steps from place `at` on: place i is come to, and `left` more may be taken.
 pub record Going (s : List ℕ) (at i left : ℕ) : Type 0 where
   pub few : left ≤ 63
   pub counted : length (stepsOf mostSteps (drop at s)) ≡ (63 - left) + length (stepsOf left (drop i s))
-  pub after : afterSteps mostSteps (drop at s) ≡ afterSteps left (drop i s)
+  pub placed : at + stepsWidth mostSteps (drop at s) ≡ i + stepsWidth left (drop i s)
 
 pub going-first : (s : List ℕ) (at : ℕ) → Going s at at 63
-going-first s at = record { few = omega arith; counted = omega arith; after = refl }
+going-first s at = record { few = omega arith; counted = omega arith; placed = refl }
 
 -- what the walk says where it ends
 abbrev pub WalkEnds : List ℕ → ℕ → ℕ → ℕ → Type 0
-WalkEnds s at count i = (count ≡ length (stepsOf mostSteps (drop at s))) × (drop i s ≡ afterSteps mostSteps (drop at s))
+WalkEnds s at count i = (count ≡ length (stepsOf mostSteps (drop at s))) × (i ≡ at + stepsWidth mostSteps (drop at s))
 
 module _ (s : List ℕ) (at i left : ℕ) (g : Going s at i left) (a : StepRead) (e : a ≡ stepPlaced i (stepHere (drop i s))) where
   pub going-on : (x v next : ℕ) → a ≡ Taken x v next → 1 ≤ left → Going s at next (left - 1)
   going-on x v next f h =
-      record { few = omega (arith, g .few); counted = g .counted ∙ rw (steps-next s i left a e x v next f h) (omega (arith, g .few)); after = g .after ∙ after-next s i left a e x v next f h }
+      record { few = omega (arith, g .few); counted = g .counted ∙ rw (steps-next s i left a e x v next f h) (omega (arith, g .few)); placed = g .placed ∙ width-next s i left a e x v next f h }
 
   pub going-stops : a ≡ NoStep → WalkEnds s at (63 - left) i
   going-stops f =
       let n : length (stepsOf left (drop i s)) ≡ 0 = ap length (steps-none s i left a e f)
-      in (omega (arith, g .counted), sym (g .after ∙ after-none s i left a e f))
+      in (omega (arith, g .counted), sym (g .placed ∙ width-none s i left a e f))
 
 pub going-full : (s : List ℕ) (at i left : ℕ) → Going s at i left → left ≤ 0 → WalkEnds s at 63 i
-unfolding stepsOf afterSteps
-going-full s at i zero g h = (omega (arith, g .counted), sym (g .after))
+unfolding stepsOf stepsWidth
+going-full s at i zero g h = (omega (arith, g .counted), omega (arith, g .placed))
 going-full s at i (suc n) g h = absurd (omega arith)
 
 -- looking for step k of those from place i on
@@ -284,9 +296,12 @@ module _ (s : List ℕ) where
     row-headless a e f = rw (short, ← e, f)
 
     module _ (a : HeadRead) (e : a ≡ headHere s) (m v w : ℕ) (f : a ≡ Head m v w) (count i : ℕ) (g : WalkEnds s w count i) where
+      ended : drop i s ≡ afterSteps mostSteps (drop w s)
+      ended = ap (λ (k : ℕ). drop k s) (g .1) ∙ sym (drop-drop (stepsWidth mostSteps (drop w s)) w s) ∙ after-width mostSteps (drop w s)
+
       judged : (t : Bool) → not (isEmpty (drop i s)) ≡ t → rowHere s ≡ refuseIf t 8 (done (record { mark = m; start = v; steps = stepsOf mostSteps (drop w s) }))
       unfolding rowBy
-      judged t h = short ∙ rw (← e, f, ← g .1, h)
+      judged t h = short ∙ rw (← e, f, ← ended, h)
 
       pub row-more : i < length s → NoRow ≡ rowAnswer (rowHere s)
       unfolding rowAnswer refuseIf isEmpty

@@ -33,7 +33,8 @@ meaning Second = done second
 meaning Neither = done neither
 meaning (Refused n) = refused n
 
--- the number of x, where the letters ys are numbered from n on
+-- The number of x, where the letters ys are numbered from n on. Where none of them is x, and so where there are none, it is the number after theirs with x
+-- added to it, which no other letter gets.
 unfoldable pub numberFrom : ℕ → ℕ → List ℕ → ℕ
 numberFrom n x [] = n + x
 numberFrom n x (y ∷ ys) = elim (eqb y x) [ true ↦ n | false ↦ numberFrom (suc n) x ys ]

@@ -67,6 +67,11 @@ unfoldable pub afterSteps : ℕ → List ℕ → List ℕ
 afterSteps zero s = s
 afterSteps (suc n) s = elim (stepHere s) [ Taken x v width ↦ afterSteps n (drop width s) | NoStep ↦ s ]
 
+-- and where they end: how many bytes they take
+unfoldable pub stepsWidth : ℕ → List ℕ → ℕ
+stepsWidth zero s = 0
+stepsWidth (suc n) s = elim (stepHere s) [ Taken x v width ↦ width + stepsWidth n (drop width s) | NoStep ↦ 0 ]
+
 -- a row's front, by its mark, the bytes before its start, and what is read there; then by what is read as its mark
 unfoldable pub startBy : ℕ → ℕ → NumberRead → HeadRead
 startBy m before (Number v width) = Head m v (before + width)
@@ -96,7 +101,21 @@ unfoldable pub rowAnswer : Outcome PathRow → RowRead
 rowAnswer (done r) = Row (r .mark) (r .start) (length (r .steps))
 rowAnswer (refused n) = NoRow
 
--- The steps that a text shows, one after the other: a row's are all of its own, and a text without mark and start shows none.
+-- a row in the large, and what the reader's answer means (01, "Where each language form goes"): these values, or refusal 8
+pub record InLarge : Type 0 where
+  pub mark : ℕ
+  pub start : ℕ
+  pub count : ℕ
+
+abbrev pub inLarge : PathRow → InLarge
+inLarge r = record { mark = r .mark; start = r .start; count = length (r .steps) }
+
+unfoldable pub rowMeaning : RowRead → Outcome InLarge
+rowMeaning (Row mark start count) = done (record { mark = mark; start = start; count = count })
+rowMeaning NoRow = refused 8
+
+-- The steps that stand behind a text's mark and start, as far as they are of their form. Of a path row these are its steps, all of them; a text without
+-- mark and start has none.
 unfoldable pub stepsAfter : HeadRead → List ℕ → List Step
 stepsAfter (Head m v width) s = stepsOf mostSteps (drop width s)
 stepsAfter NoHead s = []

@@ -1,6 +1,6 @@
 pub mod Form
 pub mod Inverse
 pub mod Compare
-pub mod Promises
 pub mod Lent
+pub mod Promises
 pub mod Scan

@@ -34,7 +34,7 @@ pub enum Compared {
 }
 
 // Does a row of section k stand at a place of the table?
-fn is_row(cells: &[u64], at: usize, k: u64) -> bool
+fn in_section(cells: &[u64], at: usize, k: u64) -> bool
     ensures { λ r. ⌜ r ≡ startsWith k (drop at (now (cells .entry))) ⌝ }
 {
     if cells.len() <= at {
@@ -50,7 +50,7 @@ fn count_rows(cells: &[u64], at: usize, k: u64, most: usize) -> usize
     let mut n: usize = 0;
     let mut p = at;
     while n < most {
-        if !is_row(cells, p, k) {
+        if !in_section(cells, p, k) {
             return n;
         }
         p += 6;
@@ -59,14 +59,14 @@ fn count_rows(cells: &[u64], at: usize, k: u64, most: usize) -> usize
     n
 }
 
-// The number of a letter among the labels, or one past theirs if it is not listed.
+// The number of a letter among the labels. One that is not listed has the count of the labels and its own byte added to it, so each has another.
 pub fn label_number(cells: &[u64], x: u8) -> u64
     ensures { λ r. ⌜ r ≡ labelNumber (scannedLetters (now (cells .entry))) x ⌝ }
 {
     let mut n: u64 = 0;
     let mut p: usize = 1;
     while n < 8 {
-        if !is_row(cells, p, 0) {
+        if !in_section(cells, p, 0) {
             return n + x as u64;
         }
         if cell(cells, p + 1, 0) == x as u64 {
@@ -101,7 +101,7 @@ fn preferred_from(cells: &[u64], at: usize, less: End, more: End) -> bool
     let mut left: usize = 36;
     let mut p = at;
     while left > 0 {
-        if !is_row(cells, p, 1) {
+        if !in_section(cells, p, 1) {
             return false;
         }
         if holds(pair_row(cells, p), less, more) {
@@ -131,6 +131,13 @@ fn end_at(cells: &[u64], s: &[u8], at: usize) -> End
     End::Label(label_number(cells, x))
 }
 
+// Where a's steps have ended, what the order says of the two ends decides, and not that a is the shorter.
+fn ended(said: bool) -> bool
+    ensures { λ r. ⌜ r ≡ said ⌝ }
+{
+    said
+}
+
 // Are the steps of a from place p on preferred to those of b from place q on?
 fn steps_preferred(cells: &[u64], a: &[u8], p: usize, b: &[u8], q: usize) -> bool
     ensures { λ r. ⌜ r ≡ stepsPreferred (now (cells .entry)) (stepsOf mostSteps (drop p (now (a .entry)))) (stepsOf mostSteps (drop q (now (b .entry)))) ⌝ }
@@ -139,11 +146,12 @@ fn steps_preferred(cells: &[u64], a: &[u8], p: usize, b: &[u8], q: usize) -> boo
     let mut j = q;
     let mut left: usize = 63;
     while left > 0 {
-        if preferred(cells, end_at(cells, a, i), end_at(cells, b, j)) {
+        let here = preferred(cells, end_at(cells, a, i), end_at(cells, b, j));
+        if here {
             return true;
         }
         let StepRead::Taken(x, s, next_i) = next_step(a, i) else {
-            return false;
+            return ended(here);
         };
         let StepRead::Taken(y, t, next_j) = next_step(b, j) else {
             return false;

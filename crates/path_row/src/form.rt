@@ -1,13 +1,12 @@
 // A path row taken apart: its mark, its start, and its steps one by one.
 use text_field::NumberRead;
-use text_field::byte_at;
 use text_field::is_capital;
 use text_field::read_number;
 ghost use mathlib.Core.Path.{_≡_};
 ghost use Prim.Native.Nat.{ℕ, _+_};
 ghost use lib.ListN.{length, drop, getD};
 ghost use Rattle.text_field.specs.Number.{numberPlaced};
-ghost use Rattle.path_row.specs.Form.{mostSteps, numberUpTo, stepHere, stepsOf, afterSteps, stepPlaced, headHere, rowHere, rowAnswer, stepsIn, noStep};
+ghost use Rattle.path_row.specs.Form.{mostSteps, numberUpTo, stepHere, stepsOf, stepsWidth, stepPlaced, headHere, rowHere, rowAnswer, stepsIn, noStep};
 
 // A step of a path: the label's letter, and the scope that it comes to.
 #[repr(C)]
@@ -90,7 +89,7 @@ pub struct Walked {
 }
 
 pub fn walk(s: &[u8], at: usize) -> Walked
-    ensures { λ r. ⌜ (r .count ≡ length (stepsOf mostSteps (drop at (now (s .entry))))) × (drop (r .at) (now (s .entry)) ≡ afterSteps mostSteps (drop at (now (s .entry)))) ⌝ }
+    ensures { λ r. ⌜ (r .count ≡ length (stepsOf mostSteps (drop at (now (s .entry))))) × (r .at ≡ at + stepsWidth mostSteps (drop at (now (s .entry)))) ⌝ }
 {
     let mut i = at;
     let mut left: usize = 63;

@@ -10,7 +10,7 @@ use Rattle.path_row.proofs.compare.count_rows.Statement.{statement}
 use Rattle.path_row.proofs.compare.count_rows.Tie as tie
 use Rattle.path_row.proofs.compare.count_rows.Reads as reads
 use Rattle.path_row.proofs.compare.count_rows.Lts as lts
-use Rattle.path_row.proofs.compare.is_row.Reads as is-row-reads
+use Rattle.path_row.proofs.compare.in_section.Reads as in-section-reads
 
 abbrev Inv-loop : tie.InvT-loop
 Inv-loop cells at k most n₀ p₀ n p = Counted cells at most k n p
@@ -23,16 +23,16 @@ loop-holds : tie.Need-loop-holds Inv-loop μ-loop
 loop-holds c = counted-first (now (c .before .args .cells)) (c .before .args .at) (c .before .args .most) (c .before .args .k)
 
 -- src/compare.rt:37:13
-is-row-requires : tie.Need-is-row-requires Inv-loop μ-loop
-is-row-requires c κs = search needs
+in-section-requires : tie.Need-in-section-requires Inv-loop μ-loop
+in-section-requires c κs = search needs
 
 -- src/compare.rt:38:13
 returns : tie.Need-returns Inv-loop μ-loop
-returns c = counted-stops (now (c .before .before .before .before .before .args .cells)) (c .before .before .before .before .before .args .at) (c .before .before .before .before .before .args .most) (c .before .before .before .before .before .args .k) (c .before .before .before .loop .n) (c .before .before .before .loop .p) (c .before .before .before .loop .inv) (c .before .is-row .result) (c .before .is-row .ensures) (not-true _ (c .if1 .taken))
+returns c = counted-stops (now (c .before .before .before .before .before .args .cells)) (c .before .before .before .before .before .args .at) (c .before .before .before .before .before .args .most) (c .before .before .before .before .before .args .k) (c .before .before .before .loop .n) (c .before .before .before .loop .p) (c .before .before .before .loop .inv) (c .before .in-section .result) (c .before .in-section .ensures) (not-true _ (c .if1 .taken))
 
 -- src/compare.rt:40:9
 add-p : tie.Need-add-p Inv-loop μ-loop
-add-p c = omega (arith, row-inside (now (c .before .before .before .before .before .args .cells)) (c .before .before .before .loop .p) (c .before .before .before .before .before .args .k) (c .before .is-row .result) (c .before .is-row .ensures) (not-false _ (c .if1 .left)))
+add-p c = omega (arith, row-inside (now (c .before .before .before .before .before .args .cells)) (c .before .before .before .loop .p) (c .before .before .before .before .before .args .k) (c .before .in-section .result) (c .before .in-section .ensures) (not-false _ (c .if1 .left)))
 
 -- src/compare.rt:41:9
 add-n : tie.Need-add-n Inv-loop μ-loop
@@ -44,7 +44,7 @@ loop-less c = omega arith
 
 -- src/compare.rt:36:5
 loop-again : tie.Need-loop-again Inv-loop μ-loop
-loop-again c = counted-on (now (c .before .before .before .before .before .args .cells)) (c .before .before .before .before .before .args .at) (c .before .before .before .before .before .args .most) (c .before .before .before .before .before .args .k) (c .before .before .before .loop .n) (c .before .before .before .loop .p) (c .before .before .before .loop .inv) (c .before .is-row .result) (c .before .is-row .ensures) (not-false _ (c .if1 .left)) (c .before .before .loop-test .taken)
+loop-again c = counted-on (now (c .before .before .before .before .before .args .cells)) (c .before .before .before .before .before .args .at) (c .before .before .before .before .before .args .most) (c .before .before .before .before .before .args .k) (c .before .before .before .loop .n) (c .before .before .before .loop .p) (c .before .before .before .loop .inv) (c .before .in-section .result) (c .before .in-section .ensures) (not-false _ (c .if1 .left)) (c .before .before .loop-test .taken)
 
 -- src/compare.rt:31:1
 returns-2 : tie.Need-returns-2 Inv-loop μ-loop
@@ -57,7 +57,7 @@ count-rows-spec =
     Inv-loop
     μ-loop
     loop-holds
-    is-row-requires
+    in-section-requires
     returns
     add-p
     add-n

@@ -11,7 +11,7 @@ use Rattle.path_row.proofs.compare.label_number.Statement.{statement}
 use Rattle.path_row.proofs.compare.label_number.Tie as tie
 use Rattle.path_row.proofs.compare.label_number.Reads as reads
 use Rattle.path_row.proofs.compare.label_number.Lts as lts
-use Rattle.path_row.proofs.compare.is_row.Reads as is-row-reads
+use Rattle.path_row.proofs.compare.in_section.Reads as in-section-reads
 use Rattle.text_field.proofs.cell.Reads as cell-reads
 
 abbrev Inv-loop : tie.InvT-loop
@@ -25,8 +25,8 @@ loop-holds : tie.Need-loop-holds Inv-loop μ-loop
 loop-holds c = (refl, omega arith, omega arith)
 
 -- src/compare.rt:53:13
-is-row-requires : tie.Need-is-row-requires Inv-loop μ-loop
-is-row-requires c κs = search needs
+in-section-requires : tie.Need-in-section-requires Inv-loop μ-loop
+in-section-requires c κs = search needs
 
 -- src/compare.rt:54:20
 add-result : tie.Need-add-result Inv-loop μ-loop
@@ -34,7 +34,7 @@ add-result c = omega arith
 
 -- src/compare.rt:54:13
 returns : tie.Need-returns Inv-loop μ-loop
-returns c = sym (letters-are (now (c .before .before .before .before .before .args .cells)) (c .before .before .before .before .before .args .x) ∙ c .before .before .before .loop .inv .0 ∙ seek-none (now (c .before .before .before .before .before .args .cells)) (c .before .before .before .loop .p) (c .before .before .before .before .before .args .x) (c .before .before .before .loop .n) (c .before .is-row .result) (c .before .is-row .ensures) (not-true _ (c .if1 .taken)))
+returns c = sym (letters-are (now (c .before .before .before .before .before .args .cells)) (c .before .before .before .before .before .args .x) ∙ c .before .before .before .loop .inv .0 ∙ seek-none (now (c .before .before .before .before .before .args .cells)) (c .before .before .before .loop .p) (c .before .before .before .before .before .args .x) (c .before .before .before .loop .n) (c .before .in-section .result) (c .before .in-section .ensures) (not-true _ (c .if1 .taken)))
 
 -- src/compare.rt:56:24
 add-cell : tie.Need-add-cell Inv-loop μ-loop
@@ -46,7 +46,7 @@ cell-requires c κs = search needs
 
 -- src/compare.rt:57:13
 returns-2 : tie.Need-returns-2 Inv-loop μ-loop
-returns-2 c = sym (letters-are (now (c .before .before .before .before .before .before .before .args .cells)) (c .before .before .before .before .before .before .before .args .x) ∙ c .before .before .before .before .before .loop .inv .0 ∙ seek-here (now (c .before .before .before .before .before .before .before .args .cells)) (c .before .before .before .before .before .loop .p) (c .before .before .before .before .before .before .before .args .x) (c .before .before .before .before .before .loop .n) (c .before .before .before .is-row .result) (c .before .before .before .is-row .ensures) (not-false _ (c .before .before .if1 .left)) (c .before .before .before .before .loop-test .taken) (c .before .cell .result) (c .before .cell .ensures) (c .if2 .taken))
+returns-2 c = sym (letters-are (now (c .before .before .before .before .before .before .before .args .cells)) (c .before .before .before .before .before .before .before .args .x) ∙ c .before .before .before .before .before .loop .inv .0 ∙ seek-here (now (c .before .before .before .before .before .before .before .args .cells)) (c .before .before .before .before .before .loop .p) (c .before .before .before .before .before .before .before .args .x) (c .before .before .before .before .before .loop .n) (c .before .before .before .in-section .result) (c .before .before .before .in-section .ensures) (not-false _ (c .before .before .if1 .left)) (c .before .before .before .before .loop-test .taken) (c .before .cell .result) (c .before .cell .ensures) (c .if2 .taken))
 
 -- src/compare.rt:59:9
 add-p : tie.Need-add-p Inv-loop μ-loop
@@ -62,7 +62,7 @@ loop-less c = omega arith
 
 -- src/compare.rt:52:5
 loop-again : tie.Need-loop-again Inv-loop μ-loop
-loop-again c = (c .before .before .before .before .before .loop .inv .0 ∙ seek-next (now (c .before .before .before .before .before .before .before .args .cells)) (c .before .before .before .before .before .loop .p) (c .before .before .before .before .before .before .before .args .x) (c .before .before .before .before .before .loop .n) (c .before .before .before .is-row .result) (c .before .before .before .is-row .ensures) (not-false _ (c .before .before .if1 .left)) (c .before .before .before .before .loop-test .taken) (c .before .cell .result) (c .before .cell .ensures) (c .if2 .left), omega arith, omega arith)
+loop-again c = (c .before .before .before .before .before .loop .inv .0 ∙ seek-next (now (c .before .before .before .before .before .before .before .args .cells)) (c .before .before .before .before .before .loop .p) (c .before .before .before .before .before .before .before .args .x) (c .before .before .before .before .before .loop .n) (c .before .before .before .in-section .result) (c .before .before .before .in-section .ensures) (not-false _ (c .before .before .if1 .left)) (c .before .before .before .before .loop-test .taken) (c .before .cell .result) (c .before .cell .ensures) (c .if2 .left), omega arith, omega arith)
 
 -- src/compare.rt:62:5
 add-result-2 : tie.Need-add-result-2 Inv-loop μ-loop
@@ -79,7 +79,7 @@ label-number-spec =
     Inv-loop
     μ-loop
     loop-holds
-    is-row-requires
+    in-section-requires
     add-result
     returns
     add-cell

@@ -11,7 +11,7 @@ use Rattle.path_row.proofs.compare.preferred_from.Statement.{statement}
 use Rattle.path_row.proofs.compare.preferred_from.Tie as tie
 use Rattle.path_row.proofs.compare.preferred_from.Reads as reads
 use Rattle.path_row.proofs.compare.preferred_from.Lts as lts
-use Rattle.path_row.proofs.compare.is_row.Reads as is-row-reads
+use Rattle.path_row.proofs.compare.in_section.Reads as in-section-reads
 use Rattle.path_row.proofs.compare.pair_row.Reads as pair-row-reads
 use Rattle.scope_graph.proofs.holds.Reads as holds-reads
 
@@ -26,12 +26,12 @@ loop-holds : tie.Need-loop-holds Inv-loop μ-loop
 loop-holds c = refl
 
 -- src/compare.rt:88:13
-is-row-requires : tie.Need-is-row-requires Inv-loop μ-loop
-is-row-requires c κs = search needs
+in-section-requires : tie.Need-in-section-requires Inv-loop μ-loop
+in-section-requires c κs = search needs
 
 -- src/compare.rt:89:13
 returns : tie.Need-returns Inv-loop μ-loop
-returns c = sym (c .before .before .before .loop .inv ∙ prefer-none (meaning (c .before .before .before .before .before .args .less)) (meaning (c .before .before .before .before .before .args .more)) (now (c .before .before .before .before .before .args .cells)) (c .before .before .before .loop .p) (c .before .before .before .loop .left) (c .before .is-row .result) (c .before .is-row .ensures) (not-true _ (c .if1 .taken)))
+returns c = sym (c .before .before .before .loop .inv ∙ prefer-none (meaning (c .before .before .before .before .before .args .less)) (meaning (c .before .before .before .before .before .args .more)) (now (c .before .before .before .before .before .args .cells)) (c .before .before .before .loop .p) (c .before .before .before .loop .left) (c .before .in-section .result) (c .before .in-section .ensures) (not-true _ (c .if1 .taken)))
 
 -- src/compare.rt:91:18
 pair-row-requires : tie.Need-pair-row-requires Inv-loop μ-loop
@@ -43,11 +43,11 @@ holds-requires c κs = search needs
 
 -- src/compare.rt:92:13
 returns-2 : tie.Need-returns-2 Inv-loop μ-loop
-returns-2 c = sym (c .before .before .before .before .before .before .loop .inv ∙ prefer-found (meaning (c .before .before .before .before .before .before .before .before .args .less)) (meaning (c .before .before .before .before .before .before .before .before .args .more)) (now (c .before .before .before .before .before .before .before .before .args .cells)) (c .before .before .before .before .before .before .loop .p) (c .before .before .before .before .before .before .loop .left) (c .before .before .before .before .is-row .result) (c .before .before .before .before .is-row .ensures) (not-false _ (c .before .before .before .if1 .left)) (omega arith) (pairMeaning (c .before .before .pair-row .result)) (c .before .before .pair-row .ensures) (c .before .holds .result) (c .before .holds .ensures) (c .if2 .taken))
+returns-2 c = sym (c .before .before .before .before .before .before .loop .inv ∙ prefer-found (meaning (c .before .before .before .before .before .before .before .before .args .less)) (meaning (c .before .before .before .before .before .before .before .before .args .more)) (now (c .before .before .before .before .before .before .before .before .args .cells)) (c .before .before .before .before .before .before .loop .p) (c .before .before .before .before .before .before .loop .left) (c .before .before .before .before .in-section .result) (c .before .before .before .before .in-section .ensures) (not-false _ (c .before .before .before .if1 .left)) (omega arith) (pairMeaning (c .before .before .pair-row .result)) (c .before .before .pair-row .ensures) (c .before .holds .result) (c .before .holds .ensures) (c .if2 .taken))
 
 -- src/compare.rt:94:9
 add-p : tie.Need-add-p Inv-loop μ-loop
-add-p c = omega (arith, row-inside (now (c .before .before .before .before .before .before .before .before .args .cells)) (c .before .before .before .before .before .before .loop .p) 1 (c .before .before .before .before .is-row .result) (c .before .before .before .before .is-row .ensures) (not-false _ (c .before .before .before .if1 .left)))
+add-p c = omega (arith, row-inside (now (c .before .before .before .before .before .before .before .before .args .cells)) (c .before .before .before .before .before .before .loop .p) 1 (c .before .before .before .before .in-section .result) (c .before .before .before .before .in-section .ensures) (not-false _ (c .before .before .before .if1 .left)))
 
 -- src/compare.rt:95:9
 sub-left : tie.Need-sub-left Inv-loop μ-loop
@@ -59,7 +59,7 @@ loop-less c = omega arith
 
 -- src/compare.rt:87:5
 loop-again : tie.Need-loop-again Inv-loop μ-loop
-loop-again c = c .before .before .before .before .before .before .loop .inv ∙ prefer-next (meaning (c .before .before .before .before .before .before .before .before .args .less)) (meaning (c .before .before .before .before .before .before .before .before .args .more)) (now (c .before .before .before .before .before .before .before .before .args .cells)) (c .before .before .before .before .before .before .loop .p) (c .before .before .before .before .before .before .loop .left) (c .before .before .before .before .is-row .result) (c .before .before .before .before .is-row .ensures) (not-false _ (c .before .before .before .if1 .left)) (omega arith) (pairMeaning (c .before .before .pair-row .result)) (c .before .before .pair-row .ensures) (c .before .holds .result) (c .before .holds .ensures) (c .if2 .left)
+loop-again c = c .before .before .before .before .before .before .loop .inv ∙ prefer-next (meaning (c .before .before .before .before .before .before .before .before .args .less)) (meaning (c .before .before .before .before .before .before .before .before .args .more)) (now (c .before .before .before .before .before .before .before .before .args .cells)) (c .before .before .before .before .before .before .loop .p) (c .before .before .before .before .before .before .loop .left) (c .before .before .before .before .in-section .result) (c .before .before .before .before .in-section .ensures) (not-false _ (c .before .before .before .if1 .left)) (omega arith) (pairMeaning (c .before .before .pair-row .result)) (c .before .before .pair-row .ensures) (c .before .holds .result) (c .before .holds .ensures) (c .if2 .left)
 
 -- src/compare.rt:82:1
 returns-3 : tie.Need-returns-3 Inv-loop μ-loop
@@ -72,7 +72,7 @@ preferred-from-spec =
     Inv-loop
     μ-loop
     loop-holds
-    is-row-requires
+    in-section-requires
     returns
     pair-row-requires
     holds-requires

@@ -1,12 +1,12 @@
--- `path_row::compare::is_row` meets its contract. Assumes nothing.
+-- `path_row::compare::in_section` meets its contract. Assumes nothing.
 use denote.Ref.{now}
 use mathlib.Core.Path.{sym}
 use Rattle.path_row.proofs.OrderSteps.{row-none, row-test}
 use borrow.Author.Needs.{needs}
-use Rattle.path_row.proofs.compare.is_row.Statement.{statement}
-use Rattle.path_row.proofs.compare.is_row.Tie as tie
-use Rattle.path_row.proofs.compare.is_row.Reads as reads
-use Rattle.path_row.proofs.compare.is_row.Lts as lts
+use Rattle.path_row.proofs.compare.in_section.Statement.{statement}
+use Rattle.path_row.proofs.compare.in_section.Tie as tie
+use Rattle.path_row.proofs.compare.in_section.Reads as reads
+use Rattle.path_row.proofs.compare.in_section.Lts as lts
 
 -- src/compare.rt:28:9
 returns : tie.Need-returns
@@ -24,5 +24,5 @@ shared-slice-read-result c = search needs
 returns-2 : tie.Need-returns-2
 returns-2 c = sym (row-test (now (c .before .before .args .cells)) (c .before .before .args .at) (c .before .before .args .k) (c .before .if1 .left))
 
-pub is-row-spec : {M : Type 1} → statement M
-is-row-spec = tie.close (tie.spec returns mul-result shared-slice-read-result returns-2)
+pub in-section-spec : {M : Type 1} → statement M
+in-section-spec = tie.close (tie.spec returns mul-result shared-slice-read-result returns-2)
