@@ -22,8 +22,8 @@ use Rattle.path_row.specs.declared.form.HeadRead.{HeadRead}
 use Rattle.path_row.specs.declared.form.HeadRead.the-variants.{Head, NoHead}
 use Rattle.path_row.specs.declared.form.StepRead.{StepRead}
 use Rattle.path_row.specs.declared.form.StepRead.the-variants.{Taken, NoStep}
-use Rattle.path_row.specs.Form.{PathRow, mostMark, mostScope, mostSteps, mostBytes, atMost, numberUpTo, stepBy, stepHere, stepsOf, afterSteps, stepsWidth, startBy, markBy, headHere, rowBy, rowHere, stepsText, rowText, areSteps, isRow}
-use Rattle.path_row.specs.Inverse.{ReadThenWritten, WrittenThenRead}
+use Rattle.path_row.specs.Form.{PathRow, mostMark, mostScope, mostSteps, mostBytes, atMost, numberUpTo, stepBy, stepHere, stepsOf, afterSteps, stepsWidth, startBy, markBy, headHere, rowBy, rowHere, stepsText, rowText, stepsMade, rowMade, areSteps, isRow, rowWritten}
+use Rattle.path_row.specs.Inverse.{ReadThenWritten, WrittenThenRead, PartsThenRead, lettersIn, scopesIn, ReadThenParts}
 
 -- a number up to a limit
 pub most-in : (most v w : ℕ) → v ≤ most → atMost most (Number v w) ≡ Number v w
@@ -314,6 +314,19 @@ head-back m v t h g d =
       rest = sym (drop-drop (length (numberText v)) (w + 1) s) ∙ ap (drop (length (numberText v))) c ∙ drop-at (numberText v) t (length (numberText v)) refl;
     }
 
+-- a row that can be written takes at most 256 bytes
+pub row-short : (r : PathRow) → isRow r ≡ true → length (rowText r) ≤ 256
+unfolding isRow rowText
+row-short r h =
+    let p = both (leb (r .mark) mostMark) (leb (r .start) mostScope && (leb (length (r .steps)) mostSteps && areSteps (r .steps))) h
+    in let q = both (leb (r .start) mostScope) (leb (length (r .steps)) mostSteps && areSteps (r .steps)) (p .1)
+    in let u = both (leb (length (r .steps)) mostSteps) (areSteps (r .steps)) (q .1)
+    in let m : r .mark ≤ 65535 = leb-true (r .mark) 65535 (p .0)
+    in let v : r .start ≤ 63 = leb-true (r .start) 63 (q .0)
+    in let n : length (r .steps) ≤ 63 = leb-true (length (r .steps)) 63 (u .0)
+    in let t : List ℕ = stepsText (r .steps)
+    in omega (arith, length-append (numberText (r .mark)) (32 ∷ (numberText (r .start) ++ t)), length-append (numberText (r .start)) t, length-below 4 (r .mark) (omega arith), length-below 1 (r .start) (omega arith), steps-short (r .steps) (u .1))
+
 pub written-then-read : WrittenThenRead
 unfolding rowHere rowBy isRow rowText refuseIf isEmpty
 written-then-read r h =
@@ -326,5 +339,23 @@ written-then-read r h =
     in let t : List ℕ = stepsText (r .steps)
     in let b = head-back (r .mark) (r .start) t m v (starts-plain (r .steps) (u .1))
     in let k = steps-back mostSteps (r .steps) (u .1) n
-    in let l : length (rowText r) ≤ 256 = omega (arith, length-append (numberText (r .mark)) (32 ∷ (numberText (r .start) ++ t)), length-append (numberText (r .start)) t, length-below 4 (r .mark) (omega arith), length-below 1 (r .start) (omega arith), steps-short (r .steps) (u .1))
-    in rw (le-ltb 256 (length (rowText r)) l, b .head, b .rest, k .after, k .steps)
+    in rw (le-ltb 256 (length (rowText r)) (row-short r h), b .head, b .rest, k .after, k .steps)
+
+-- the same with the row in parts
+pub parts-then-read : PartsThenRead
+unfolding rowWritten
+parts-then-read mark start count letters scopes text e =
+    let r = rowMade mark start count letters scopes
+    in let q = refuse-done (not (isRow r)) (rowText r) text e
+    in ap rowHere (sym (q .1)) ∙ written-then-read r (not-false (isRow r) (q .0))
+
+parts-made : (ss : List Step) → stepsMade (length ss) (lettersIn ss) (scopesIn ss) ≡ ss
+unfolding stepsMade
+parts-made [] = refl
+parts-made (s ∷ ss) = ap (λ (z : List Step). s ∷ z) (parts-made ss)
+
+pub read-then-parts : ReadThenParts
+unfolding rowWritten rowMade refuseIf
+read-then-parts s r e =
+    let q = read-then-written s r e
+    in rw (parts-made (r .steps), q .1, q .0)

@@ -157,3 +157,8 @@ areSteps (s ∷ ss) = isCapital (s .label) && (leb (s .scope) mostScope && areSt
 
 unfoldable pub isRow : PathRow → Bool
 isRow r = leb (r .mark) mostMark && (leb (r .start) mostScope && (leb (length (r .steps)) mostSteps && areSteps (r .steps)))
+
+-- The text of a row that is made from its parts, or refusal 8 (01, "Who can cause a refusal"): parts that make no row of the form.
+unfoldable pub rowWritten : ℕ → ℕ → ℕ → List ℕ → List ℕ → Outcome (List ℕ)
+rowWritten mark start count letters scopes =
+    refuseIf (not (isRow (rowMade mark start count letters scopes))) 8 (done (rowText (rowMade mark start count letters scopes)))

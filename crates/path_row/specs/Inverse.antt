@@ -1,11 +1,13 @@
--- The two promises that tie reading and writing a path row together (document 01, "Paths"). These are the statements; their proofs are in
+-- The promises that tie reading and writing a path row together (document 01, "Paths"). These are the statements; their proofs are in
 -- proofs/. Assumes nothing: these are definitions.
 use Prim.Native.Nat.{ℕ}
 use mathlib.Core.Path.{_≡_}
 use mathlib.Core.Bool.{true}
-use mathlib.Core.List.{List}
+use mathlib.Core.List.{List, map}
+use lib.ListN.{length}
 use Rattle.graph_file.specs.Outcome.{done}
-use Rattle.path_row.specs.Form.{PathRow, rowHere, rowText, isRow}
+use Rattle.path_row.specs.declared.form.Step.{Step}
+use Rattle.path_row.specs.Form.{PathRow, rowHere, rowText, rowMade, isRow, rowWritten}
 
 -- what was read is written back byte for byte, and it can be written
 abbrev pub ReadThenWritten : Type 0
@@ -14,3 +16,18 @@ ReadThenWritten = (s : List ℕ) (r : PathRow) → rowHere s ≡ done r → (row
 -- what can be written is read back as it was
 abbrev pub WrittenThenRead : Type 0
 WrittenThenRead = (r : PathRow) → isRow r ≡ true → rowHere (rowText r) ≡ done r
+
+-- the same of a row in parts, as the writer takes them: what is written is read back as what the parts make
+abbrev pub PartsThenRead : Type 0
+PartsThenRead = (mark start count : ℕ) (letters scopes text : List ℕ) → rowWritten mark start count letters scopes ≡ done text → rowHere text ≡ done (rowMade mark start count letters scopes)
+
+-- the letters and the scopes of steps
+abbrev pub lettersIn : List Step → List ℕ
+lettersIn steps = map (λ (s : Step). s .label) steps
+
+abbrev pub scopesIn : List Step → List ℕ
+scopesIn steps = map (λ (s : Step). s .scope) steps
+
+-- and what was read is written back from its parts
+abbrev pub ReadThenParts : Type 0
+ReadThenParts = (s : List ℕ) (r : PathRow) → rowHere s ≡ done r → rowWritten (r .mark) (r .start) (length (r .steps)) (lettersIn (r .steps)) (scopesIn (r .steps)) ≡ done s
