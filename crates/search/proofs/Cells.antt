@@ -3,7 +3,7 @@ use mathlib.Core.Path.{_≡_, refl, sym, _∙_, fun-ext, subst}
 use mathlib.Core.Logic.{_⊎_, inl, inr, ⊎-elim}
 use mathlib.Core.Bool.{Bool, true, false, not, _&&_, and-false, and-true, false≢true}
 use mathlib.Core.List.{List, [], _∷_}
-use Prim.Native.Nat.{ℕ, zero, suc, _+_, _*_, _≤_, _<_}
+use Prim.Native.Nat.{ℕ, zero, suc, _+_, _-_, _*_, _≤_, _<_}
 use native.Mathlib.Omega.{arith}
 use native.Mathlib.Numerals.{add-one}
 use borrow.Author.Count.{below-more}
@@ -16,7 +16,7 @@ use Rattle.scope_graph.proofs.Lists.{Two, and-left, and-right}
 use Rattle.search.specs.Board.{without}
 use Rattle.search.specs.Live.{any-way, open-way}
 use Rattle.search.specs.Tables.{nextCell, placeFlag, pairFlag, freeFlag, tableOrder, endNumber, tableBoard}
-use Rattle.search.specs.Steps.{Kept, wayOf, lacks, hopTo, wantedHop, worthState}
+use Rattle.search.specs.Steps.{NoState, Kept, wayOf, lacks, hopTo, wantedHop, worthState}
 
 -- within the list the default does not matter
 pub getD-any : (l : List ℕ) (i d e : ℕ) → i < length l → getD l i d ≡ getD l i e
@@ -69,6 +69,15 @@ module _ (t : List ℕ) (s q : ℕ) where
   unfolding placeFlag
   place-cell h = eqb-true (getD t (s * 16 + q) 0) 1 (when-flag (ltb s 64 && ltb q 16) (eqb (getD t (s * 16 + q) 0) 1) h)
 
+-- a table of no cells holds no place
+pub place-none : (s q : ℕ) → placeFlag [] s q ≡ false
+unfolding placeFlag
+place-none s q = at (ltb s 64 && ltb q 16)
+  where
+    at : (t : Bool) → (elim t as (λ _. Bool) [ true ↦ eqb (getD {A = ℕ} [] (s * 16 + q) 0) 1 | false ↦ false ]) ≡ false
+    at true = refl
+    at false = refl
+
 -- a table is kept by one that holds each of its 1024 set flags
 pub kept-cells : (a c : List ℕ) → ((k : ℕ) → k < 1024 → getD a k 0 ≡ 1 → getD c k 0 ≡ 1) → Kept a c
 kept-cells a c h = record {
@@ -103,6 +112,27 @@ module _ (delta : List ℕ) (q l : ℕ) where
   pub next-no-label : 8 ≤ l → nextCell delta q l ≡ 16
   unfolding nextCell
   next-no-label h = rw (le-ltb l 8 h, and-false (ltb q 16), nextCell)
+
+-- no label leads on from the states from n on, if no cell from i on has a state and they are theirs
+pub no-state : (delta : List ℕ) (i n : ℕ) → ((k : ℕ) → i ≤ k → k < 128 → 16 ≤ getD delta k 16) → ((q l : ℕ) → n ≤ q → i ≤ q * 8 + l) → NoState delta n
+no-state delta i n h w q l m = at (Two (ltb q 16)) (Two (ltb l 8))
+  where
+    at : (ltb q 16 ≡ true) ⊎ (ltb q 16 ≡ false) → (ltb l 8 ≡ true) ⊎ (ltb l 8 ≡ false) → 16 ≤ nextCell delta q l
+    at (inl e) (inl f) =
+        let below : q < 16 = ltb-true q 16 e in
+        let few : l < 8 = ltb-true l 8 f in
+        rw (next-in delta q l below few) (h (q * 8 + l) (w q l m) (omega arith))
+    at (inl e) (inr f) = rw (next-no-label delta q l (ltb-false l 8 f)) (omega arith)
+    at (inr e) f = rw (next-no-state delta q l (ltb-false q 16 e)) (omega arith)
+
+-- one cell more, from the last one down
+pub states-down : (delta : List ℕ) (i : ℕ) → 0 < i → ((k : ℕ) → i ≤ k → k < 128 → 16 ≤ getD delta k 16) → 16 ≤ getD delta (i - 1) 16
+    → (k : ℕ) → i - 1 ≤ k → k < 128 → 16 ≤ getD delta k 16
+states-down delta i pos h e k m b = at (Two (eqb k (i - 1)))
+  where
+    at : (eqb k (i - 1) ≡ true) ⊎ (eqb k (i - 1) ≡ false) → 16 ≤ getD delta k 16
+    at (inl f) = rw (eqb-true k (i - 1) f) e
+    at (inr f) = let other : k ≡ i - 1 → ⊥ = eqb-false k (i - 1) f in h k (omega arith) b
 
 module _ (order : List ℕ) (a c : ℕ) where
   pub pair-in : a < 9 → c < 9 → pairFlag order a c ≡ eqb (getD order (a * 9 + c) 0) 1
@@ -177,6 +207,15 @@ module _ (delta : List ℕ) (way : ℕ → ℕ → ℕ → Bool) (live : ℕ →
   pub lacks-no : live t (nextCell delta q l) ≡ false → lacks delta way live s (hopTo l t) q ≡ false
   unfolding lacks
   lacks-no h = rw (h, and-false (not (live s q)), lacks)
+
+-- no state is lacked if none of the first n is
+pub lacks-none : (delta : List ℕ) (way : ℕ → ℕ → ℕ → Bool) (live : List ℕ) (s l t n : ℕ) → NoState delta n
+    → ((k : ℕ) → k < n → lacks delta way (placeFlag live) s (hopTo l t) k ≡ false) → (q : ℕ) → lacks delta way (placeFlag live) s (hopTo l t) q ≡ false
+lacks-none delta way live s l t n past h q = at (Two (ltb q n))
+  where
+    at : (ltb q n ≡ true) ⊎ (ltb q n ≡ false) → lacks delta way (placeFlag live) s (hopTo l t) q ≡ false
+    at (inl e) = h q (ltb-true q n e)
+    at (inr e) = lacks-no delta way (placeFlag live) s l t q (place-no-state live t (nextCell delta q l) (past q l (ltb-false q n e)))
 
 module _ (goal order : List ℕ) (s q l : ℕ) where
   pub way-cut : placeFlag goal s q ≡ true → wayOf goal order true s q l ≡ not (tableOrder order stop (by l))

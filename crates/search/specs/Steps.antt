@@ -36,6 +36,10 @@ wayOf goal order cutting s q t =
 unfoldable pub lacks : List ℕ → (ℕ → ℕ → ℕ → Bool) → (ℕ → ℕ → Bool) → ℕ → HopOf ℕ → ℕ → Bool
 lacks delta way live s h q = not (live s q) && (live (h .to) (nextCell delta q (h .step)) && way s q (h .step))
 
+-- no label leads on from the states from n on
+abbrev pub NoState : List ℕ → ℕ → Type 0
+NoState delta n = (q l : ℕ) → n ≤ q → 16 ≤ nextCell delta q l
+
 -- what one table holds, the other does
 pub record Kept (a c : List ℕ) : Type 0 where
   pub flags : (s q : ℕ) → placeFlag a s q ≡ true → placeFlag c s q ≡ true

@@ -1,6 +1,11 @@
 // The search over a query's tables: places worth entering, whether what is sought lies behind a place, and which ends are cut there.
+mod grow;
+
+use grow::grown;
+use grow::unreached;
 ghost use mathlib.Core.Path.{_≡_};
 ghost use mathlib.Core.Bool.{true, false, _&&_};
+ghost use mathlib.Core.List.{List, []};
 ghost use Prim.Native.Nat.{ℕ, _<_};
 ghost use lib.ListN.{getD, set, drop, replicate};
 ghost use lib.Dec.{eqb};
@@ -10,7 +15,7 @@ ghost use Rattle.scope_graph.specs.Rows.{anyOf};
 ghost use Rattle.search.specs.Board.{existsFrom, leadsOn, cutHere};
 ghost use Rattle.search.specs.Live.{Closed, any-way};
 ghost use Rattle.search.specs.Tables.{rowHops, nextCell, placeFlag, pairFlag, freeFlag, tableOrder, tableBoard};
-ghost use Rattle.search.specs.Steps.{NextRow, wayOf, hopTo, lacks, Kept, RowClosed, RowsClosed, wantedHop, worthState, behindEnd, AsOrdered, CutBy};
+ghost use Rattle.search.specs.Steps.{NextRow, wayOf, hopTo, lacks, NoState, RowClosed, RowsClosed, wantedHop, worthState, behindEnd, AsOrdered, CutBy};
 
 // The cell at i, or d past the end.
 fn cell(cells: &[u64], i: u64, d: u64) -> u64
@@ -147,9 +152,24 @@ fn lacks_place(
     false
 }
 
+// How many states there are: no label leads on from any other.
+fn states_of(delta: &[u64]) -> u64
+    ensures { λ r. ⌜ NoState (now (delta .entry)) r ⌝ }
+{
+    let mut i: u64 = 128;
+    while 0 < i {
+        if cell(delta, i - 1, 16) < 16 {
+            return (i - 1) / 8 + 1;
+        }
+        i -= 1;
+    }
+    0
+}
+
 // Does the table lack a place that the row leads from? Rows to a scope that is not free lead nowhere.
 fn row_lacks(
     delta: &[u64],
+    states: u64,
     goal: &[u8],
     order: &[u8],
     cutting: bool,
@@ -159,6 +179,7 @@ fn row_lacks(
     label: u64,
     to: u64,
 ) -> bool
+    requires { ⌜ NoState (now delta) states ⌝ }
     ensures { λ r. ⌜ (r ≡ false → RowClosed (now (delta .entry)) (wayOf (now (goal .entry)) (now (order .entry)) cutting) (freeFlag free) (placeFlag (now (live .entry))) from (hopTo label to)) ⌝ }
 {
     if 63 < from {
@@ -168,7 +189,7 @@ fn row_lacks(
         return false;
     }
     let mut q: u64 = 0;
-    while q < 16 {
+    while q < states {
         if lacks_place(delta, goal, order, cutting, live, from, label, to, q) {
             return true;
         }
@@ -177,84 +198,18 @@ fn row_lacks(
     false
 }
 
-// The table with the place (s, q).
-fn mark(live: [u8; 1024], s: u64, q: u64) -> [u8; 1024]
-    ensures { λ r. ⌜ Kept live r ⌝ }
-{
-    let mut out = live;
-    if s < 64 {
-        if q < 16 {
-            let k = (s * 16 + q) as usize;
-            out[k] = 1;
-        }
-    }
-    out
-}
-
-// The table with the places that the row leads from.
-fn mark_row(
-    delta: &[u64],
-    goal: &[u8],
-    order: &[u8],
-    cutting: bool,
-    live: [u8; 1024],
-    from: u64,
-    label: u64,
-    to: u64,
-) -> [u8; 1024]
-    ensures { λ r. ⌜ Kept live r ⌝ }
-{
-    let mut out = live;
-    let mut q: u64 = 0;
-    while q < 16 {
-        if lacks_place(delta, goal, order, cutting, &out, from, label, to, q) {
-            out = mark(out, from, q);
-        }
-        q += 1;
-    }
-    out
-}
-
-// One pass over the rows.
-fn pass(
-    edges: &[u64],
-    delta: &[u64],
-    goal: &[u8],
-    order: &[u8],
-    cutting: bool,
-    free: [u8; 64],
-    live: [u8; 1024],
-) -> [u8; 1024]
-    ensures { λ r. ⌜ Kept live r ⌝ }
-{
-    let n = edges.len();
-    let mut out = live;
-    let mut p = 0;
-    while p < n {
-        if n - p < 6 {
-            return out;
-        }
-        let from = edges[p + 1];
-        let label = edges[p + 2];
-        let to = edges[p + 3];
-        if row_lacks(delta, goal, order, cutting, free, &out, from, label, to) {
-            out = mark_row(delta, goal, order, cutting, out, from, label, to);
-        }
-        p += 6;
-    }
-    out
-}
-
 // Does the table lack nothing that a row leads from?
 fn is_closed(
     edges: &[u64],
     delta: &[u64],
+    states: u64,
     goal: &[u8],
     order: &[u8],
     cutting: bool,
     free: [u8; 64],
     live: &[u8],
 ) -> bool
+    requires { ⌜ NoState (now delta) states ⌝ }
     ensures { λ r. ⌜ (r ≡ true → RowsClosed (now (delta .entry)) (wayOf (now (goal .entry)) (now (order .entry)) cutting) (freeFlag free) (placeFlag (now (live .entry))) (now (edges .entry))) ⌝ }
 {
     let n = edges.len();
@@ -265,6 +220,7 @@ fn is_closed(
         }
         if row_lacks(
             delta,
+            states,
             goal,
             order,
             cutting,
@@ -288,21 +244,8 @@ fn filled(flag: u8) -> [u8; 1024]
     [flag; 1024]
 }
 
-// A table with the places of `seek`.
-fn start_table(seek: &[u8]) -> [u8; 1024]
-    ensures { λ r. ⌜ Kept (now (seek .entry)) r ⌝ }
-{
-    let mut out = filled(0);
-    let mut i: u64 = 0;
-    while i < 1024 {
-        out[i as usize] = byte(seek, i);
-        i += 1;
-    }
-    out
-}
-
-// The places worth entering on the way to `seek` by free scopes. Passes over the rows until one finds nothing to add: the table is closed by that very
-// exit. There are 1024 places, so as many passes do; the table of all places, which is closed too, is what is left to answer after them.
+// The places worth entering on the way to `seek` by free scopes: a table is grown and then tested. Only one that is closed is taken; the table of all
+// places, which is closed too, is what is left to answer otherwise.
 pub fn live_table(
     edges: &[u64],
     delta: &[u64],
@@ -314,19 +257,36 @@ pub fn live_table(
 ) -> [u8; 1024]
     ensures { λ r. ⌜ Closed (tableBoard (now (edges .entry)) (now (delta .entry)) (now (goal .entry))) 64 (placeFlag (now (seek .entry))) (wayOf (now (goal .entry)) (now (order .entry)) cutting) (freeFlag free) (placeFlag r) ⌝ }
 {
-    let mut out = start_table(seek);
-    let mut round: usize = 0;
-    while round < 1024 {
-        if is_closed(edges, delta, goal, order, cutting, free, &out) {
-            return out;
-        }
-        out = pass(edges, delta, goal, order, cutting, free, out);
-        round += 1;
+    let states = states_of(delta);
+    let out = grown(true, edges, delta, states, seek, goal, order, cutting, free);
+    if is_closed(edges, delta, states, goal, order, cutting, free, &out) {
+        return out;
     }
     filled(1)
 }
 
-// The same on the way to what is sought, by any step.
+// Places that steps which are not cut, by free scopes, do not lead to from (s, q): nothing that is asked for only there is followed from (s, q). The table is
+// tested as the one above is; it holds (s, q) itself only if that failed.
+pub fn away_table(
+    edges: &[u64],
+    delta: &[u64],
+    goal: &[u8],
+    order: &[u8],
+    free: [u8; 64],
+    s: u64,
+    q: u64,
+) -> [u8; 1024]
+    ensures { λ r. ⌜ Closed (tableBoard (now (edges .entry)) (now (delta .entry)) (now (goal .entry))) 64 (placeFlag []) (wayOf (now (goal .entry)) (now (order .entry)) true) (freeFlag free) (placeFlag r) ⌝ }
+{
+    let states = states_of(delta);
+    let out = unreached(edges, delta, states, goal, order, true, free, s, q);
+    if is_closed(edges, delta, states, goal, order, true, free, &out) {
+        return out;
+    }
+    filled(1)
+}
+
+// The places worth entering on the way to what is sought, by any step.
 pub fn goal_table(edges: &[u64], delta: &[u64], goal: &[u8], free: [u8; 64]) -> [u8; 1024]
     ensures { λ r. ⌜ Closed (tableBoard (now (edges .entry)) (now (delta .entry)) (now (goal .entry))) 64 (placeFlag (now (goal .entry))) (any-way (tableBoard (now (edges .entry)) (now (delta .entry)) (now (goal .entry)))) (freeFlag free) (placeFlag r) ⌝ }
 {

@@ -12,13 +12,13 @@ use Rattle.search.proofs.is_closed.Statement.{statement}
 use Rattle.search.proofs.is_closed.Tie as tie
 
 abbrev Inv-loop : tie.InvT-loop
-Inv-loop edges delta goal order cutting free live n p₀ p =
+Inv-loop edges delta states goal order cutting free live n p₀ p =
     (n ≡ length edges)
     × (RowsClosed delta (wayOf goal order cutting) (freeFlag free) (placeFlag live) (drop p edges)
     → RowsClosed delta (wayOf goal order cutting) (freeFlag free) (placeFlag live) edges)
 
 abbrev μ-loop : tie.MeasureT-loop
-μ-loop edges delta goal order cutting free live n p₀ p = n - p
+μ-loop edges delta states goal order cutting free live n p₀ p = n - p
 
 loop-holds : tie.Need-loop-holds Inv-loop μ-loop
 loop-holds c = (refl, λ h. h)

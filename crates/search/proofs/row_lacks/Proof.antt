@@ -8,14 +8,15 @@ use borrow.Author.Needs.{needs}
 use borrow.Author.Count.{below-more}
 use Rattle.search.specs.Steps.{lacks, wayOf, hopTo}
 use Rattle.search.specs.Tables.{placeFlag}
+use Rattle.search.proofs.Cells.{lacks-none}
 use Rattle.search.proofs.row_lacks.Statement.{statement}
 use Rattle.search.proofs.row_lacks.Tie as tie
 
 abbrev Inv-loop : tie.InvT-loop
-Inv-loop delta goal order cutting live from label to q₀ q = (k : ℕ) → k < q → lacks delta (wayOf goal order cutting) (placeFlag live) from (hopTo label to) k ≡ false
+Inv-loop delta states goal order cutting live from label to q₀ q = (k : ℕ) → k < q → lacks delta (wayOf goal order cutting) (placeFlag live) from (hopTo label to) k ≡ false
 
 abbrev μ-loop : tie.MeasureT-loop
-μ-loop delta goal order cutting live from label to q₀ q = 16 - q
+μ-loop delta states goal order cutting live from label to q₀ q = states - q
 
 returns : tie.Need-returns Inv-loop μ-loop
 returns c = λ e below f. absurd (omega arith)
@@ -45,7 +46,7 @@ loop-again : tie.Need-loop-again Inv-loop μ-loop
 loop-again c = below-more _ _ (c .before .before .before .loop .inv) (sym (c .before .lacks-place .ensures) ∙ c .if3 .left)
 
 returns-4 : tie.Need-returns-4 Inv-loop μ-loop
-returns-4 c = λ e below f k h. c .before .loop .inv k (omega arith)
+returns-4 c = λ e below f k h. lacks-none _ _ _ _ _ _ (c .before .before .before .before .before .before .before .before .before .args .states) (c .before .before .before .before .before .before .before .before .before .pre) (λ j m. c .before .loop .inv j (omega arith)) k
 
 pub row-lacks-spec : {M : Type 1} → statement M
 row-lacks-spec =

@@ -5,17 +5,14 @@ use native.Mathlib.Omega.{arith}
 use lib.ListN.{length, getD, length-set}
 use borrow.Author.Needs.{needs}
 use Rattle.search.proofs.Cells.{kept-cells, cells-more}
-use Rattle.search.proofs.start_table.Statement.{statement}
-use Rattle.search.proofs.start_table.Tie as tie
+use Rattle.search.proofs.grow.start_table.Statement.{statement}
+use Rattle.search.proofs.grow.start_table.Tie as tie
 
 abbrev Inv-loop : tie.InvT-loop
 Inv-loop seek out₀ i₀ out i = (length out ≡ 1024) × ((k : ℕ) → k < i → getD out k 0 ≡ getD seek k 0)
 
 abbrev μ-loop : tie.MeasureT-loop
 μ-loop seek out₀ i₀ out i = 1024 - i
-
-filled-requires : tie.Need-filled-requires Inv-loop μ-loop
-filled-requires c κs = search needs
 
 loop-holds : tie.Need-loop-holds Inv-loop μ-loop
 loop-holds c = (omega arith, λ k h. absurd (omega arith))
@@ -33,7 +30,7 @@ loop-less : tie.Need-loop-less Inv-loop μ-loop
 loop-less c = omega arith
 
 loop-again : tie.Need-loop-again Inv-loop μ-loop
-loop-again c = (simp length-set (c .before .before .loop .inv .0), cells-more (λ (k x : ℕ). x ≡ getD (c .before .before .before .before .before .args .seek .now) k 0) (c .before .before .loop .out) (c .before .before .loop .i) (c .byte .result) (omega arith) (c .before .before .loop .inv .1) (c .byte .ensures))
+loop-again c = (simp length-set (c .before .before .loop .inv .0), cells-more (λ (k x : ℕ). x ≡ getD (c .before .before .before .before .args .seek .now) k 0) (c .before .before .loop .out) (c .before .before .loop .i) (c .byte .result) (omega arith) (c .before .before .loop .inv .1) (c .byte .ensures))
 
 returns : tie.Need-returns Inv-loop μ-loop
 returns c = kept-cells _ _ (λ k h e. c .before .loop .inv .1 k (omega arith) ∙ e)
@@ -44,7 +41,6 @@ start-table-spec =
     (tie.spec
     Inv-loop
     μ-loop
-    filled-requires
     loop-holds
     byte-requires
     array-write-out

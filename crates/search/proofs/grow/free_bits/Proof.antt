@@ -1,0 +1,47 @@
+-- `free_bits` is safe and ends. Assumes nothing.
+use Prim.Native.Nat.{_-_}
+use native.Mathlib.Omega.{arith}
+use borrow.Author.Needs.{needs}
+use Rattle.search.proofs.grow.free_bits.Statement.{statement}
+use Rattle.search.proofs.grow.free_bits.Tie as tie
+
+abbrev Inv-loop : tie.InvT-loop
+Inv-loop free out₀ s₀ out s = Unit {0}
+
+abbrev μ-loop : tie.MeasureT-loop
+μ-loop free out₀ s₀ out s = 64 - s
+
+loop-holds : tie.Need-loop-holds Inv-loop μ-loop
+loop-holds c = tt
+
+array-read-if1 : tie.Need-array-read-if1 Inv-loop μ-loop
+array-read-if1 c = omega arith
+
+bit-requires : tie.Need-bit-requires Inv-loop μ-loop
+bit-requires c κs = search needs
+
+add-s : tie.Need-add-s Inv-loop μ-loop
+add-s c = omega arith
+
+loop-less : tie.Need-loop-less Inv-loop μ-loop
+loop-less c = omega arith
+
+loop-again : tie.Need-loop-again Inv-loop μ-loop
+loop-again c = tt
+
+returns : tie.Need-returns Inv-loop μ-loop
+returns c = tt
+
+pub free-bits-spec : {M : Type 1} → statement M
+free-bits-spec =
+    tie.close
+    (tie.spec
+    Inv-loop
+    μ-loop
+    loop-holds
+    array-read-if1
+    bit-requires
+    add-s
+    loop-less
+    loop-again
+    returns)
