@@ -1,6 +1,5 @@
 // The walk over followed places: it writes the rows of a listing, measures them, counts entries, or finds places, all by one fold.
 use search::cuts;
-use search::goal_table;
 use search::is_free;
 use search::live_table;
 use search::next_row;
@@ -617,7 +616,15 @@ fn all_free() -> [u8; 64]
     [1; 64]
 }
 
-// The walk from the query's start, in state 0. Mode 0 writes rows, 1 measures them, 2 counts entries, 3 finds places.
+// The scopes that are free at the start.
+pub fn start_free(start: u64) -> [u8; 64]
+    ensures { λ r. ⌜ r ≡ set (replicate 64 1) start 0 ⌝ }
+{
+    taken(all_free(), start)
+}
+
+// The walk from the query's start, in state 0. Mode 0 writes rows, 1 measures them, 2 counts entries, 3 finds places. The two tables of places worth entering, on
+// the way to what is sought and to what is asked for, are the caller's, so that walks with the same ones share them.
 pub fn walk(
     mode: u64,
     letters: &[u8],
@@ -631,18 +638,20 @@ pub fn walk(
     order: &[u8],
     seek: &[u8],
     e: u64,
+    live: &[u8],
+    worth: &[u8],
     scopes: usize,
     out: &mut [u8],
     tally: Tally,
 ) -> Tally
+    requires { ⌜ Closed (tableBoard (now edges) (now delta) (now goal)) 64 (placeFlag (now goal)) (any-way (tableBoard (now edges) (now delta) (now goal))) (freeFlag (set (replicate 64 1) start 0)) (placeFlag (now live)) ⌝ }
+    requires { ⌜ Closed (tableBoard (now edges) (now delta) (now goal)) 64 (placeFlag (now seek)) (wayOf (now goal) (now order) true) (freeFlag (set (replicate 64 1) start 0)) (placeFlag (now worth)) ⌝ }
     ensures { λ r. ⌜ _≡_ {A = State} (now (out .exit), r) (walked mode (now (letters .entry)) (now (decls .entry)) high low start (now (edges .entry)) (now (delta .entry)) (now (goal .entry)) (now (order .entry)) (now (seek .entry)) e scopes (now (out .entry), tally)) ⌝ }
 {
     if 64 < scopes {
         return tally;
     }
-    let free = taken(all_free(), start);
-    let live = goal_table(edges, delta, goal, free);
-    let worth = live_table(edges, delta, seek, goal, order, true, free);
+    let free = start_free(start);
     let none = [0u8; 64];
     follow_at(
         mode,
@@ -657,8 +666,8 @@ pub fn walk(
         order,
         seek,
         e,
-        &live,
-        &worth,
+        live,
+        worth,
         none,
         none,
         0,

@@ -367,7 +367,7 @@ pub fn goal(table: &[u64], accepting: &[u8], high: u64, low: u64) -> [u8; 1024]
 }
 
 // Is the end usable in the state?
-fn usable(delta: &[u64], accepting: &[u8], hopeful: &[u8], q: u64, end: u64) -> bool
+pub fn usable(delta: &[u64], accepting: &[u8], hopeful: &[u8], q: u64, end: u64) -> bool
     ensures { λ r. ⌜ r ≡ usableFlag (now (delta .entry)) (now (accepting .entry)) (now (hopeful .entry)) q end ⌝ }
 {
     if end == 0 {

@@ -15,11 +15,11 @@ use Rattle.scope_graph.specs.Order.{endOf}
 use Rattle.scope_graph.specs.Computed.{firstOf, followedAt, awaits}
 use Rattle.scope_graph.proofs.Lists.{here, there, map-intro}
 use Rattle.text_field.specs.Buffer.{Buf, puts}
-use Rattle.graph_file.specs.Format.{countSection, declarationSection, openSection}
+use Rattle.graph_file.specs.Format.{countSection, openSection}
 use Rattle.graph_file.specs.Admission.{Row, value, blank}
 use Rattle.graph_file.specs.Decode.{rowsIn, rulesOf, scopesOf, graphOf, openPairOf, opensOf}
 use Rattle.prepared.specs.Sections.{partOf, rowsOf}
-use Rattle.prepared.specs.Tables.{hopefulFlags, declaringFlags, goalFlags}
+use Rattle.prepared.specs.Tables.{hopefulFlags}
 use Rattle.prepared.specs.Promises.{transitionTable, acceptingTable, orderTable, hopefulTable, goalTable, openTable}
 use Rattle.follow.specs.declared.Budget.{Budget}
 use Rattle.follow.specs.declared.Budget.the-variants.{Left, Over}
@@ -131,12 +131,11 @@ module _ (cells : List ℕ) (start high low : ℕ) (a : Asked cells start) where
   awaits-walk = rw (rows-are cells (a .read) openSection) (first-walk (rowsIn openSection cells) open-small)
 
   pub awaits-asked : (r : Awaits) (letters delta accepts hopes goals order opens : List ℕ) → letters ≡ letterTable cells → delta ≡ transitionTable cells → accepts ≡ acceptingTable cells
-      → hopes ≡ hopefulFlags delta accepts → goals ≡ goalFlags accepts (declaringFlags (record { high = high; low = low }) (rowsOf (partOf declarationSection cells))) → order ≡ orderTable cells
+      → hopes ≡ hopefulFlags delta accepts → goals ≡ goal → order ≡ orderTable cells
       → opens ≡ partOf openSection cells → r ≡ firstFollowed cells letters delta accepts hopes goals order start high low (rowsOf opens)
       → awaitsMeaning cells r ≡ awaits L (graphOf cells) q (opensOf cells)
-  awaits-asked r letters delta accepts hopes goals order opens l d c h g o p e =
+  awaits-asked r letters delta accepts hopes goals order opens l d c h gs o p e =
       let hs : hopes ≡ hopefulTable cells = h ∙ ap (λ (x : List ℕ). hopefulFlags x accepts) d ∙ ap (hopefulFlags (transitionTable cells)) c in
-      let gs : goals ≡ goal = g ∙ ap (λ (x : List ℕ). goalFlags x (declaringFlags (record { high = high; low = low }) (rowsOf (partOf declarationSection cells)))) c in
       ap (awaitsMeaning cells) (e
       ∙ ap (λ (x : List ℕ). firstFollowed cells x delta accepts hopes goals order start high low (rowsOf opens)) l
       ∙ ap (λ (x : List ℕ). firstFollowed cells (letterTable cells) x accepts hopes goals order start high low (rowsOf opens)) d

@@ -2,6 +2,7 @@
 pub mod ListLaws
 pub mod Texts
 pub mod First
+pub mod Unfollowed
 pub mod Walked
 pub mod Capitals
 pub mod Demand

@@ -18,14 +18,13 @@ use Rattle.follow.specs.Text.{headLine, rowsLine, foundText, letterOf, endText}
 use Rattle.resolution.specs.declared.text.Awaits.{Awaits}
 use Rattle.resolution.specs.declared.text.Awaits.the-variants.{Settled, Pair}
 use Rattle.graph_file.specs.Format.{countSection, edgeSection, declarationSection}
-use Rattle.prepared.specs.Tables.{declaringFlags, goalFlags, openFlags}
-use Rattle.prepared.specs.Promises.{transitionTable, acceptingTable, orderTable, goalTable}
+use Rattle.prepared.specs.Tables.{openFlags}
 use Rattle.follow.specs.declared.Budget.{Budget}
 use Rattle.follow.specs.declared.Budget.the-variants.{Left, Over}
 use Rattle.follow.specs.declared.Tally.{Tally}
 use Rattle.follow.specs.Pour.{State}
 use Rattle.follow.specs.Walk.{walked}
-use Rattle.resolution.specs.Asked.{foundFrom, awaitsBytes, queryText, headText, walkWith, letterTable, roomNumber, isOver, followedBy}
+use Rattle.resolution.specs.Asked.{foundFrom, awaitsBytes, queryText, headText, walkWith, roomNumber, isOver, followedBy}
 
 -- as many rows as six cells each make
 pub rows-count : (t : List ℕ) → length t / 6 ≡ length (rowsOf t)
@@ -129,20 +128,6 @@ walk-asked cells mode letters delta goal order start high low seek e st w edges 
     ∙ ap (λ (l : List ℕ). walked mode letters (partOf declarationSection cells) high low start l delta goal order seek e scopes st) d
     ∙ ap (λ (n : ℕ). walked mode letters (partOf declarationSection cells) high low start (partOf edgeSection cells) delta goal order seek e n st)
     (s ∙ ap (λ (l : List ℕ). value (getD (rowsOf l) 0 blank) 0) c)
-
--- the walk over the entries has the query's tables
-pub walk-tables : (cells : List ℕ) (mode start high low : ℕ) (st w : State) (letters delta accepts goal order : List ℕ)
-    → letters ≡ letterTable cells → delta ≡ transitionTable cells → accepts ≡ acceptingTable cells
-    → goal ≡ goalFlags accepts (declaringFlags (record { high = high; low = low }) (rowsOf (partOf declarationSection cells))) → order ≡ orderTable cells
-    → w ≡ walkWith cells mode letters delta goal order start high low goal 0 st
-    → w ≡ walkWith cells mode (letterTable cells) (transitionTable cells) (goalTable cells (record { high = high; low = low })) (orderTable cells) start high low (goalTable cells (record { high = high; low = low })) 0 st
-walk-tables cells mode start high low st w letters delta accepts goal order a b c d e h =
-    let g : goal ≡ goalTable cells (record { high = high; low = low }) = d ∙ ap (λ (l : List ℕ). goalFlags l (declaringFlags (record { high = high; low = low }) (rowsOf (partOf declarationSection cells)))) c in
-    h
-    ∙ ap (λ (l : List ℕ). walkWith cells mode l delta goal order start high low goal 0 st) a
-    ∙ ap (λ (l : List ℕ). walkWith cells mode (letterTable cells) l goal order start high low goal 0 st) b
-    ∙ ap (λ (l : List ℕ). walkWith cells mode (letterTable cells) (transitionTable cells) l order start high low l 0 st) g
-    ∙ ap (λ (l : List ℕ). walkWith cells mode (letterTable cells) (transitionTable cells) (goalTable cells (record { high = high; low = low })) l start high low (goalTable cells (record { high = high; low = low })) 0 st) e
 
 -- an open pair's walk seeks its places
 pub followed-asked : (cells letters delta accepts hopes goal order : List ℕ) (start high low at end : ℕ) (seek : List ℕ) (o : List ℕ) (t : Tally) (r : Bool)

@@ -4,7 +4,7 @@ use mathlib.Core.Path.{_≡_}
 use mathlib.Core.Bool.{Bool, true, false}
 use mathlib.Core.Option.{Option, some, none}
 use mathlib.Core.List.{List, [], _∷_, _++_}
-use lib.ListN.{getD}
+use lib.ListN.{getD, set, replicate}
 use Rattle.scope_graph.specs.Graph.{Query, OpenPair}
 use Rattle.scope_graph.specs.Rows.{PackedName, language}
 use Rattle.scope_graph.specs.Order.{endOf}
@@ -17,13 +17,18 @@ use Rattle.graph_file.specs.Outcome.{done}
 use Rattle.graph_file.specs.File.{readCells}
 use Rattle.graph_file.specs.Decode.{rulesOf, scopesOf, graphOf, opensOf}
 use Rattle.prepared.specs.Sections.{partOf, rowsOf}
-use Rattle.prepared.specs.Tables.{letterBytes, openFlags}
+use Rattle.search.specs.Live.{Closed, any-way}
+use Rattle.search.specs.Tables.{placeFlag, freeFlag, tableBoard}
+use Rattle.search.specs.Steps.{wayOf}
+use Rattle.prepared.specs.Tables.{letterBytes, usableFlag, openFlags}
+use Rattle.prepared.specs.Promises.{transitionTable, orderTable, goalTable}
 use Rattle.follow.specs.declared.Budget.{Budget}
 use Rattle.follow.specs.declared.Budget.the-variants.{Left, Over}
 use Rattle.follow.specs.Text.{headLine, rowsLine, foundText, endText}
 use Rattle.follow.specs.Pour.{State}
 use Rattle.follow.specs.Walk.{walked}
 use Rattle.resolution.specs.Listing.{awaitsText, foundFor}
+use Rattle.resolution.specs.declared.tables.Tables.{Tables}
 use Rattle.resolution.specs.declared.text.Awaits.{Awaits}
 use Rattle.resolution.specs.declared.text.Awaits.the-variants.{Settled, Pair}
 
@@ -45,6 +50,44 @@ walkWith cells mode letters delta goal order start high low seek e st =
     walked mode letters (partOf declarationSection cells) high low start (partOf edgeSection cells) delta goal order seek e
     (value (getD (rowsOf (partOf countSection cells)) 0 blank) 0) st
 
+-- the labels' letters as bytes
+abbrev pub letterTable : List ℕ → List ℕ
+letterTable cells = letterBytes (rowsOf (partOf labelSection cells))
+
+-- the scopes that are free at a query's start
+abbrev pub freeAt : ℕ → ℕ → Bool
+freeAt start = freeFlag (set (replicate 64 1) start 0)
+
+-- a table of places is closed, for the walks of a query with these tables over the table's edges: on the way to what is sought by any step; on the way to what is
+-- asked for by steps that are not cut
+abbrev pub LiveAt : (cells delta goal : List ℕ) → ℕ → List ℕ → Type 0
+LiveAt cells delta goal start live =
+    Closed (tableBoard (partOf edgeSection cells) delta goal) 64 (placeFlag goal) (any-way (tableBoard (partOf edgeSection cells) delta goal)) (freeAt start) (placeFlag live)
+
+abbrev pub WorthAt : (cells delta goal order seek : List ℕ) → ℕ → List ℕ → Type 0
+WorthAt cells delta goal order seek start worth =
+    Closed (tableBoard (partOf edgeSection cells) delta goal) 64 (placeFlag seek) (wayOf goal order true) (freeAt start) (placeFlag worth)
+
+-- a query's tables are those of the table that was read, and both tables of places are closed
+pub record Ready (cells : List ℕ) (start high low : ℕ) (t : Tables) : Type 0 where
+  pub letters : t .letters ≡ letterTable cells
+  pub delta : t .delta ≡ transitionTable cells
+  pub goal : t .goal ≡ goalTable cells (record { high = high; low = low })
+  pub order : t .order ≡ orderTable cells
+  pub live : LiveAt cells (t .delta) (t .goal) start (t .live)
+  pub worth : WorthAt cells (t .delta) (t .goal) (t .order) (t .goal) start (t .worth)
+
+-- a query of a table that was read, with its tables
+pub record Prepared (cells : List ℕ) (start high low : ℕ) (t : Tables) : Type 0 where
+  pub asked : Asked cells start
+  pub ready : Ready cells start high low t
+
+-- nothing leads from the start to where the pair's end is usable: the table of places that are away has each such place, and not the start
+pub record IsAway (delta accepts hopes away : List ℕ) (start at end : ℕ) : Type 0 where
+  pub inside : start < 64
+  pub begins : placeFlag away start 0 ≡ false
+  pub missed : (q : ℕ) → q < 16 → usableFlag delta accepts hopes q end ≡ true → placeFlag away at q ≡ true
+
 -- `found` as a number, and its number where entries were counted against a room of one
 unfoldable pub foundNumber : Found → ℕ
 foundNumber found-none = 0
@@ -64,10 +107,6 @@ roomNumber Over = 2
 unfoldable pub isOver : Budget → Bool
 isOver (Left n) = false
 isOver Over = true
-
--- the labels' letters as bytes
-abbrev pub letterTable : List ℕ → List ℕ
-letterTable cells = letterBytes (rowsOf (partOf labelSection cells))
 
 -- with a query's tables: whether an open pair is followed, by a walk with no room for a place; the first of the open rows that is
 module _ (cells letters delta accepts hopes goal order : List ℕ) (start high low : ℕ) where

@@ -2,6 +2,7 @@
 mod lists;
 mod parts;
 mod sums;
+mod tables;
 mod text;
 mod walks;
 

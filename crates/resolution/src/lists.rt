@@ -1,6 +1,8 @@
 // A query's listing. It is measured before a byte of it is written.
 use crate::parts::row_count;
 use crate::parts::row_value;
+use crate::tables::Tables;
+use crate::tables::tables_of;
 use crate::text::put_head;
 use crate::walks::awaits_of;
 use crate::walks::found_of;
@@ -8,7 +10,6 @@ use crate::walks::put_rows;
 use crate::walks::rows_fit;
 use graph_file::Answer;
 use graph_file::read;
-use prepared::letters;
 use prepared::section;
 use text_field::put_bytes;
 ghost use mathlib.Core.Path.{_≡_};
@@ -18,17 +19,17 @@ ghost use Rattle.graph_file.specs.Outcome.{done};
 ghost use Rattle.graph_file.specs.File.{answer, leaves};
 ghost use Rattle.graph_file.specs.Reader.{answerOf};
 ghost use Rattle.resolution.specs.Listing.{listingText, listingOf, listingFor};
-ghost use Rattle.resolution.specs.Asked.{WasRead, Asked, queryFrom, queryHead};
+ghost use Rattle.resolution.specs.Asked.{WasRead, Asked, Prepared, queryFrom, queryHead};
 
 // The listing up to its rows.
-fn put_heading(table: &[u64], start: u64, high: u64, low: u64, out: &mut [u8]) -> usize
-    requires { ⌜ Asked (now table) start ⌝ }
+fn put_heading(table: &[u64], t: Tables, start: u64, high: u64, low: u64, out: &mut [u8]) -> usize
+    requires { ⌜ Prepared (now table) start high low t ⌝ }
     ensures { λ r. ⌜ _≡_ {A = Buf} (now (out .exit), r) (puts (now (out .entry), 0) (queryHead (now (table .entry)) (queryFrom (now (table .entry)) start high low))) ⌝ }
 {
-    let ls = letters(table);
-    let f = found_of(table, start, high, low);
-    let a = awaits_of(table, start, high, low);
-    put_head(out, &ls, start, high, low, f, a)
+    let f = found_of(table, t, start, high, low);
+    let a = awaits_of(table, t, start, high, low);
+    let letters = t.letters;
+    put_head(out, &letters, start, high, low, f, a)
 }
 
 // The listing of a query of the table by its start and name. At most 128 bytes stand above its rows.
@@ -37,17 +38,18 @@ fn list(table: &[u64], start: u64, high: u64, low: u64, out: &mut [u8]) -> Answe
     ensures { λ r. ⌜ answerOf r ≡ answer (done (listingText (now (table .entry)) (queryFrom (now (table .entry)) start high low))) (length (now (out .entry))) ⌝ }
     ensures { λ r. ⌜ now (out .exit) ≡ leaves (done (listingText (now (table .entry)) (queryFrom (now (table .entry)) start high low))) (now (out .entry)) ⌝ }
 {
+    let t = tables_of(table, start, high, low);
     let mut head = [0u8; 128];
-    let n = put_heading(table, start, high, low, &mut head);
+    let n = put_heading(table, t, start, high, low, &mut head);
     let size = out.len();
     if size < n {
         return Answer::Refused(9);
     }
-    if !rows_fit(table, start, high, low, size - n) {
+    if !rows_fit(table, t, start, high, low, size - n) {
         return Answer::Refused(9);
     }
     let k = put_bytes(out, 0, &head[..n]);
-    Answer::Written(put_rows(table, start, high, low, out, k))
+    Answer::Written(put_rows(table, t, start, high, low, out, k))
 }
 
 // The listing of a query of a table that was read.

@@ -1,6 +1,7 @@
 // The summary: how many queries are found one, several and none, and the share of those found one.
 use crate::parts::row_count;
 use crate::parts::row_value;
+use crate::tables::tables_of;
 use crate::walks::found_of;
 use graph_file::Answer;
 use graph_file::read;
@@ -74,7 +75,8 @@ fn figures_of(table: &[u64]) -> Figures
         let start = row_value(queries, i, 0);
         let high = row_value(queries, i, 1);
         let low = row_value(queries, i, 2);
-        c = counted(c, found_of(table, start, high, low));
+        let t = tables_of(table, start, high, low);
+        c = counted(c, found_of(table, t, start, high, low));
         i += 1;
     }
     c

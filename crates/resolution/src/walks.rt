@@ -1,30 +1,37 @@
 // The walk, asked for a query of a table: how many entries it has, whether its rows fit, whether an open pair is decisive.
 use crate::parts::row_value;
+use crate::tables::Tables;
 use crate::text::Awaits;
 use follow::Budget;
 use follow::Tally;
+use follow::start_free;
 use follow::walk;
 use prepared::accepting;
-use prepared::goal;
 use prepared::hopeful;
-use prepared::letters;
 use prepared::open_goal;
-use prepared::order;
 use prepared::section;
-use prepared::transitions;
+use prepared::usable;
+use search::away_table;
+use search::live_table;
+use search::place;
 use text_field::cell;
 ghost use mathlib.Core.Path.{_≡_};
+ghost use mathlib.Core.Bool.{true, false};
+ghost use mathlib.Core.List.{List, []};
+ghost use Prim.Native.Nat.{ℕ, _<_};
 ghost use lib.Dec.{leb};
 ghost use lib.ListN.{length};
 ghost use Rattle.scope_graph.specs.Rows.{language};
 ghost use Rattle.scope_graph.specs.Computed.{awaits};
 ghost use Rattle.graph_file.specs.Decode.{rulesOf, graphOf, opensOf};
+ghost use Rattle.search.specs.Tables.{placeFlag};
 ghost use Rattle.prepared.specs.Sections.{rowsOf};
+ghost use Rattle.prepared.specs.Tables.{usableFlag, hopefulFlags};
 ghost use Rattle.prepared.specs.Promises.{transitionTable, orderTable, goalTable};
 ghost use Rattle.text_field.specs.Buffer.{Buf, puts};
 ghost use Rattle.follow.specs.Pour.{State};
 ghost use Rattle.resolution.specs.Listing.{foundFor, entriesText};
-ghost use Rattle.resolution.specs.Asked.{Asked, queryFrom, walkWith, letterTable, foundNumber, roomNumber, isOver, followedBy, firstFollowed, awaitsMeaning};
+ghost use Rattle.resolution.specs.Asked.{Ready, Prepared, LiveAt, WorthAt, IsAway, queryFrom, walkWith, letterTable, foundNumber, roomNumber, isOver, followedBy, firstFollowed, awaitsMeaning};
 
 // The walk over the table's declarations, edges and count of scopes, with the other tables given.
 fn walk_with(
@@ -39,9 +46,13 @@ fn walk_with(
     low: u64,
     seek: &[u8],
     e: u64,
+    live: &[u8],
+    worth: &[u8],
     out: &mut [u8],
     tally: Tally,
 ) -> Tally
+    requires { ⌜ LiveAt (now table) (now delta) (now goal) start (now live) ⌝ }
+    requires { ⌜ WorthAt (now table) (now delta) (now goal) (now order) (now seek) start (now worth) ⌝ }
     ensures { λ r. ⌜ _≡_ {A = State} (now (out .exit), r) (walkWith (now (table .entry)) mode (now (letters .entry)) (now (delta .entry)) (now (goal .entry)) (now (order .entry)) start high low (now (seek .entry)) e (now (out .entry), tally)) ⌝ }
 {
     let scopes = row_value(section(table, 4), 0, 0) as usize;
@@ -60,6 +71,8 @@ fn walk_with(
         order,
         seek,
         e,
+        live,
+        worth,
         scopes,
         out,
         tally,
@@ -69,6 +82,7 @@ fn walk_with(
 // The walk over a query's entries.
 fn walk_entries(
     table: &[u64],
+    t: Tables,
     mode: u64,
     start: u64,
     high: u64,
@@ -76,25 +90,29 @@ fn walk_entries(
     out: &mut [u8],
     tally: Tally,
 ) -> Tally
+    requires { ⌜ Ready (now table) start high low t ⌝ }
     ensures { λ r. ⌜ _≡_ {A = State} (now (out .exit), r) (walkWith (now (table .entry)) mode (letterTable (now (table .entry))) (transitionTable (now (table .entry))) (goalTable (now (table .entry)) (record { high = high; low = low })) (orderTable (now (table .entry))) start high low (goalTable (now (table .entry)) (record { high = high; low = low })) 0 (now (out .entry), tally)) ⌝ }
 {
-    let ls = letters(table);
-    let delta = transitions(table);
-    let accepts = accepting(table);
-    let sought = goal(table, &accepts, high, low);
-    let prefers = order(table);
+    let letters = t.letters;
+    let delta = t.delta;
+    let goal = t.goal;
+    let order = t.order;
+    let live = t.live;
+    let worth = t.worth;
     walk_with(
         table,
         mode,
-        &ls,
+        &letters,
         &delta,
-        &sought,
-        &prefers,
+        &goal,
+        &order,
         start,
         high,
         low,
-        &sought,
+        &goal,
         0,
+        &live,
+        &worth,
         out,
         tally,
     )
@@ -120,14 +138,15 @@ fn is_over(b: Budget) -> bool
 }
 
 // `found`, by the query's entries; two are enough to tell.
-pub fn found_of(table: &[u64], start: u64, high: u64, low: u64) -> u64
-    requires { ⌜ Asked (now table) start ⌝ }
+pub fn found_of(table: &[u64], t: Tables, start: u64, high: u64, low: u64) -> u64
+    requires { ⌜ Prepared (now table) start high low t ⌝ }
     ensures { λ r. ⌜ r ≡ foundNumber (foundFor (now (table .entry)) (queryFrom (now (table .entry)) start high low)) ⌝ }
 {
     let mut none = [0u8; 1];
     let room = Budget::Left(1);
-    let t = walk_entries(
+    let end = walk_entries(
         table,
+        t,
         2,
         start,
         high,
@@ -138,19 +157,20 @@ pub fn found_of(table: &[u64], start: u64, high: u64, low: u64) -> u64
             budget: room,
         },
     );
-    let left = t.budget;
+    let left = end.budget;
     room_number(left)
 }
 
 // Do the query's rows fit the room?
-pub fn rows_fit(table: &[u64], start: u64, high: u64, low: u64, room: usize) -> bool
-    requires { ⌜ Asked (now table) start ⌝ }
+pub fn rows_fit(table: &[u64], t: Tables, start: u64, high: u64, low: u64, room: usize) -> bool
+    requires { ⌜ Prepared (now table) start high low t ⌝ }
     ensures { λ r. ⌜ r ≡ leb (length (entriesText (now (table .entry)) (queryFrom (now (table .entry)) start high low))) room ⌝ }
 {
     let mut none = [0u8; 1];
     let budget = Budget::Left(room);
-    let t = walk_entries(
+    let end = walk_entries(
         table,
+        t,
         1,
         start,
         high,
@@ -158,18 +178,88 @@ pub fn rows_fit(table: &[u64], start: u64, high: u64, low: u64, room: usize) -> 
         &mut none,
         Tally { place: 0, budget },
     );
-    let left = t.budget;
+    let left = end.budget;
     !is_over(left)
 }
 
 // The query's rows written from a place on; the place after them.
-pub fn put_rows(table: &[u64], start: u64, high: u64, low: u64, out: &mut [u8], n: usize) -> usize
-    requires { ⌜ Asked (now table) start ⌝ }
+pub fn put_rows(
+    table: &[u64],
+    t: Tables,
+    start: u64,
+    high: u64,
+    low: u64,
+    out: &mut [u8],
+    n: usize,
+) -> usize
+    requires { ⌜ Prepared (now table) start high low t ⌝ }
     ensures { λ r. ⌜ _≡_ {A = Buf} (now (out .exit), r) (puts (now (out .entry), n) (entriesText (now (table .entry)) (queryFrom (now (table .entry)) start high low))) ⌝ }
 {
     let budget = Budget::Left(0);
-    let t = walk_entries(table, 0, start, high, low, out, Tally { place: n, budget });
-    t.place
+    let end = walk_entries(
+        table,
+        t,
+        0,
+        start,
+        high,
+        low,
+        out,
+        Tally { place: n, budget },
+    );
+    end.place
+}
+
+// Is the end usable in the state, at a place of the scope that is not away?
+fn meets(
+    delta: &[u64],
+    accepts: &[u8],
+    hopes: &[u8],
+    away: &[u8],
+    at: u64,
+    end: u64,
+    q: u64,
+) -> bool
+    ensures { λ r. ⌜ (r ≡ false → usableFlag (now (delta .entry)) (now (accepts .entry)) (now (hopes .entry)) q end ≡ true → placeFlag (now (away .entry)) at q ≡ true) ⌝ }
+{
+    if place(away, at, q) {
+        return false;
+    }
+    usable(delta, accepts, hopes, q, end)
+}
+
+// Is each place of the scope away, where the end is usable?
+fn misses(delta: &[u64], accepts: &[u8], hopes: &[u8], away: &[u8], at: u64, end: u64) -> bool
+    ensures { λ r. ⌜ (r ≡ true → (q : ℕ) → q < 16 → usableFlag (now (delta .entry)) (now (accepts .entry)) (now (hopes .entry)) q end ≡ true → placeFlag (now (away .entry)) at q ≡ true) ⌝ }
+{
+    let mut q: u64 = 0;
+    while q < 16 {
+        if meets(delta, accepts, hopes, away, at, end, q) {
+            return false;
+        }
+        q += 1;
+    }
+    true
+}
+
+// Does nothing lead from the start to a place that shows the pair followed? Most open pairs are told so, without a walk.
+fn is_away(
+    delta: &[u64],
+    accepts: &[u8],
+    hopes: &[u8],
+    away: &[u8],
+    start: u64,
+    at: u64,
+    end: u64,
+) -> bool
+    ensures { λ r. ⌜ (r ≡ true → IsAway (now (delta .entry)) (now (accepts .entry)) (now (hopes .entry)) (now (away .entry)) start at end) ⌝ }
+{
+    if 63 < start {
+        return false;
+    }
+    if place(away, start, 0) {
+        return false;
+    }
+    misses(delta, accepts, hopes, away, at, end)
 }
 
 // Is the open pair of this scope and end followed? The first place found tells.
@@ -181,15 +271,25 @@ fn is_followed(
     hopes: &[u8],
     goal: &[u8],
     order: &[u8],
+    live: &[u8],
+    away: &[u8],
     start: u64,
     high: u64,
     low: u64,
     at: u64,
     end: u64,
 ) -> bool
+    requires { ⌜ LiveAt (now table) (now delta) (now goal) start (now live) ⌝ }
+    requires { ⌜ WorthAt (now table) (now delta) (now goal) (now order) [] start (now away) ⌝ }
     ensures { λ r. ⌜ r ≡ followedBy (now (table .entry)) (now (letters .entry)) (now (delta .entry)) (now (accepts .entry)) (now (hopes .entry)) (now (goal .entry)) (now (order .entry)) start high low at end ⌝ }
 {
+    if is_away(delta, accepts, hopes, away, start, at, end) {
+        return false;
+    }
     let seek = open_goal(delta, accepts, hopes, at, end);
+    let edges = section(table, 5);
+    let free = start_free(start);
+    let worth = live_table(edges, delta, &seek, goal, order, true, free);
     let mut none = [0u8; 1];
     let budget = Budget::Left(0);
     let t = walk_with(
@@ -204,6 +304,8 @@ fn is_followed(
         low,
         &seek,
         end,
+        live,
+        &worth,
         &mut none,
         Tally { place: 0, budget },
     );
@@ -221,10 +323,14 @@ fn first_followed(
     hopes: &[u8],
     goal: &[u8],
     order: &[u8],
+    live: &[u8],
+    away: &[u8],
     start: u64,
     high: u64,
     low: u64,
 ) -> Awaits
+    requires { ⌜ LiveAt (now table) (now delta) (now goal) start (now live) ⌝ }
+    requires { ⌜ WorthAt (now table) (now delta) (now goal) (now order) [] start (now away) ⌝ }
     ensures { λ r. ⌜ r ≡ firstFollowed (now (table .entry)) (now (letters .entry)) (now (delta .entry)) (now (accepts .entry)) (now (hopes .entry)) (now (goal .entry)) (now (order .entry)) start high low (rowsOf (now (opens .entry))) ⌝ }
 {
     let mut p = 0;
@@ -239,6 +345,8 @@ fn first_followed(
             hopes,
             goal,
             order,
+            live,
+            away,
             start,
             high,
             low,
@@ -252,27 +360,68 @@ fn first_followed(
     Awaits::Settled
 }
 
-// `awaits`: the first decisive open pair, in the order of the open rows.
-pub fn awaits_of(table: &[u64], start: u64, high: u64, low: u64) -> Awaits
-    requires { ⌜ Asked (now table) start ⌝ }
-    ensures { λ r. ⌜ awaitsMeaning (now (table .entry)) r ≡ awaits (language (rulesOf (now (table .entry)))) (graphOf (now (table .entry))) (queryFrom (now (table .entry)) start high low) (opensOf (now (table .entry))) ⌝ }
+// The same with the two tables that it needs made here: the states that lead on, and the places that are away.
+fn first_open(
+    opens: &[u64],
+    table: &[u64],
+    letters: &[u8],
+    delta: &[u64],
+    accepts: &[u8],
+    goal: &[u8],
+    order: &[u8],
+    live: &[u8],
+    start: u64,
+    high: u64,
+    low: u64,
+) -> Awaits
+    requires { ⌜ LiveAt (now table) (now delta) (now goal) start (now live) ⌝ }
+    ensures { λ r. ⌜ r ≡ firstFollowed (now (table .entry)) (now (letters .entry)) (now (delta .entry)) (now (accepts .entry)) (hopefulFlags (now (delta .entry)) (now (accepts .entry))) (now (goal .entry)) (now (order .entry)) start high low (rowsOf (now (opens .entry))) ⌝ }
 {
-    let ls = letters(table);
-    let delta = transitions(table);
-    let accepts = accepting(table);
-    let hopes = hopeful(&delta, &accepts);
-    let sought = goal(table, &accepts, high, low);
-    let prefers = order(table);
-    let opens = section(table, 7);
+    if opens.len() == 0 {
+        return Awaits::Settled;
+    }
+    let hopes = hopeful(delta, accepts);
+    let edges = section(table, 5);
+    let free = start_free(start);
+    let away = away_table(edges, delta, goal, order, free, start, 0);
     first_followed(
         opens,
         table,
-        &ls,
+        letters,
+        delta,
+        accepts,
+        &hopes,
+        goal,
+        order,
+        live,
+        &away,
+        start,
+        high,
+        low,
+    )
+}
+
+// `awaits`: the first decisive open pair, in the order of the open rows.
+pub fn awaits_of(table: &[u64], t: Tables, start: u64, high: u64, low: u64) -> Awaits
+    requires { ⌜ Prepared (now table) start high low t ⌝ }
+    ensures { λ r. ⌜ awaitsMeaning (now (table .entry)) r ≡ awaits (language (rulesOf (now (table .entry)))) (graphOf (now (table .entry))) (queryFrom (now (table .entry)) start high low) (opensOf (now (table .entry))) ⌝ }
+{
+    let accepts = accepting(table);
+    let opens = section(table, 7);
+    let letters = t.letters;
+    let delta = t.delta;
+    let goal = t.goal;
+    let order = t.order;
+    let live = t.live;
+    first_open(
+        opens,
+        table,
+        &letters,
         &delta,
         &accepts,
-        &hopes,
-        &sought,
-        &prefers,
+        &goal,
+        &order,
+        &live,
         start,
         high,
         low,

@@ -48,13 +48,15 @@ row-value-requires-2 c κs = search needs
 row-value-requires-3 : tie.Need-row-value-requires-3 Inv-loop μ-loop
 row-value-requires-3 c κs = search needs
 
--- src/sums.rt:57:24
+tables-of-requires : tie.Need-tables-of-requires Inv-loop μ-loop
+tables-of-requires c κs = search needs
+
 found-of-requires : tie.Need-found-of-requires Inv-loop μ-loop
-found-of-requires c κs = query-asked (c .before .before .before .before .before .before .before .before .args .table .now) (c .before .before .before .before .before .before .before .before .pre) _ (c .before .before .before .before .loop .i) _ (c .before .before .before .before .before .before .section .ensures) (c .before .before .before .before .before .row-count .ensures) (c .before .before .before .loop-test .taken) _ _ _ (c .before .before .row-value .ensures) (c .before .row-value2 .ensures) (c .row-value3 .ensures)
+found-of-requires c κs = record { asked = query-asked (c .before .before .before .before .before .before .before .before .before .args .table .now) (c .before .before .before .before .before .before .before .before .before .pre) _ (c .before .before .before .before .before .loop .i) _ (c .before .before .before .before .before .before .before .section .ensures) (c .before .before .before .before .before .before .row-count .ensures) (c .before .before .before .before .loop-test .taken) _ _ _ (c .before .before .before .row-value .ensures) (c .before .before .row-value2 .ensures) (c .before .row-value3 .ensures); ready = c .tables-of .ensures }
 
 -- src/sums.rt:57:9
 counted-requires : tie.Need-counted-requires Inv-loop μ-loop
-counted-requires c κs = let k = count-is (c .before .before .before .before .before .before .before .before .before .args .table .now) (c .before .before .before .before .before .before .before .before .before .pre) _ (c .before .before .before .before .before .loop .i) _ (c .before .before .before .before .before .before .before .section .ensures) (c .before .before .before .before .before .before .row-count .ensures) in let f = queries-few (c .before .before .before .before .before .before .before .before .before .args .table .now) (c .before .before .before .before .before .before .before .before .before .pre) in let s = c .before .before .before .before .before .loop .inv .1 in let l = c .before .before .before .before .loop-test .taken in omega arith
+counted-requires c κs = let k = count-is (c .before .before .before .before .before .before .before .before .before .before .args .table .now) (c .before .before .before .before .before .before .before .before .before .before .pre) _ (c .before .before .before .before .before .before .loop .i) _ (c .before .before .before .before .before .before .before .before .section .ensures) (c .before .before .before .before .before .before .before .row-count .ensures) in let f = queries-few (c .before .before .before .before .before .before .before .before .before .before .args .table .now) (c .before .before .before .before .before .before .before .before .before .before .pre) in let s = c .before .before .before .before .before .before .loop .inv .1 in let l = c .before .before .before .before .before .loop-test .taken in omega arith
 
 -- src/sums.rt:58:9
 add-i : tie.Need-add-i Inv-loop μ-loop
@@ -66,7 +68,7 @@ loop-less c = omega arith
 
 -- src/sums.rt:53:5
 loop-again : tie.Need-loop-again Inv-loop μ-loop
-loop-again c = let s = after-sum _ _ _ (c .counted .ensures) in let v = c .before .before .before .before .before .before .loop .inv .1 in let l = c .before .before .before .before .before .loop-test .taken in (omega arith, omega arith, figures-next (c .before .before .before .before .before .before .before .before .before .before .args .table .now) (c .before .before .before .before .before .before .before .before .before .before .pre) _ (c .before .before .before .before .before .before .loop .i) _ (c .before .before .before .before .before .before .before .before .section .ensures) (c .before .before .before .before .before .before .before .row-count .ensures) (c .before .before .before .before .before .loop-test .taken) _ _ _ (c .before .before .before .before .row-value .ensures) (c .before .before .before .row-value2 .ensures) (c .before .before .row-value3 .ensures) _ _ _ (c .before .found-of .ensures) (c .counted .ensures) ∙ c .before .before .before .before .before .before .loop .inv .2)
+loop-again c = let s = after-sum _ _ _ (c .counted .ensures) in let v = c .before .before .before .before .before .before .before .loop .inv .1 in let l = c .before .before .before .before .before .before .loop-test .taken in (omega arith, omega arith, figures-next (c .before .before .before .before .before .before .before .before .before .before .before .args .table .now) (c .before .before .before .before .before .before .before .before .before .before .before .pre) _ (c .before .before .before .before .before .before .before .loop .i) _ (c .before .before .before .before .before .before .before .before .before .section .ensures) (c .before .before .before .before .before .before .before .before .row-count .ensures) (c .before .before .before .before .before .before .loop-test .taken) _ _ _ (c .before .before .before .before .before .row-value .ensures) (c .before .before .before .before .row-value2 .ensures) (c .before .before .before .row-value3 .ensures) _ _ _ (c .before .found-of .ensures) (c .counted .ensures) ∙ c .before .before .before .before .before .before .before .loop .inv .2)
 
 -- src/sums.rt:45:1
 returns : tie.Need-returns Inv-loop μ-loop
@@ -84,6 +86,7 @@ figures-of-spec =
     row-value-requires
     row-value-requires-2
     row-value-requires-3
+    tables-of-requires
     found-of-requires
     counted-requires
     add-i

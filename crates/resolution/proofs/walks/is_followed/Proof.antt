@@ -1,44 +1,64 @@
+-- `is_followed` meets its contract: a pair that is away is not followed, and else the walk tells. Assumes nothing.
+use mathlib.Core.Path.{sym}
 use Rattle.resolution.proofs.Texts.{followed-asked}
+use Rattle.resolution.proofs.Unfollowed.{unfollowed, worth-at}
 use borrow.Author.Needs.{needs}
 use Rattle.resolution.proofs.walks.is_followed.Statement.{statement}
 use Rattle.resolution.proofs.walks.is_followed.Tie as tie
-use Rattle.resolution.proofs.walks.is_followed.Reads as reads
-use Rattle.resolution.proofs.walks.is_followed.Lts as lts
-use Rattle.prepared.proofs.open_goal.Reads as open-goal-reads
-use Rattle.resolution.proofs.walks.is_over.Reads as is-over-reads
-use Rattle.resolution.proofs.walks.walk_with.Reads as walk-with-reads
 
--- src/walks.rt:137:16
+is-away-requires : tie.Need-is-away-requires
+is-away-requires c κs = search needs
+
+returns : tie.Need-returns
+returns c = let a = c .before .before .before .before .before .before .before .before .before .before .before .args in sym (unfollowed (a .table .now) (a .letters .now) (a .delta .now) (a .accepts .now) (a .hopes .now) (a .goal .now) (a .order .now) (a .start) (a .high) (a .low) (a .at) (a .end) (a .away .now) (c .before .before .before .before .before .before .before .before .before .before .before .pre .1) (c .before .is-away .ensures (c .if1 .taken)))
+
 open-goal-requires : tie.Need-open-goal-requires
 open-goal-requires c κs = search needs
 
--- src/walks.rt:141:66
+section-requires : tie.Need-section-requires
+section-requires c κs = search needs
+
+start-free-requires : tie.Need-start-free-requires
+start-free-requires c κs = search needs
+
+slice-aggregate-live-table : tie.Need-slice-aggregate-live-table
+slice-aggregate-live-table c = search needs
+
+live-table-requires : tie.Need-live-table-requires
+live-table-requires c κs = search needs
+
 slice-aggregate-walk-with : tie.Need-slice-aggregate-walk-with
 slice-aggregate-walk-with c = search needs
 
--- src/walks.rt:141:78
 slice-aggregate-walk-with-2 : tie.Need-slice-aggregate-walk-with-2
 slice-aggregate-walk-with-2 c = search needs
 
--- src/walks.rt:140:9
-walk-with-requires : tie.Need-walk-with-requires
-walk-with-requires c κs = search needs
+slice-aggregate-walk-with-3 : tie.Need-slice-aggregate-walk-with-3
+slice-aggregate-walk-with-3 c = search needs
 
--- src/walks.rt:145:5
+walk-with-requires : tie.Need-walk-with-requires
+walk-with-requires c κs = let a = c .before .before .before .before .before .before .before .before .before .before .before .before .before .before .before .before .before .before .before .args in (c .before .before .before .before .before .before .before .before .before .before .before .before .before .before .before .before .before .before .before .pre .0, worth-at (a .table .now) _ _ _ _ _ _ (a .start) (c .before .before .before .before .before .before .section .ensures) (c .before .before .before .before .before .start-free .ensures) _ (c .before .before .before .live-table .ensures))
+
 is-over-requires : tie.Need-is-over-requires
 is-over-requires c κs = search needs
 
--- src/walks.rt:121:1
-returns : tie.Need-returns
-returns c = followed-asked (c .before .before .before .before .before .before .before .before .before .before .before .before .before .args .table .now) _ _ _ _ _ _ _ _ _ _ _ _ _ _ _ (c .before .before .before .before .before .open-goal .ensures) (c .before .before .walk-with .ensures) (c .is-over .ensures)
+returns-2 : tie.Need-returns-2
+returns-2 c = followed-asked (c .before .before .before .before .before .before .before .before .before .before .before .before .before .before .before .before .before .before .before .before .before .before .args .table .now) _ _ _ _ _ _ _ _ _ _ _ _ _ _ _ (c .before .before .before .before .before .before .before .before .before .before .open-goal .ensures) (c .before .before .walk-with .ensures) (c .is-over .ensures)
 
 pub is-followed-spec : {M : Type 1} → statement M
 is-followed-spec =
     tie.close
     (tie.spec
+    is-away-requires
+    returns
     open-goal-requires
+    section-requires
+    start-free-requires
+    slice-aggregate-live-table
+    live-table-requires
     slice-aggregate-walk-with
     slice-aggregate-walk-with-2
+    slice-aggregate-walk-with-3
     walk-with-requires
     is-over-requires
-    returns)
+    returns-2)

@@ -23,7 +23,7 @@ is-over-requires c κs = search needs
 
 -- src/walks.rt:99:1
 returns : tie.Need-returns
-returns c = let a = c .before .before .before .before .before .args in ap not (c .is-over .ensures) ∙ fit-walk (a .table .now) (a .start) (a .high) (a .low) (c .before .before .before .before .before .pre) (a .room) _ _ (c .before .before .walk-entries .ensures)
+returns c = let a = c .before .before .before .before .before .args in ap not (c .is-over .ensures) ∙ fit-walk (a .table .now) (a .start) (a .high) (a .low) (c .before .before .before .before .before .pre .asked) (a .room) _ _ (c .before .before .walk-entries .ensures)
 
 pub rows-fit-spec : {M : Type 1} → statement M
 rows-fit-spec =

@@ -1,0 +1,126 @@
+-- An open pair whose places are all away from the start is not followed, and a query's tables are ready. Assumes nothing.
+use Prim.Native.Nat.{ℕ, zero, suc, _+_, _*_, _/_, _%_, _≤_, _<_}
+use mathlib.Core.Path.{_≡_, refl, sym, ap, _∙_}
+use mathlib.Core.Bool.{Bool, true, false, _&&_}
+use mathlib.Core.Logic.{_⊎_, inl, inr, ⊎-elim}
+use mathlib.Core.List.{List, [], _∷_, flatMap}
+use native.Mathlib.Omega.{arith}
+use borrow.Author.Tests.{eqb-true, eq-eqb}
+use lib.Dec.{eqb, leb}
+use lib.ListN.{length, getD, set, replicate, length-set, length-replicate}
+use Rattle.scope_graph.specs.Order.{endOf}
+use Rattle.scope_graph.specs.Computed.{NodeOf}
+use Rattle.scope_graph.specs.Path.{HopOf}
+use Rattle.scope_graph.proofs.Lists.{and-left, and-right}
+use Rattle.graph_file.specs.Format.{countSection, edgeSection, declarationSection}
+use Rattle.graph_file.specs.Admission.{value, blank}
+use Rattle.search.specs.Board.{Board, without, hitsFrom}
+use Rattle.search.specs.Live.{Closed, any-way}
+use Rattle.search.specs.Tables.{placeFlag, freeFlag, tableOrder, tableBoard}
+use Rattle.search.specs.Steps.{wayOf}
+use Rattle.search.proofs.Closed.{closed-hits}
+use Rattle.search.proofs.Cells.{place-scope, place-state, place-cell, free-below, free-taken, way-is-open}
+use Rattle.prepared.specs.Sections.{partOf, rowsOf}
+use Rattle.prepared.specs.Tables.{tabulate, flag, usableFlag, openFlag, openFlags, declaringFlags, goalFlags}
+use Rattle.prepared.specs.Promises.{transitionTable, acceptingTable, orderTable, goalTable}
+use Rattle.prepared.proofs.Fill.{tabulate-at}
+use Rattle.follow.specs.declared.Budget.{Budget}
+use Rattle.follow.specs.declared.Budget.the-variants.{Left, Over}
+use Rattle.follow.specs.Pour.{State, spend, pour}
+use Rattle.follow.specs.Walk.{placeBytes, bytesFrom, walked}
+use Rattle.resolution.specs.declared.tables.Tables.{Tables}
+use Rattle.resolution.specs.Asked.{freeAt, LiveAt, WorthAt, Ready, IsAway, walkWith, letterTable, isOver, followedBy}
+
+-- a flag that is set
+flag-set : (b : Bool) → flag b ≡ 1 → b ≡ true
+unfolding flag
+flag-set true e = refl
+flag-set false e = let z : _≡_ {A = ℕ} 0 1 = e in absurd (omega arith)
+
+-- a place that an open pair asks for is at its scope, in a state where its end is usable
+pub open-place : (delta accepts hopes : List ℕ) (at end s q : ℕ) → placeFlag (openFlags delta accepts hopes at end) s q ≡ true
+    → (s ≡ at) × (usableFlag delta accepts hopes q end ≡ true)
+unfolding openFlags openFlag
+open-place delta accepts hopes at end s q h =
+    let below : s < 64 = place-scope _ s q h in
+    let few : q < 16 = place-state _ s q h in
+    let d : (s * 16 + q) / 16 ≡ s = omega arith in
+    let m : (s * 16 + q) % 16 ≡ q = omega arith in
+    let f : openFlag delta accepts hopes at end (s * 16 + q) ≡ 1 = sym (tabulate-at (openFlag delta accepts hopes at end) 1024 (s * 16 + q) 0 (omega arith)) ∙ place-cell _ s q h in
+    let b : (eqb s at && usableFlag delta accepts hopes q end) ≡ true = flag-set _ (rw (d, m) at f) in
+    (eqb-true s at (and-left (eqb s at) _ b), and-right (eqb s at) _ b)
+
+module _ (cells letters delta accepts hopes goal order : List ℕ) (start high low at end : ℕ) (away : List ℕ) where
+  abbrev seek : List ℕ
+  seek = openFlags delta accepts hopes at end
+
+  abbrev edges : List ℕ
+  edges = partOf edgeSection cells
+
+  abbrev free : List ℕ
+  free = set (replicate 64 1) start 0
+
+  -- the table of what is away is closed for the pair's places too
+  away-closed : WorthAt cells delta goal order [] start away → IsAway delta accepts hopes away start at end → WorthAt cells delta goal order seek start away
+  away-closed c a = record {
+    asked = λ s q h.
+        let p = open-place delta accepts hopes at end s q h in
+        rw (p .0) (a .missed q (place-state seek s q h) (p .1));
+    back = c .back;
+  }
+
+  size : length free ≡ 64
+  size = simp length-set (length-replicate {A = ℕ} 64 1)
+
+  no-hits : (fuel : ℕ) → WorthAt cells delta goal order [] start away → IsAway delta accepts hopes away start at end
+      → hitsFrom (tableBoard edges delta goal) (tableOrder order) (placeFlag seek) (endOf end) fuel (without (freeFlag (replicate 64 1)) start) start 0 ≡ []
+  no-hits fuel c a =
+      closed-hits (tableBoard edges delta goal) 64 (freeFlag free) (placeFlag away) (λ n y. rw size at (free-below free n y)) (tableOrder order) (placeFlag seek) (endOf end)
+      (rw (way-is-open edges delta goal order) at (away-closed c a)) fuel (without (freeFlag (replicate 64 1)) start) start 0
+      (λ t h. ap (λ (f : ℕ → Bool). f t) (free-taken (replicate 64 1) start) ∙ h) (a .inside) (a .begins)
+
+  pub unfollowed : WorthAt cells delta goal order [] start away → IsAway delta accepts hopes away start at end
+      → followedBy cells letters delta accepts hopes goal order start high low at end ≡ false
+  unfolding followedBy walkWith walked bytesFrom pour spend isOver flatMap
+  unfollowed c a = one (leb (value (getD (rowsOf (partOf countSection cells)) 0 blank) 0) 64)
+    where
+      st : State
+      st = (0 ∷ [], record { place = 0; budget = Left 0 })
+
+      bytes : List ℕ
+      bytes =
+          bytesFrom 3 letters (partOf declarationSection cells) high low start edges delta goal order seek end [] (value (getD (rowsOf (partOf countSection cells)) 0 blank) 0)
+          (without (freeFlag (replicate 64 1)) start) start 0
+
+      none : bytes ≡ []
+      none = ap (flatMap (placeBytes 3 letters (partOf declarationSection cells) high low start [])) (no-hits (value (getD (rowsOf (partOf countSection cells)) 0 blank) 0) c a)
+
+      one : (t : Bool) → isOver ((elim t as (λ _. State) [ true ↦ pour 3 st bytes | false ↦ st ]) .1 .budget) ≡ false
+      one true = ap (λ (xs : List ℕ). isOver ((pour 3 st xs) .1 .budget)) none
+      one false = refl
+
+-- a table that is made for the scopes that are free at the start, over the table's edges
+module _ (cells delta goal order seek edges ones : List ℕ) (start : ℕ) (e : edges ≡ partOf edgeSection cells) (f : ones ≡ set (replicate 64 1) start 0) where
+  pub live-at : (live : List ℕ) → Closed (tableBoard edges delta goal) 64 (placeFlag goal) (any-way (tableBoard edges delta goal)) (freeFlag ones) (placeFlag live) → LiveAt cells delta goal start live
+  live-at live c = rw (e, f) at c
+
+  pub worth-at : (worth : List ℕ) → Closed (tableBoard edges delta goal) 64 (placeFlag seek) (wayOf goal order true) (freeFlag ones) (placeFlag worth)
+      → WorthAt cells delta goal order seek start worth
+  worth-at worth c = rw (e, f) at c
+
+-- the walk over the entries has the query's tables
+pub walk-ready : (cells : List ℕ) (mode start high low : ℕ) (t : Tables) (st w : State) → Ready cells start high low t
+    → w ≡ walkWith cells mode (t .letters) (t .delta) (t .goal) (t .order) start high low (t .goal) 0 st
+    → w ≡ walkWith cells mode (letterTable cells) (transitionTable cells) (goalTable cells (record { high = high; low = low })) (orderTable cells) start high low (goalTable cells (record { high = high; low = low })) 0 st
+walk-ready cells mode start high low t st w r h =
+    h
+    ∙ ap (λ (l : List ℕ). walkWith cells mode l (t .delta) (t .goal) (t .order) start high low (t .goal) 0 st) (r .letters)
+    ∙ ap (λ (l : List ℕ). walkWith cells mode (letterTable cells) l (t .goal) (t .order) start high low (t .goal) 0 st) (r .delta)
+    ∙ ap (λ (l : List ℕ). walkWith cells mode (letterTable cells) (transitionTable cells) l (t .order) start high low l 0 st) (r .goal)
+    ∙ ap (λ (l : List ℕ). walkWith cells mode (letterTable cells) (transitionTable cells) (goalTable cells (record { high = high; low = low })) l start high low (goalTable cells (record { high = high; low = low })) 0 st) (r .order)
+
+-- where a path may end, by the table's accepting states
+pub goal-ready : (cells : List ℕ) (high low : ℕ) (accepts goal : List ℕ) → accepts ≡ acceptingTable cells
+    → goal ≡ goalFlags accepts (declaringFlags (record { high = high; low = low }) (rowsOf (partOf declarationSection cells)))
+    → goal ≡ goalTable cells (record { high = high; low = low })
+goal-ready cells high low accepts goal a g = g ∙ ap (λ (l : List ℕ). goalFlags l (declaringFlags (record { high = high; low = low }) (rowsOf (partOf declarationSection cells)))) a
