@@ -8,6 +8,7 @@ them are its text, the next ROW its first path row, and the rest its second.
   n  the name that query NUMBER of the text seeks
   p  the first row is taken apart, and its parts are written into a lent buffer of ROOM bytes
   c  the two rows are compared by the text, NUMBER records lent for the first and ROOM for the second
+  j  the first row is judged for query NUMBER of the text, ROOM records lent for its steps
   l  the listing of query NUMBER of the text, in a lent buffer of ROOM bytes
   s  the summary of the text, in a lent buffer of ROOM bytes
   a  the listings of the first NUMBER queries of the text and then its summary, each in a lent buffer of ROOM bytes

@@ -6,12 +6,14 @@ import sys
 
 import case_file
 import gym_cases
+import judge_cases
 import listing_cases
 import row_cases
 
 gym_cases.cases()
 row_cases.cases()
 listing_cases.cases()
+judge_cases.cases()
 put, due = case_file.written()
 if sys.argv[1:] == ["list"]:
     sys.stdout.write(due.decode("latin-1"))

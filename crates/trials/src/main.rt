@@ -2,6 +2,7 @@
 // tools/trials write the cases and, by a reference of their own, the output that is due.
 mod files;
 mod input;
+mod judged;
 mod lent;
 mod listings;
 mod rows;
@@ -28,6 +29,7 @@ fn case(h: Head, body: &[u8], given: &mut [u64], table: &mut [u64], out: &mut [u
         b'n' => files::seeking(text, number),
         b'p' => rows::apart(first, room, out),
         b'c' => rows::comparing(text, first, second, number, room),
+        b'j' => judged::judging(text, number, first, room),
         b'l' => listings::listed(text, number, room, out),
         b's' => listings::summed(text, room, out),
         b'a' => listings::whole(text, number, room, out),
