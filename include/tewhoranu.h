@@ -14,7 +14,7 @@
  *     most PTRDIFF_MAX bytes.
  *   - Lent memory that a call may write (a pointer without const) overlaps nothing else that the call is given, and
  *     all of it is initialised.
- *   - About 1 MiB of stack is free (TEWHORANU_STACK).
+ *   - TEWHORANU_STACK bytes of stack are free.
  * No call keeps a pointer, allocates, or has state: calls on different memory may run at the same time.
  *
  * The contracts are proved: see crates/host/src and docs/PROMISES.md. Nothing checks these declarations against them
@@ -62,8 +62,10 @@ extern "C" {
 #define TEWHORANU_SUMMARY 64
 #define TEWHORANU_LISTING 65536
 
-/* Stack that serves every call, in bytes; the host test runs every call on a thread with this much. */
-#define TEWHORANU_STACK (1024 * 1024)
+/* Stack that serves every call, in bytes. A search is at most 64 + 512 calls deep, of about 2,000 bytes each, above some
+ * 250,000 bytes of tables: counted from the library as it is built, not proved. The host test runs on a thread with
+ * this much. */
+#define TEWHORANU_STACK (2 * 1024 * 1024)
 
 /* A step of a path: the label's letter (A to Z) and the scope that it comes to (0 to 63). */
 typedef struct {
@@ -77,8 +79,8 @@ static inline int tewhoranu_refused(uint64_t answer) { return answer < TEWHORANU
 /* How many cells or bytes were written by a call that was not refused. */
 static inline size_t tewhoranu_written(uint64_t answer) { return (size_t)(answer - TEWHORANU_DONE); }
 
-/* Reads a gym file's text into a graph table: cell 0 is the file's form, 0, then come six cells for each row (DESIGN in
- * docs/ARCHITECTURE.md, "The graph table").
+/* Reads a gym file's text into a graph table: cell 0 is the file's form, 0, then come six cells for each row
+ * (docs/ARCHITECTURE.md, "The graph table").
  * Answers 16 and the number of cells, at most TEWHORANU_CELLS; cells behind them stay as they were.
  * Refuses by 1; then from the top line by line 2, 5, 3, 4; then 6; then 9. */
 uint64_t tewhoranu_read(const uint8_t *text, size_t text_length, uint64_t *table, size_t table_length);

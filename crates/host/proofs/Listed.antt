@@ -26,7 +26,8 @@ use Rattle.path_row.specs.declared.form.HeadRead.the-variants.{Head, NoHead}
 use Rattle.path_row.specs.Form.{PathRow, headHere, rowBy, rowHere}
 use Rattle.path_row.specs.Compare.{Comparison, compareRows, compareAnswer}
 use Rattle.resolution.specs.Listing.{listingOf, listingFor, summaryFor}
-use Rattle.host.specs.Numbers.{told, comparisonCase}
+use Rattle.judge.specs.Judge.{judgeOf, judgeAnswer}
+use Rattle.host.specs.Numbers.{told, comparisonCase, standingCase}
 use Rattle.host.specs.Listed.{Listed, listed, carried, heard, numbered, Plain, Numbers}
 
 -- what refuses by a number of the list, and goes on so
@@ -211,6 +212,13 @@ compare-listed text a b n m =
     then-listed (rowHere b) _ (here-listed b) (λ q.
     if-listed _ 9 _ (omega arith) (omega arith) (if-listed _ 9 _ (omega arith) (omega arith) (carried _)))))
 
+judge-listed : (text : List ℕ) (i : ℕ) (row : List ℕ) (room : ℕ) → Listed (judgeAnswer text i row room)
+unfolding judgeAnswer judgeOf
+judge-listed text i row room =
+    then-listed (readCells text) _ (read-listed text) (λ cells.
+    if-listed _ 7 _ (omega arith) (omega arith)
+    (then-listed (rowHere row) _ (here-listed row) (λ p. if-listed _ 9 _ (omega arith) (omega arith) (carried _))))
+
 -- the number tells the answer
 heard-low : (n : ℕ) → n < 16 → heard n ≡ refused n
 unfolding heard
@@ -231,5 +239,6 @@ numbers = record {
   write = λ cells room. plain (λ n. n) (answer (writeText cells) room) (answer-listed (writeText cells) room (write-listed cells));
   listing = λ text query room. plain (λ n. n) (answer (listingFor text query) room) (answer-listed (listingFor text query) room (listing-listed text query));
   summary = λ text room. plain (λ n. n) (answer (summaryFor text) room) (answer-listed (summaryFor text) room (summary-listed text));
+  judge = λ text query row room. plain standingCase (judgeAnswer text query row room) (judge-listed text query row room);
   compare = λ text a b n m. plain comparisonCase (compareAnswer text a b n m) (compare-listed text a b n m);
 }

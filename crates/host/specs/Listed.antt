@@ -9,7 +9,8 @@ use Rattle.graph_file.specs.Outcome.{Outcome, refused, done}
 use Rattle.graph_file.specs.File.{readCells, writeText, answer}
 use Rattle.path_row.specs.Compare.{Comparison, compareAnswer}
 use Rattle.resolution.specs.Listing.{listingFor, summaryFor}
-use Rattle.host.specs.Numbers.{told, comparisonCase}
+use Rattle.judge.specs.Judge.{judgeAnswer}
+use Rattle.host.specs.Numbers.{told, comparisonCase, standingCase}
 
 -- the answer is no refusal, or one by a number of the list
 pub data Listed {A : Type 0} : Outcome A → Type 0 where
@@ -35,4 +36,5 @@ pub record Numbers : Type 0 where
   pub write : (cells : List ℕ) (room : ℕ) → Plain (λ n. n) (answer (writeText cells) room)
   pub listing : (text : List ℕ) (query room : ℕ) → Plain (λ n. n) (answer (listingFor text query) room)
   pub summary : (text : List ℕ) (room : ℕ) → Plain (λ n. n) (answer (summaryFor text) room)
+  pub judge : (text : List ℕ) (query : ℕ) (row : List ℕ) (room : ℕ) → Plain standingCase (judgeAnswer text query row room)
   pub compare : (text a b : List ℕ) (n m : ℕ) → Plain comparisonCase (compareAnswer text a b n m)

@@ -4,6 +4,7 @@ use mathlib.Core.List.{List}
 use mathlib.Core.Bool.{Bool, true, false}
 use lib.Dec.{eqb}
 use lib.ListN.{length}
+use Rattle.scope_graph.specs.Computed.{Standing, is-visible, is-shadowed, is-unreached}
 use Rattle.graph_file.specs.Outcome.{Outcome, refused, done}
 use Rattle.graph_file.specs.NameSought.{nameSought, placeSought}
 use Rattle.path_row.specs.Compare.{Comparison, first, second, neither}
@@ -25,6 +26,15 @@ comparisonCase neither = 2
 
 unfoldable pub compared : Outcome Comparison → ℕ
 compared o = told comparisonCase o
+
+-- a standing (document 01, "Paths"): 16 for visible, 17 for shadowed, 18 for unreached
+unfoldable pub standingCase : Standing → ℕ
+standingCase is-visible = 0
+standingCase is-shadowed = 1
+standingCase is-unreached = 2
+
+unfoldable pub judged : Outcome Standing → ℕ
+judged o = told standingCase o
 
 -- What the number lent for the place of the name sought holds afterwards (document 01, "The gym file", its end): the place of the name's first byte in
 -- the text; where there is no name, what it held.

@@ -3,10 +3,12 @@
 mod numbers;
 
 use crate::numbers::compared_number;
+use crate::numbers::judged_number;
 use crate::numbers::written_number;
 use graph_file::name_place;
 use graph_file::read;
 use graph_file::write;
+use judge::judge;
 use path_row::form::Step;
 use path_row::lent::compare;
 use resolution::listing;
@@ -17,7 +19,8 @@ ghost use Rattle.graph_file.specs.File.{readCells, writeText, answer, leaves};
 ghost use Rattle.graph_file.specs.NameSought.{nameSought};
 ghost use Rattle.path_row.specs.Compare.{compareAnswer, stepsLeft};
 ghost use Rattle.resolution.specs.Listing.{listingFor, summaryFor};
-ghost use Rattle.host.specs.Numbers.{written, compared, placeLeft};
+ghost use Rattle.judge.specs.Judge.{judgeAnswer};
+ghost use Rattle.host.specs.Numbers.{written, compared, judged, placeLeft};
 
 // A gym file's text read into the lent table.
 #[no_mangle]
@@ -60,6 +63,20 @@ pub extern "C" fn tewhoranu_listing(text: &[u8], query: usize, out: &mut [u8]) -
     ensures { λ _. ⌜ now (out .exit) ≡ leaves (listingFor (now (text .entry)) query) (now (out .entry)) ⌝ }
 {
     written_number(listing(text, query, out))
+}
+
+// The standing of a path row for a query of a gym file's text. The row's steps go into the lent table.
+#[no_mangle]
+pub extern "C" fn tewhoranu_judge<'s, 'o>(
+    text: &'s [u8],
+    query: usize,
+    row: &'s [u8],
+    steps: &'o mut [Step],
+) -> u64
+    ensures { λ r. ⌜ (r ≡ judged (judgeAnswer (now (text .entry)) query (now (row .entry)) (length (now (steps .entry)))))
+        × (now (steps .exit) ≡ stepsLeft (judgeAnswer (now (text .entry)) query (now (row .entry)) (length (now (steps .entry)))) (now (row .entry)) (now (steps .entry))) ⌝ }
+{
+    judged_number(judge(text, query, row, steps))
 }
 
 // Which of two path rows is more specific, by the order of a gym file's text. The steps of each go into the table lent for it.

@@ -1,0 +1,91 @@
+/* Calls every function of the header from C, on document 01's example given as the one argument, and compares the answers
+ * with what the document says. It is the test of the header's declarations: the Rust wrapper has its own. */
+#include "tewhoranu.h"
+
+#include <stdio.h>
+#include <stdlib.h>
+#include <string.h>
+
+static uint8_t text[TEWHORANU_TEXT + 1];
+static uint8_t out[TEWHORANU_LISTING];
+static uint64_t table[TEWHORANU_CELLS];
+static tewhoranu_step steps[TEWHORANU_STEPS];
+static tewhoranu_step others[TEWHORANU_STEPS];
+
+static void expect(int holds, const char *what)
+{
+    if (!holds) {
+        fprintf(stderr, "calls: %s\n", what);
+        exit(1);
+    }
+}
+
+#define EXPECT(test) expect((test), #test)
+
+static const uint8_t *bytes(const char *string) { return (const uint8_t *)string; }
+
+static int holds(const tewhoranu_step *step, char label, int scope)
+{
+    return step->label == label && step->scope == scope;
+}
+
+int main(int argc, char **argv)
+{
+    static const char listing[] = "start seek found awaits\n3 service one 3$\nmark path\n10 3P1\n";
+    static const char summary[] = "queries one several none share\n3 3 0 0 100\n";
+    static const char visible[] = "21 2", shadowed[] = "10 2P1", unreached[] = "5 2P1P0";
+    FILE *file = argc == 2 ? fopen(argv[1], "rb") : NULL;
+    size_t length, cells;
+    uint64_t answer, place = 7;
+
+    expect(file != NULL, "the example's file is the one argument");
+    length = fread(text, 1, sizeof text, file);
+
+    answer = tewhoranu_read(text, length, table, TEWHORANU_CELLS);
+    EXPECT(!tewhoranu_refused(answer));
+    cells = tewhoranu_written(answer);
+    EXPECT(cells == 1 + 6 * 23 && table[1] == 0 && table[2] == 'I');
+    EXPECT(tewhoranu_read(text, length, table, cells - 1) == TEWHORANU_NO_ROOM);
+    EXPECT(tewhoranu_read(text, length - 1, table, cells) == TEWHORANU_MALFORMED);
+    EXPECT(tewhoranu_read(text, TEWHORANU_TEXT + 1, table, cells) == TEWHORANU_TOO_LONG);
+
+    answer = tewhoranu_write(table, cells, out, sizeof out);
+    EXPECT(answer == TEWHORANU_DONE + length && memcmp(out, text, length) == 0);
+    EXPECT(tewhoranu_write(table, cells, out, length - 1) == TEWHORANU_NO_ROOM);
+
+    EXPECT(tewhoranu_name_sought(text, length, 3, &place) == 0 && place == 7);
+    EXPECT(tewhoranu_name_sought(text, length, 2, &place) == 5 && memcmp(text + place, "hours", 5) == 0);
+    EXPECT(place == length - 6);
+
+    answer = tewhoranu_listing(text, length, 1, out, sizeof out);
+    EXPECT(answer == TEWHORANU_DONE + strlen(listing) && memcmp(out, listing, strlen(listing)) == 0);
+    EXPECT(tewhoranu_listing(text, length, 1, out, strlen(listing)) == answer);
+    EXPECT(tewhoranu_listing(text, length, 1, out, strlen(listing) - 1) == TEWHORANU_NO_ROOM);
+    EXPECT(tewhoranu_listing(text, length, 3, out, sizeof out) == TEWHORANU_NO_QUERY);
+
+    answer = tewhoranu_summary(text, length, out, TEWHORANU_SUMMARY);
+    EXPECT(answer == TEWHORANU_DONE + strlen(summary) && memcmp(out, summary, strlen(summary)) == 0);
+
+    EXPECT(tewhoranu_judge(text, length, 0, bytes(visible), strlen(visible), steps, TEWHORANU_STEPS) == TEWHORANU_VISIBLE);
+    EXPECT(holds(&steps[0], 0, 0));
+    EXPECT(tewhoranu_judge(text, length, 0, bytes(shadowed), strlen(shadowed), steps, 1) == TEWHORANU_SHADOWED);
+    EXPECT(holds(&steps[0], 'P', 1) && holds(&steps[1], 0, 0));
+    EXPECT(tewhoranu_judge(text, length, 0, bytes(unreached), strlen(unreached), steps, 2) == TEWHORANU_UNREACHED);
+    EXPECT(holds(&steps[0], 'P', 1) && holds(&steps[1], 'P', 0) && holds(&steps[2], 0, 0));
+    EXPECT(tewhoranu_judge(text, length, 0, bytes(unreached), strlen(unreached), steps, 1) == TEWHORANU_NO_ROOM);
+    EXPECT(tewhoranu_judge(text, length, 0, bytes("2"), 1, steps, 1) == TEWHORANU_NO_PATH_ROW);
+    EXPECT(tewhoranu_judge(text, length, 3, bytes("2"), 1, steps, 1) == TEWHORANU_NO_QUERY);
+
+    memset(steps, 0, sizeof steps);
+    answer = tewhoranu_compare(text, length, bytes(visible), strlen(visible), bytes(unreached), strlen(unreached), steps,
+                               TEWHORANU_STEPS, others, TEWHORANU_STEPS);
+    EXPECT(answer == TEWHORANU_FIRST && holds(&steps[0], 0, 0) && holds(&others[1], 'P', 0));
+    answer = tewhoranu_compare(text, length, bytes(unreached), strlen(unreached), bytes(visible), strlen(visible), steps, 2,
+                               others, 0);
+    EXPECT(answer == TEWHORANU_SECOND && holds(&steps[1], 'P', 0));
+    answer = tewhoranu_compare(text, length, bytes(visible), strlen(visible), bytes(visible), strlen(visible), steps, 0,
+                               others, 0);
+    EXPECT(answer == TEWHORANU_NEITHER);
+    puts("calls: ok");
+    return 0;
+}
