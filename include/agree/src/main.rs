@@ -228,14 +228,14 @@ impl Test {
             Ok(gym) => (gym.queries.len(), gym.scopes as usize, gym.labels.clone()),
             Err(_) => (1, 5, b"AB".to_vec()),
         };
+        // without order pairs a query sees all that it reaches: rows that are visible or shadowed with them
+        let unordered = without_pairs(text);
         let mut shown = Vec::new();
         for query in 0..queries + 1 {
             self.name_sought(text, query);
             self.listing(text, query);
-            let mut out = vec![0; tewhoranu::LISTING];
-            if let Ok(n) = plain::answers::listing(text, query, &mut out) {
-                shown.extend(out[..n].split(|&b| b == b'\n').skip(3).filter(|row| !row.is_empty()).take(20).map(|row| row.to_vec()));
-            }
+            shown.extend(rows(text, query));
+            shown.extend(rows(&unordered, query));
             for _ in 0..2 {
                 let row = self.row(&shown, scopes, &letters);
                 self.judge(text, query, &row);
@@ -293,13 +293,36 @@ fn from_theirs(steps: &[plain::path_row::Step], memory: &mut [(u8, u8)]) {
     }
 }
 
+/// Rows of a query's listing, at most twenty.
+fn rows(text: &[u8], query: usize) -> Vec<Vec<u8>> {
+    let mut out = vec![0; tewhoranu::LISTING];
+    let n = plain::answers::listing(text, query, &mut out).unwrap_or(0);
+    out[..n].split(|&b| b == b'\n').skip(3).filter(|row| !row.is_empty()).take(20).map(|row| row.to_vec()).collect()
+}
+
+/// Where a line that is this names line stands.
+fn names_line(lines: &[&[u8]], names: &[u8]) -> Option<usize> {
+    lines.iter().position(|line| *line == names)
+}
+
+/// The file without its order pairs; the file as it is where it is too damaged to tell them.
+fn without_pairs(text: &[u8]) -> Vec<u8> {
+    let mut lines: Vec<&[u8]> = text.split_inclusive(|&b| b == b'\n').collect();
+    if let (Some(less), Some(state)) = (names_line(&lines, b"less more\n"), names_line(&lines, b"state label next\n")) {
+        if less < state {
+            lines.drain(less + 1..state);
+        }
+    }
+    lines.concat()
+}
+
 /// A file that is whole line by line, with a fault that small damage seldom makes: an order pair left out, an order pair with
 /// equal ends, a second count of scopes.
 fn faulty(rng: &mut Rng, text: &[u8]) -> Vec<u8> {
     let mut lines: Vec<&[u8]> = text.split_inclusive(|&b| b == b'\n').collect();
-    let at = |lines: &[&[u8]], names: &[u8]| lines.iter().position(|line| *line == names).expect("an accepted file");
-    let pairs = at(&lines, b"less more\n") + 1..at(&lines, b"state label next\n");
-    let scopes = at(&lines, b"scopes\n") + 1;
+    let at = |names: &[u8]| names_line(&lines, names).expect("an accepted file has them all");
+    let pairs = at(b"less more\n") + 1..at(b"state label next\n");
+    let scopes = at(b"scopes\n") + 1;
     match rng.below(3) {
         0 if !pairs.is_empty() => {
             lines.remove(pairs.start + rng.below(pairs.len()));
