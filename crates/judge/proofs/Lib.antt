@@ -5,3 +5,4 @@ pub mod Tied
 pub mod Calls
 pub mod Right
 pub mod LentLaws
+pub mod Marked

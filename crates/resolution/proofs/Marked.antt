@@ -37,7 +37,7 @@ reads : Unit {0}
 unfolding labels pairs transitions accepts scopeCount edges declarations openPairs queries sections sectionAt andThen refuseIf nothing begun joined counted taken everyItem kindInRange itemInRange inRange keyLess listed follows unless admission someRow sameEnds gap pairFault orderFault ifAdmitted afterRow oneRow throughRows afterNames enough throughSection isEmpty throughSections ordered atStart whole madeOf within isDigit isCapital isLower isNameByte numberTaken nameTaken byteTaken place endTaken readField startsWith readItem placeOf readItems growing digitsFrom numberHere packed packHigh packLow nameRun nameOf nameHere readNames rowFollows readRow reading readStage readCells
 reads = tt
 
-answers : Unit {0}
+unfoldable pub answers : Unit {0}
 unfolding flatMap sameEnd sameName anyOf preferredBy nextBy keep firstOf anyBelow foundOf hopsAt marksAt declaresAny behind hopOn nodesFrom leadsOn usable sameHop sameHops preferredTo nodes reachedNodes cut rowsAt entries found isReached standing openEnd followedAt awaits endOf keptIf rowsAmong rowsIn lettersOf orderPairOf transitionOf rulesOf nameAt edgeOf declarationOf openPairOf queryOf scopesOf graphOf opensOf queriesOf queryAt packed packHigh packLow
 answers = tt
 
@@ -73,10 +73,10 @@ module _ (text cells : List ℕ) (e : readCells text ≡ done cells) (i : ℕ) (
     settled = dash o w;
   }
 
-abbrev exampleCells : List ℕ
+abbrev pub exampleCells : List ℕ
 exampleCells = 0 ∷ 0 ∷ 73 ∷ 0 ∷ 0 ∷ 0 ∷ 0 ∷ 0 ∷ 80 ∷ 0 ∷ 0 ∷ 0 ∷ 0 ∷ 1 ∷ 0 ∷ 1 ∷ 0 ∷ 0 ∷ 0 ∷ 1 ∷ 0 ∷ 2 ∷ 0 ∷ 0 ∷ 0 ∷ 1 ∷ 1 ∷ 2 ∷ 0 ∷ 0 ∷ 0 ∷ 2 ∷ 0 ∷ 0 ∷ 1 ∷ 0 ∷ 0 ∷ 2 ∷ 0 ∷ 1 ∷ 0 ∷ 0 ∷ 0 ∷ 2 ∷ 1 ∷ 0 ∷ 1 ∷ 0 ∷ 0 ∷ 3 ∷ 0 ∷ 0 ∷ 0 ∷ 0 ∷ 0 ∷ 3 ∷ 1 ∷ 0 ∷ 0 ∷ 0 ∷ 0 ∷ 4 ∷ 5 ∷ 0 ∷ 0 ∷ 0 ∷ 0 ∷ 5 ∷ 1 ∷ 1 ∷ 0 ∷ 0 ∷ 0 ∷ 5 ∷ 2 ∷ 0 ∷ 4 ∷ 0 ∷ 0 ∷ 5 ∷ 2 ∷ 1 ∷ 1 ∷ 0 ∷ 0 ∷ 5 ∷ 3 ∷ 1 ∷ 1 ∷ 0 ∷ 0 ∷ 6 ∷ 0 ∷ 7525362636775489536 ∷ 0 ∷ 5 ∷ 0 ∷ 6 ∷ 1 ∷ 8315178139909317888 ∷ 0 ∷ 10 ∷ 0 ∷ 6 ∷ 2 ∷ 8315178139909317888 ∷ 0 ∷ 21 ∷ 0 ∷ 6 ∷ 4 ∷ 7525362636775489536 ∷ 0 ∷ 40 ∷ 0 ∷ 7 ∷ 3 ∷ 0 ∷ 0 ∷ 0 ∷ 0 ∷ 8 ∷ 2 ∷ 8315178139909317888 ∷ 0 ∷ 0 ∷ 0 ∷ 8 ∷ 3 ∷ 8315178139909317888 ∷ 0 ∷ 0 ∷ 0 ∷ 8 ∷ 2 ∷ 7525362636775489536 ∷ 0 ∷ 0 ∷ 0 ∷ []
 
-example-read : readCells exampleText ≡ done exampleCells
+pub example-read : readCells exampleText ≡ done exampleCells
 unfolding reads
 example-read = refl
 
