@@ -59,9 +59,30 @@ def apart(title, row, due, room=300):
     assert due, title
     answer = b"mark %d start %d steps %d" % (mark, start, len(steps))
     answer += b"".join(b" %s%d" % s for s in steps)
-    out = row[:room]
-    answer += b", written %d sum %d, rest kept, back the same\n" % (len(out), sum_of(out))
-    case(b"p", "row: " + title, answer, first=row, room=room)
+    case(b"p", "row: " + title, answer + b", " + written(row, room), first=row, room=room)
+
+
+def written(row, room):
+    """What is due where a row is written into a lent buffer of `room` bytes, and the memory behind them is looked at too."""
+    if room < len(row):
+        return b"refused 9, all kept\n"
+    return b"written %d sum %d, rest kept, back the same\n" % (len(row), sum_of(row))
+
+
+def parts(title, due, mark, start, letters, scopes, count=None, room=300):
+    """A row written from its parts, which stand behind `=` in hexadecimal: mark, start, number of steps, how many letters and scopes are lent, then
+    80 of each; behind those that are lent stand a letter and a scope that a row may have. Past the lent ones a step has 0. `due` says whether they make
+    a row."""
+    letters, scopes = bytes_of(letters), bytes(scopes)
+    count = len(letters) if count is None else count
+    at = lambda s, i: s[i] if i < len(s) else 0
+    well = mark <= 65535 and start <= 63 and count <= 63
+    well = well and all(65 <= at(letters, i) <= 90 and at(scopes, i) <= 63 for i in range(count))
+    assert well == due, title
+    row = b"%d %d" % (mark, start) + b"".join(b"%c%d" % (at(letters, i), at(scopes, i)) for i in range(count)) if well else b""
+    numbers = [mark, start, count, len(letters), len(scopes)] + list(letters.ljust(80, b"P")) + list(scopes.ljust(80, b"\7"))
+    body = b"=" + b"".join(b"%x " % n for n in numbers)
+    case(b"p", "parts: " + title, written(row, room) if well else b"refused 8, all kept\n", first=body, room=room)
 
 
 def compare(title, text, a, b, due=None, n=63, m=63):
@@ -132,8 +153,42 @@ def form_cases():
         apart("%d digits" % n, "1" * n, False)
         apart("a row and spaces, %d bytes" % n, "10 3P1" + " " * (n - 6), False)
         apart("a row and NUL, %d bytes" % n, "10 3P1" + "\0" * (n - 6), False)
-    for room in (7, 6, 5, 4, 3, 2, 1, 0):
+    for row in ("10 3P1", "0 0", "65535 63Z63", "10 3" + chain(63), "65535 63" + "Z63" * 63):
+        n = len(row)
+        for room in sorted({0, 1, n - 2, n - 1, n, n + 1, n + 2, 256, 300, 400}):
+            apart("%s.. of %d bytes in a buffer of %d" % (row[:11], n, room), row, True, room)
+    for room in (5, 3, 2, 98304):
         apart("10 3P1 in a buffer of %d bytes" % room, "10 3P1", True, room)
+
+
+def parts_cases():
+    large = (1 << 64) - 1
+    for title, due, mark, start, letters, scopes, count in [
+        ("no steps", True, 10, 3, "", [], None), ("one step", True, 10, 3, "P", [1], None), ("two steps", True, 10, 3, "PI", [1, 4], None),
+        ("all at their least", True, 0, 0, "A", [0], None), ("all at their most", True, 65535, 63, "Z" * 63, [63] * 63, None),
+        ("a scope met twice", True, 10, 3, "PP", [3, 3], None), ("fewer steps than letters", True, 10, 3, "PIp", [1, 4, 64], 2),
+        ("no steps, letters that are none", True, 10, 3, "p$", [64, 255], 0), ("63 steps of 80", True, 10, 3, "Q" * 80, range(80), 63),
+        ("mark 65536", False, 65536, 3, "P", [1], None), ("mark 65536 without steps", False, 65536, 3, "", [], None), ("the largest mark", False, large, 3, "P", [1], None),
+        ("mark 4294967306", False, (1 << 32) + 10, 3, "P", [1], None), ("start 64", False, 10, 64, "P", [1], None), ("start 64 without steps", False, 10, 64, "", [], None),
+        ("start 256", False, 10, 256, "P", [1], None), ("start 4294967299", False, 10, (1 << 32) + 3, "P", [1], None), ("the largest start", False, 10, large, "P", [1], None),
+        ("scope 64", False, 10, 3, "P", [64], None), ("scope 255", False, 10, 3, "P", [255], None), ("scope 64 in the middle", False, 10, 3, "PIP", [1, 64, 0], None),
+        ("scope 64 at the end", False, 10, 3, "PIP", [1, 2, 64], None), ("a letter in lower case", False, 10, 3, "p", [1], None), ("letter $", False, 10, 3, "$", [1], None),
+        ("letter @", False, 10, 3, "@", [1], None), ("letter [", False, 10, 3, "[", [1], None), ("letter 0", False, 10, 3, "0", [1], None), ("byte 0 for a letter", False, 10, 3, "\0", [1], None),
+        ("byte 255 for a letter", False, 10, 3, "\xff", [1], None), ("a letter and 128", False, 10, 3, "\xd0", [1], None), ("LF for the last letter", False, 10, 3, "PI\n", [1, 2, 4], None),
+        ("64 steps", False, 10, 3, "P" * 64, [1] * 64, None), ("65 steps", False, 10, 3, "P" * 65, [1] * 65, None), ("64 steps of 80", False, 10, 3, "P" * 80, [1] * 80, 64),
+        ("one step more than letters", False, 10, 3, "P", [1, 4], 2), ("a step and no letters", False, 10, 3, "", [1], 1), ("a step and no scopes, which is scope 0", True, 10, 3, "P", [], 1),
+        ("the second of two scopes missing", True, 10, 3, "PI", [1], 2), ("neither letters nor scopes", False, 10, 3, "", [], 1),
+        ("more steps than any memory has", False, 10, 3, "P", [1], large), ("256 steps", False, 10, 3, "P" * 80, [1] * 80, 256),
+        ("4294967297 steps", False, 10, 3, "P", [1], (1 << 32) + 1), ("all past their most", False, large, large, "p" * 64, [64] * 64, None),
+    ]:  # fmt: skip
+        parts(title, due, mark, start, letters, scopes, count)
+        for room in (0, 400):
+            parts("%s, a buffer of %d bytes" % (title, room), due, mark, start, letters, scopes, count, room)
+    for room in range(9):
+        parts("10 3P1 in a buffer of %d bytes" % room, True, 10, 3, "P", [1], None, room)
+        parts("8 before 9, a buffer of %d bytes" % room, False, 10, 3, "p", [1], None, room)
+    for room in (196, 197, 198):
+        parts("the longest row in a buffer of %d bytes" % room, True, 65535, 63, "Z" * 63, [63] * 63, None, room)
 
 
 PLAIN = changed(SMALLEST, s0=["I", "P", "D"])
@@ -152,6 +207,60 @@ ORDERS = {
     "only ends": ["$ I", "$ P", "$ D"],
     "letters turned": ["P I", "D I", "D P"],
 }
+
+
+# Files with other labels, or the same ones in another sequence: the labels, and the pairs.
+OTHER_ORDERS = {
+    "labels P D I, end in the middle": ("PDI", ["$ I", "P $", "P I", "D $", "D I"]),
+    "labels D I P, I and P over D": ("DIP", ["I D", "P D"]),
+    "labels C A B": ("CAB", ["$ C", "$ A", "$ B", "C A", "C B", "A B"]),
+}
+
+
+def by_labels(name):
+    labels, pairs = OTHER_ORDERS[name]
+    return text_of(changed(SMALLEST, s0=list(labels), s1=pairs))
+
+
+TURNED = {"first": "second", "second": "first", "neither": "neither"}
+
+
+def both_ways(title, text, a, b, due):
+    compare(title, text, a, b, due)
+    compare(title + ", turned round", text, b, a, TURNED[due])
+
+
+def unlisted_cases(name, text, labels, letters):
+    """Letters that the file does not list, against each label, the end and one another, first and after a shared part: neither."""
+    for shared in ("", labels[0] + "3"):
+        at = "1 2" + shared
+        tail = ", after %s, %s" % (shared or "the start", name)
+        for x in letters:
+            for y in labels:
+                both_ways("unlisted %s against %s%s" % (x, y, tail), text, at + x + "1", at + y + "1", "neither")
+            both_ways("unlisted %s against the end%s" % (x, tail), text, at + x + "1", at, "neither")
+            compare("unlisted %s on both sides%s" % (x, tail), text, at + x + "1", at + x + "1", "neither")
+            both_ways("unlisted %s to two scopes%s" % (x, tail), text, at + x + "1", at + x + "3", "neither")
+        for i, x in enumerate(letters):
+            for y in letters[i + 1 :]:
+                both_ways("unlisted %s against unlisted %s%s" % (x, y, tail), text, at + x + "1", at + y + "1", "neither")
+
+
+def label_cases():
+    for name, pairs in ORDERS.items():
+        unlisted_cases(name, by(*pairs), "IPD", "ABC")
+    unlisted_cases("the example's order", text_of(EXAMPLE), "IP", "ABC")
+    for name, (labels, pairs) in OTHER_ORDERS.items():
+        unlisted_cases(name, by_labels(name), labels, "IPD" if "A" in labels else "ABC")
+    for name, cases in {
+        "labels P D I, end in the middle": [("P", "D", "neither"), ("P", "I", "first"), ("D", "I", "first"), ("P", "", "first"), ("D", "", "first"), ("I", "", "second")],
+        "labels D I P, I and P over D": [("I", "D", "first"), ("P", "D", "first"), ("I", "P", "neither"), ("I", "", "neither"), ("D", "", "neither")],
+        "labels C A B": [("C", "A", "first"), ("C", "B", "first"), ("A", "B", "first"), ("A", "", "second"), ("B", "", "second"), ("C", "", "second")],
+    }.items():
+        for x, y, due in cases:
+            end = lambda z: z + "1" if z else ""
+            both_ways("%s against %s, %s" % (x, y or "the end", name), by_labels(name), "1 2" + end(x), "1 2" + end(y), due)
+            both_ways("%s against %s after an unlisted letter, %s" % (x, y or "the end", name), by_labels(name), "1 2X4" + end(x), "1 2X4" + end(y), due)
 
 
 def specific_cases():
@@ -241,16 +350,26 @@ def refusal_cases():
     compare("second row empty", text, well, "", 8)
     compare("both rows empty", text, "", "", 8)
     compare("empty text, both rows empty", b"", "", "", 2)
+    for title, row in [
+        ("257 bytes of steps", ("1 2" + "P10" * 99)[:257]), ("300 bytes", "1 2I4" + " " * 295), ("1000 bytes of steps", ("1 2" + "P10" * 400)[:1000]), ("256 bytes", ("1 2" + "P10" * 99)[:256]),
+        ("a leading zero in the mark", "01 2I4"), ("a leading zero in the start", "1 02I4"), ("a leading zero in a scope", "1 2I04"), ("a leading zero in the last scope", "1 2I4P01"),
+        ("mark 00", "00 2I4"), ("scope 00", "1 2I00"), ("no mark", " 2I4"), ("no mark and no space", "2I4"), ("no space", "12I4"), ("no start", "1 I4"), ("mark and space alone", "1 "),
+        ("mark alone", "1"), ("a letter without scope", "1 2I"), ("a last letter without scope", "1 2I4P"), ("an inner letter without scope", "1 2IP4"), ("two spaces", "1  2I4"), ("steps alone", "I4"),
+    ]:  # fmt: skip
+        for rooms in ((63, 63), (0, 0)):
+            compare("first row with %s, %d records" % (title, rooms[0]), text, row, well, 8, *rooms)
+            compare("second row with %s, %d records" % (title, rooms[0]), text, well, row, 8, *rooms)
+        compare("both rows with " + title, text, row, row, 8)
     for title, row in [("64 steps", "1 0" + chain(64)), ("64 steps and few records", "1 0" + chain(64)), ("a trailing LF", well + "\n"), ("scope 64", "1 2I64"), ("mark 65536", "65536 2I4")]:
         rooms = (2, 2) if "few" in title else (1000, 1000)
         compare("first row with " + title, text, row, well, 8, *rooms)
         compare("second row with " + title, text, well, row, 8, *rooms)
 
 
-def random_row(dice, base):
+def random_row(dice, base, letters="IIPPDX"):
     """A row that goes a while along `base` and then its own way; now and then of a wrong form."""
     n = dice.below(len(base) + 1)
-    steps = base[:n] + [(dice.pick("IIPPDX"), dice.below(3)) for _ in range(dice.below(3))]
+    steps = base[:n] + [(dice.pick(letters), dice.below(3)) for _ in range(dice.below(3))]
     start = 2 if dice.below(12) else 3
     row = "%d %d" % (dice.pick([0, 7, 10, 65535]), start) + "".join("%s%d" % s for s in steps)
     if dice.below(25) == 0:
@@ -267,10 +386,16 @@ def random_cases():
         base = [(dice.pick("IPD"), dice.below(3)) for _ in range(dice.below(5))]
         rooms = [63, 63] if dice.below(8) else [dice.below(5), dice.below(5)]
         compare("random rows %d, %s" % (n, name), by(*ORDERS[name]), random_row(dice, base), random_row(dice, base), None, *rooms)
+    for name in OTHER_ORDERS:
+        for n in range(60):
+            base = [(dice.pick("IPDAX"), dice.below(3)) for _ in range(dice.below(5))]
+            compare("random rows %d, %s" % (n, name), by_labels(name), random_row(dice, base, "IPDABCX"), random_row(dice, base, "IPDABCX"))
 
 
 def cases():
     form_cases()
+    parts_cases()
+    label_cases()
     specific_cases()
     room_cases()
     refusal_cases()

@@ -1,15 +1,18 @@
-// Path rows: one taken apart and written again, two compared by a file.
+// Path rows: one taken apart and written again, one written from parts that may make none, two compared by a file.
+use crate::input::plus;
+use crate::input::table_of;
 use crate::lent;
 use crate::lent::bytes;
 use crate::lent::front;
 use crate::say;
+use graph_file::Answer;
 use path_row::compare::Compared;
 use path_row::compare::steps_due;
 use path_row::file::decide;
 use path_row::form::RowRead;
 use path_row::form::read_row;
 use path_row::form::step_at;
-use path_row::writer::put_row;
+use path_row::writer::write_row;
 
 // Each step of a row printed, its letters and its scopes kept.
 fn steps(row: &[u8], count: usize, letters: &mut [u8], scopes: &mut [u8]) {
@@ -38,12 +41,24 @@ fn row_into(
     letters: &[u8],
     scopes: &[u8],
     count: usize,
-) -> usize {
-    put_row(front(out, room), 0, mark, start, letters, scopes, count)
+) -> Answer {
+    write_row(mark, start, count, letters, scopes, front(out, room))
+}
+
+// Writing was refused: is all as it was, past the bytes that were lent too?
+fn unwritten(k: u64, out: &[u8]) {
+    say::refused(k);
+    say::all(lent::bytes_kept(out, 0));
+}
+
+// n bytes were written; the same of those behind them.
+fn written(n: usize, out: &[u8]) {
+    say::done(b"written", n, lent::bytes_sum(bytes(out, 0, n)));
+    say::rest(lent::bytes_kept(out, n));
 }
 
 // A row taken apart, and its parts written into a lent buffer of `room` bytes.
-pub fn apart(row: &[u8], room: usize, out: &mut [u8]) {
+fn row_apart(row: &[u8], room: usize, out: &mut [u8]) {
     let RowRead::Row(mark, start, count) = read_row(row) else {
         say::refused(8);
         say::line();
@@ -54,11 +69,87 @@ pub fn apart(row: &[u8], room: usize, out: &mut [u8]) {
     let mut scopes = [0u8; 63];
     steps(row, count, &mut letters, &mut scopes);
     say::past(is_past(row, count));
+    say::word(b", ");
     lent::mark_bytes(out);
-    let n = row_into(out, room, mark, start, &letters, &scopes, count);
-    say::done(b", written", n, lent::bytes_sum(bytes(out, 0, n)));
-    say::rest(lent::bytes_kept(bytes(out, 0, room), n));
-    say::back(check::same(bytes(out, 0, n), bytes(row, 0, n)));
+    let a = row_into(out, room, mark, start, &letters, &scopes, count);
+    match a {
+        Answer::Written(n) => {
+            written(n, out);
+            say::back(check::same(bytes(out, 0, n), row));
+        }
+        Answer::Refused(k) => unwritten(k, out),
+    }
+}
+
+// The number at a place of the table, 0 past its end.
+fn number_at(table: &[u64], at: usize) -> u64 {
+    if at < table.len() { table[at] } else { 0 }
+}
+
+fn byte_from(table: &[u64], at: usize) -> u8 {
+    (number_at(table, at) % 256) as u8
+}
+
+// The numbers from a place on, as bytes.
+fn bytes_from(table: &[u64], at: usize, out: &mut [u8]) {
+    let mut i = 0;
+    while i < out.len() {
+        out[i] = byte_from(table, plus(at, i));
+        i += 1;
+    }
+}
+
+// Was what is written read as a row with this mark, start and count?
+fn reads_as(row: &[u8], mark: u64, start: u64, count: usize) -> bool {
+    let RowRead::Row(m, s, n) = read_row(row) else {
+        return false;
+    };
+    m == mark && s == start && n == count
+}
+
+// Parts in hexadecimal, written into a lent buffer of `room` bytes: the mark, the start, how many steps, how many letters and how many scopes are lent,
+// then 80 letters and 80 scopes.
+fn parts(body: &[u8], room: usize, out: &mut [u8]) {
+    let mut table = [0u64; 200];
+    table_of(body, &mut table);
+    let mut letters = [0u8; 80];
+    let mut scopes = [0u8; 80];
+    bytes_from(&table, 5, &mut letters);
+    bytes_from(&table, 85, &mut scopes);
+    let mark = number_at(&table, 0);
+    let start = number_at(&table, 1);
+    let count = number_at(&table, 2) as usize;
+    let ls = bytes(&letters, 0, number_at(&table, 3) as usize);
+    let ss = bytes(&scopes, 0, number_at(&table, 4) as usize);
+    lent::mark_bytes(out);
+    let a = row_into(out, room, mark, start, ls, ss, count);
+    match a {
+        Answer::Written(n) => {
+            written(n, out);
+            say::back(reads_as(bytes(out, 0, n), mark, start, count));
+        }
+        Answer::Refused(k) => unwritten(k, out),
+    }
+}
+
+// Parts begin with `=`, which no row does.
+fn are_parts(body: &[u8]) -> bool {
+    check::same(bytes(body, 0, 1), b"=")
+}
+
+// The bytes that are looked at: those that are lent and 64 behind them, as far as there are any.
+fn near(room: usize, len: usize) -> usize {
+    let n = plus(room, 64);
+    if len < n { len } else { n }
+}
+
+// A row or parts.
+pub fn apart(body: &[u8], room: usize, out: &mut [u8]) {
+    let n = near(room, out.len());
+    if are_parts(body) {
+        return parts(bytes(body, 1, body.len()), room, front(out, n));
+    }
+    row_apart(body, room, front(out, n))
 }
 
 // Two rows compared by a text, where n records are lent for the steps of a and m for those of b.
