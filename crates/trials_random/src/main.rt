@@ -5,6 +5,7 @@ mod completed;
 mod drawn;
 mod due;
 mod gym;
+mod judged;
 mod paths;
 mod rows;
 mod say;
@@ -73,13 +74,6 @@ fn with_query(f: Found, entries: usize) -> Found {
     }
 }
 
-fn compare(counts: &mut [u64], text: &[u8], due: &[u8], got: &[u8]) {
-    say::add_to_sum(counts, got);
-    if !check::same(due, got) {
-        say::difference(counts, text, due, got);
-    }
-}
-
 // The place in the counts of what was found, and of what is awaited.
 fn found_place(entries: usize) -> usize {
     match entries {
@@ -104,8 +98,8 @@ fn compare_listing(counts: &mut [u64], text: &[u8], i: usize, due: &[u8]) {
     let mut out = [0u8; TEXT];
     let a = listing(text, i, &mut out);
     match a {
-        Answer::Written(n) => compare(counts, text, due, part(&out, 0, n)),
-        Answer::Refused(_) => compare(counts, text, due, b"refused\n"),
+        Answer::Written(n) => say::compare(counts, text, due, part(&out, 0, n)),
+        Answer::Refused(_) => say::compare(counts, text, due, b"refused\n"),
     }
 }
 
@@ -113,8 +107,8 @@ fn compare_summary(counts: &mut [u64], text: &[u8], due: &[u8]) {
     let mut out = [0u8; 128];
     let a = summary(text, &mut out);
     match a {
-        Answer::Written(n) => compare(counts, text, due, part(&out, 0, n)),
-        Answer::Refused(_) => compare(counts, text, due, b"refused\n"),
+        Answer::Written(n) => say::compare(counts, text, due, part(&out, 0, n)),
+        Answer::Refused(_) => say::compare(counts, text, due, b"refused\n"),
     }
 }
 
@@ -193,6 +187,13 @@ fn summary_due(counts: &mut [u64], text: &[u8], f: Found) {
     compare_summary(counts, text, part(&due, 0, n));
 }
 
+// Of one gym in so many the path rows are judged.
+fn judge_some(counts: &mut [u64], g: &[u8], text: &[u8], x: usize) {
+    if x % 16 == 0 {
+        judged::judge_gym(counts, g, text, x);
+    }
+}
+
 // The gym that is drawn from a number on; the last number drawn.
 fn one_gym(counts: &mut [u64], seed: usize) -> usize {
     let mut g = [0u8; SIZE];
@@ -202,6 +203,7 @@ fn one_gym(counts: &mut [u64], seed: usize) -> usize {
     say::add(counts, say::GYMS, 1);
     let f = queries(counts, &g, part(&text, 0, n));
     summary_due(counts, part(&text, 0, n), f);
+    judge_some(counts, &g, part(&text, 0, n), x);
     x
 }
 
@@ -215,7 +217,7 @@ fn gyms(counts: &mut [u64]) {
 }
 
 fn main() {
-    let mut counts = [0u64; 16];
+    let mut counts = [0u64; 20];
     gyms(&mut counts);
     say::all(&counts);
 }

@@ -21,11 +21,11 @@ const MOST_LISTED: usize = 20000;
 // The bytes of so many paths.
 pub const ROOM: usize = 16384;
 
-fn steps(p: &[u8]) -> usize {
+pub fn steps(p: &[u8]) -> usize {
     at(p, 0)
 }
 
-fn step_at(p: &[u8], i: usize) -> usize {
+pub fn step_at(p: &[u8], i: usize) -> usize {
     at(p, plus(i, 2))
 }
 
@@ -48,7 +48,7 @@ fn meets(p: &[u8], scope: usize) -> bool {
 }
 
 // May the path go on by this step? There is such an edge, and no scope occurs twice.
-fn goes_on(g: &[u8], p: &[u8], step: usize) -> bool {
+pub fn goes_on(g: &[u8], p: &[u8], step: usize) -> bool {
     at(g, edge_place(last(p), step)) != 0 && !meets(p, scope_of(step))
 }
 
@@ -64,7 +64,7 @@ fn next_step(g: &[u8], p: &[u8], from: usize) -> usize {
     64
 }
 
-fn push(p: &mut [u8], step: usize) {
+pub fn push(p: &mut [u8], step: usize) {
     let n = steps(p);
     set(p, plus(n, 2), step);
     set(p, 0, plus(n, 1));
@@ -82,7 +82,7 @@ fn pop(p: &mut [u8]) -> usize {
 }
 
 // The next path in the listing's order: one step more, or, as often as there is none, one step back and there the next one. A path has at most 15 steps.
-fn advance(g: &[u8], p: &mut [u8]) -> bool {
+pub fn advance(g: &[u8], p: &mut [u8]) -> bool {
     let mut from = 0;
     let mut turns: usize = 16;
     while turns > 0 {
@@ -113,7 +113,7 @@ fn lawful(g: &[u8], p: &[u8]) -> bool {
     accepts(g, state)
 }
 
-fn reached(g: &[u8], p: &[u8], name: usize) -> bool {
+pub fn reached(g: &[u8], p: &[u8], name: usize) -> bool {
     declarations(g, last(p), name) != 0 && lawful(g, p)
 }
 
@@ -181,7 +181,7 @@ fn more_specific(g: &[u8], p: &[u8], q: &[u8]) -> bool {
 }
 
 // Is any of the n paths more specific than this one?
-fn shadowed(g: &[u8], table: &[u8], n: usize, q: &[u8]) -> bool {
+pub fn shadowed(g: &[u8], table: &[u8], n: usize, q: &[u8]) -> bool {
     let mut i = 0;
     while i < n {
         if more_specific(g, path(table, i), q) {

@@ -13,8 +13,33 @@ use crate::text::mark;
 use crate::text::put_field;
 use crate::text::put_number;
 
+fn is_listed(g: &[u8], x: usize) -> bool {
+    letter(g, 0) == x || letter(g, 1) == x || letter(g, 2) == x
+}
+
+// A letter that is not listed, for rows that are no paths. There are at most three labels.
+fn unlisted(g: &[u8]) -> usize {
+    if !is_listed(g, 65) {
+        return 65;
+    }
+    if !is_listed(g, 66) {
+        return 66;
+    }
+    if !is_listed(g, 67) {
+        return 67;
+    }
+    68
+}
+
+fn shown(g: &[u8], label: usize) -> usize {
+    if letter(g, label) == 0 {
+        return unlisted(g);
+    }
+    letter(g, label)
+}
+
 fn put_step(out: &mut [u8], n: usize, g: &[u8], step: usize) -> usize {
-    let m = put(out, n, letter(g, label_of(step)));
+    let m = put(out, n, shown(g, label_of(step)));
     put_number(out, m, scope_of(step))
 }
 

@@ -24,6 +24,9 @@ pub const DIFFERENCES: usize = 12;
 
 pub const SUM: usize = 13;
 
+// Rows judged, by standing.
+pub const JUDGED: usize = 14;
+
 // The differences that are shown in full.
 const SHOWN: u64 = 3;
 
@@ -85,6 +88,15 @@ pub fn difference(counts: &mut [u64], text: &[u8], due: &[u8], got: &[u8]) {
     word(got);
 }
 
+// What the library gave, held to what is due.
+pub fn compare(counts: &mut [u64], text: &[u8], due: &[u8], got: &[u8]) {
+    add_to_sum(counts, got);
+    if check::same(due, got) {
+        return;
+    }
+    difference(counts, text, due, got);
+}
+
 fn line(counts: &[u64], i: usize, name: &[u8]) {
     word(name);
     io::print_decimal(1, count(counts, i));
@@ -103,6 +115,9 @@ pub fn all(counts: &[u64]) {
     line(counts, SETTLED, b"settled ");
     line(counts, END, b"awaiting the end mark ");
     line(counts, LABEL, b"awaiting a label ");
+    line(counts, JUDGED, b"rows judged visible ");
+    line(counts, JUDGED + 1, b"rows judged shadowed ");
+    line(counts, JUDGED + 2, b"rows judged unreached ");
     line(counts, LEFT_OUT, b"left out, too many paths ");
     line(counts, DIFFERENCES, b"differences ");
     line(counts, SUM, b"sum of all that was written ");

@@ -1,0 +1,249 @@
+// Path rows judged: paths of the gym with each mark, and rows that are none, against the standing that document 01 gives them.
+use crate::cells::at;
+use crate::cells::part;
+use crate::cells::plus;
+use crate::cells::put_all;
+use crate::cells::set;
+use crate::drawn::below;
+use crate::drawn::next;
+use crate::gym::declared;
+use crate::gym::scopes;
+use crate::paths::MOST;
+use crate::paths::ROOM;
+use crate::paths::advance;
+use crate::paths::goes_on;
+use crate::paths::last;
+use crate::paths::push;
+use crate::paths::reached;
+use crate::paths::resolve;
+use crate::paths::shadowed;
+use crate::paths::step_at;
+use crate::paths::steps;
+use crate::rows::put_path;
+use crate::say::JUDGED;
+use crate::say::add;
+use crate::say::compare;
+use judge::Judged;
+use judge::judge_text;
+
+// The standings, by number.
+const VISIBLE: usize = 0;
+
+const SHADOWED: usize = 1;
+
+const UNREACHED: usize = 2;
+
+const REFUSED: usize = 3;
+
+// Do the steps of p, put behind those of q one by one, go along edges and meet no scope twice?
+fn goes_along(g: &[u8], p: &[u8], q: &mut [u8]) -> bool {
+    let n = steps(p);
+    let mut i = 0;
+    while i < n {
+        let k = step_at(p, i);
+        if !goes_on(g, q, k) {
+            return false;
+        }
+        push(q, k);
+        i += 1;
+    }
+    true
+}
+
+fn is_path(g: &[u8], p: &[u8]) -> bool {
+    let mut q = [0u8; 16];
+    set(&mut q, 1, at(p, 1));
+    goes_along(g, p, &mut q)
+}
+
+// Does the query reach p, and is the mark that of a matching declaration? A query's number is twice its start, and its name.
+fn is_reached(g: &[u8], i: usize, p: &[u8], mark: usize) -> bool {
+    if at(p, 1) != i / 2 || !is_path(g, p) {
+        return false;
+    }
+    reached(g, p, i % 2) && declared(g, last(p), i % 2, mark) == 1
+}
+
+// The standing of p with a mark; the n paths that the query reaches are in the table.
+fn standing(g: &[u8], i: usize, table: &[u8], n: usize, p: &[u8], mark: usize) -> usize {
+    if !is_reached(g, i, p, mark) {
+        return UNREACHED;
+    }
+    if shadowed(g, table, n, p) {
+        return SHADOWED;
+    }
+    VISIBLE
+}
+
+// The library's standing of a row.
+fn judged<'s>(text: &'s [u8], i: usize, row: &'s [u8]) -> usize {
+    match judge_text(text, i, row, 63) {
+        Judged::Visible => VISIBLE,
+        Judged::Shadowed => SHADOWED,
+        Judged::Unreached => UNREACHED,
+        Judged::Refused(_) => REFUSED,
+    }
+}
+
+fn put_standing(out: &mut [u8], n: usize, k: usize) -> usize {
+    match k {
+        VISIBLE => put_all(out, n, b" visible\n"),
+        SHADOWED => put_all(out, n, b" shadowed\n"),
+        UNREACHED => put_all(out, n, b" unreached\n"),
+        _ => put_all(out, n, b" refused\n"),
+    }
+}
+
+// The row with the standing that is due, and with the one that is given.
+fn compare_standing(counts: &mut [u64], text: &[u8], row: &[u8], k: usize, given: usize) {
+    let mut due = [0u8; 128];
+    let a = put_all(&mut due, 0, row);
+    let b = put_standing(&mut due, a, k);
+    let mut got = [0u8; 128];
+    let c = put_all(&mut got, 0, row);
+    let d = put_standing(&mut got, c, given);
+    add(counts, plus(JUDGED, k), 1);
+    compare(counts, text, part(&due, 0, b), part(&got, 0, d));
+}
+
+fn judge_row(
+    counts: &mut [u64],
+    g: &[u8],
+    text: &[u8],
+    i: usize,
+    table: &[u8],
+    n: usize,
+    p: &[u8],
+    mark: usize,
+) {
+    let k = standing(g, i, table, n, p, mark);
+    let mut row = [0u8; 64];
+    let m = put_path(&mut row, 0, g, p, mark % 4);
+    let given = judged(text, i, part(&row, 0, m));
+    compare_standing(counts, text, part(&row, 0, m), k, given);
+}
+
+// Each of the four marks, one of which is nobody's.
+fn judge_marks(
+    counts: &mut [u64],
+    g: &[u8],
+    text: &[u8],
+    i: usize,
+    table: &[u8],
+    n: usize,
+    p: &[u8],
+) {
+    judge_row(counts, g, text, i, table, n, p, 0);
+    judge_row(counts, g, text, i, table, n, p, 1);
+    judge_row(counts, g, text, i, table, n, p, 2);
+    judge_row(counts, g, text, i, table, n, p, 3);
+}
+
+// A step by chance, of four labels and eight scopes: some labels are not listed, and some scopes are not there.
+fn any_step(r: usize) -> usize {
+    r % 4 * 16 + r / 4 % 8
+}
+
+// What stands at a place of a changed path, a start first.
+fn changed(k: usize, r: usize) -> usize {
+    if k == 0 {
+        return r % 8;
+    }
+    any_step(r)
+}
+
+// The path with its start, or a step of it, changed by chance.
+fn judge_changed(
+    counts: &mut [u64],
+    g: &[u8],
+    text: &[u8],
+    i: usize,
+    table: &[u8],
+    n: usize,
+    p: &[u8],
+    r: usize,
+) {
+    let mut q = [0u8; 16];
+    put_all(&mut q, 0, p);
+    let k = below(r / 64, plus(steps(p), 1));
+    set(&mut q, plus(k, 1), changed(k, r));
+    judge_row(counts, g, text, i, table, n, &q, r / 32 % 4);
+}
+
+// The path with a step by chance behind it.
+fn judge_longer(
+    counts: &mut [u64],
+    g: &[u8],
+    text: &[u8],
+    i: usize,
+    table: &[u8],
+    n: usize,
+    p: &[u8],
+    r: usize,
+) {
+    let mut q = [0u8; 16];
+    put_all(&mut q, 0, p);
+    push(&mut q, any_step(r));
+    judge_row(counts, g, text, i, table, n, &q, r / 32 % 4);
+}
+
+fn judge_path(
+    counts: &mut [u64],
+    g: &[u8],
+    text: &[u8],
+    i: usize,
+    table: &[u8],
+    n: usize,
+    p: &[u8],
+    r: usize,
+) {
+    judge_marks(counts, g, text, i, table, n, p);
+    judge_changed(counts, g, text, i, table, n, p, r);
+    judge_longer(counts, g, text, i, table, n, p, r / 7);
+}
+
+// The first hundred paths from p on; the last number drawn.
+fn judge_paths(
+    counts: &mut [u64],
+    g: &[u8],
+    text: &[u8],
+    i: usize,
+    table: &[u8],
+    n: usize,
+    p: &mut [u8],
+    seed: usize,
+) -> usize {
+    let mut x = seed;
+    let mut turns: usize = 100;
+    while turns > 0 {
+        x = next(x);
+        judge_path(counts, g, text, i, table, n, p, x / 256);
+        if !advance(g, p) {
+            return x;
+        }
+        turns -= 1;
+    }
+    x
+}
+
+fn judge_query(counts: &mut [u64], g: &[u8], text: &[u8], i: usize, seed: usize) -> usize {
+    let mut table = [0u8; ROOM];
+    let n = resolve(g, i / 2, i % 2, &mut table);
+    if MOST < n {
+        return seed;
+    }
+    let mut p = [0u8; 16];
+    set(&mut p, 1, i / 2);
+    judge_paths(counts, g, text, i, &table, n, &mut p, seed)
+}
+
+// Every query of a gym.
+pub fn judge_gym(counts: &mut [u64], g: &[u8], text: &[u8], seed: usize) {
+    let n = scopes(g) % 16 * 2;
+    let mut x = seed;
+    let mut i = 0;
+    while i < n {
+        x = judge_query(counts, g, text, i, x);
+        i += 1;
+    }
+}
