@@ -32,7 +32,7 @@ pub const NONE: usize = 64;
 
 pub const TOO_MANY: usize = 65;
 
-// A new scope, number i of the chain: it declares the name, and every label leads to the next.
+// A new scope of the chain: it declares the name, and every label leads to the next one, if there is one.
 fn add_scope(h: &mut [u8], name: usize, scope: usize, is_last: bool) {
     set(h, mark_place(scope, name, 0), 1);
     if is_last {
