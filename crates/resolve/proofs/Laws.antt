@@ -1,13 +1,13 @@
 -- The parts of the output: how they are written, that they fit the room lent, that in turn they are the whole. Assumes nothing.
-use Prim.Native.Nat.{ℕ, zero, suc, _+_, _-_, _/_, _^_, _≤_, _<_}
-use mathlib.Core.Path.{_≡_, refl, sym, ap, _∙_}
+use Prim.Native.Nat.{ℕ, zero, suc, _+_, _-_, _*_, _/_, _^_, _≤_, _<_}
+use mathlib.Core.Path.{_≡_, refl, sym, ap, _∙_, subst}
 use mathlib.Core.Bool.{Bool, true, false}
 use mathlib.Core.List.{List, [], _∷_, _++_, flatMap, append-assoc, append-nil}
 use native.Mathlib.Omega.{arith}
 use native.Mathlib.Numerals.{add-one}
 use lib.Dec.{ltb}
 use lib.ListN.{length, take, drop, length-append, drop-of-length-le}
-use lib.Seq.{drop-cons}
+use lib.Seq.{drop-cons, drop-drop, take-all, take-append-seam, drop-append-seam, take-take, take-add}
 use borrow.Author.Tests.{lt-ltb, le-ltb, lt-leb, ltb-true, ltb-false}
 use Rattle.scope_graph.specs.Graph.{Query}
 use Rattle.scope_graph.specs.Rows.{language}
@@ -28,10 +28,10 @@ use Rattle.prepared.specs.Sections.{partOf}
 use Rattle.resolution.specs.Listing.{listingText, queryAt, listingOf, summaryOf}
 use Rattle.resolution.specs.Asked.{WasRead}
 use Rattle.resolution.specs.Figures.{noFigures, figuresOver}
-use Rattle.resolution.proofs.Heads.{head-fits, short-answer, short-leaves, whole-answer, whole-leaves, count-is, Made, own-within}
+use Rattle.resolution.proofs.Heads.{head-fits, short-answer, short-leaves, whole-answer, whole-leaves, count-is, Made, made-read, own-within}
 use Rattle.resolution.proofs.Texts.{rows-count}
 use Rattle.resolution.proofs.Counts.{queries-few, figures-few, figures-text, summary-short}
-use Rattle.resolve.specs.Printed.{refusedLine, inPlace, lent, tableText, outcomeText, programText}
+use Rattle.resolve.specs.Printed.{refusedLine, inPlace, lent, tableText, outcomeText, programText, Due}
 use Rattle.resolve.specs.Parts.{answered, partText, partsText}
 
 -- the line, in three writes
@@ -126,6 +126,36 @@ module _ (room : ℕ) (cells : List ℕ) (i : ℕ) where
       one true t = rw (part-query (ltb-true i (length (queriesOf cells)) t)) (done-short room (listingText cells (queryAt cells i)) h)
       one false t = rw (part-summary (ltb-false i (length (queriesOf cells)) t)) (done-short room (summaryOf cells) h)
 
+-- of two texts due together the first is due, and the other behind it
+module _ (text : List ℕ) (sent : ℕ) (x y : List ℕ) (d : Due text sent (x ++ y)) where
+  pub due-first : Due text sent x
+  due-first =
+      let l = length-append x y in
+      let out = drop sent (programText text) in
+      let p : take (length x) (take (length (x ++ y)) out) ≡ take (length x) out = take-take (length x) (length (x ++ y)) out (omega arith) in
+      let q = d .counted in
+      record { stands = sym (take-append-seam x y) ∙ ap (take (length x)) (d .stands) ∙ p; counted = omega arith }
+
+  pub due-rest : Due text (sent + length x) y
+  due-rest =
+      let l = length-append x y in
+      let q = d .counted in
+      record { stands = sym (drop-append-seam x y) ∙ ap (drop (length x)) both ∙ drop-append-seam x behind ∙ ap (take (length y)) (drop-drop (length x) sent (programText text)); counted = omega arith }
+    where
+      out : List ℕ
+      out = drop sent (programText text)
+
+      behind : List ℕ
+      behind = take (length y) (drop (length x) out)
+
+      both : x ++ y ≡ x ++ behind
+      both = d .stands ∙ ap (λ (k : ℕ). take k out) (length-append x y) ∙ take-add (length x) (length y) out ∙ ap (λ (t : List ℕ). t ++ behind) (sym (due-first .stands))
+
+-- the whole output is due at its start
+pub due-whole : (text whole : List ℕ) → programText text ≡ whole → length whole < 18446744073709551616 → Due text 0 whole
+due-whole text whole e h =
+    record { stands = sym (take-all (length whole) whole (omega arith)) ∙ ap (take (length whole)) (sym e); counted = omega arith }
+
 -- a table that was read: its parts in turn are its whole output
 module _ (cells : List ℕ) (was : WasRead cells) where
   abbrev Q : Type 0
@@ -159,20 +189,59 @@ module _ (cells : List ℕ) (was : WasRead cells) where
   unfolding tableText
   parts-whole = from-part (length (queriesOf cells)) 0 (omega arith)
 
-  -- in a loop over n queries
+  parts-size : (left i : ℕ) → length (partsText lent cells left i) ≤ 65536 * left
+  unfolding partsText
+  parts-size zero i = omega arith
+  parts-size (suc left) i =
+      let a = length-append (partText lent cells i) (partsText lent cells left (suc i)) in
+      let s = part-short lent cells i (omega arith) in
+      let r = parts-size left (suc i) in
+      omega arith
+
+  pub table-counted : length (tableText cells) < 18446744073709551616
+  table-counted =
+      let s = parts-size (suc (length (queriesOf cells))) 0 in
+      let w = ap length parts-whole in
+      let q = queries-few cells was in
+      omega arith
+
+  -- in a loop over n queries, where the parts left are due at the place reached
   module _ (n : ℕ) (counted : n ≡ length (queriesOf cells)) where
-    pub parts-start : length (partsText lent cells (n + 1 - 0) 0) ≡ length (tableText cells)
-    parts-start = let z : n + 1 - 0 ≡ suc (length (queriesOf cells)) = omega arith in rw z (ap length parts-whole)
+    abbrev left : ℕ → List ℕ
+    left i = partsText lent cells (n + 1 - i) i
 
-    pub parts-turn : (i : ℕ) → i ≤ n → length (partsText lent cells (n + 1 - i) i) ≡ length (partText lent cells i) + length (partsText lent cells (n + 1 - (i + 1)) (i + 1))
+    left-all : left 0 ≡ tableText cells
+    left-all = let z : n + 1 - 0 ≡ suc (length (queriesOf cells)) = omega arith in rw z parts-whole
+
+    left-next : (i : ℕ) → i ≤ n → left i ≡ partText lent cells i ++ left (i + 1)
     unfolding partsText
-    parts-turn i h =
+    left-next i h =
         let z : n + 1 - i ≡ suc (n + 1 - (i + 1)) = omega arith in
-        rw (z, partsText) (length-append (partText lent cells i) (partsText lent cells (n + 1 - (i + 1)) (suc i)) ∙ ap (λ (k : ℕ). length (partText lent cells i) + length (partsText lent cells (n + 1 - (i + 1)) k)) (sym (add-one i)))
+        rw (z, partsText) (ap (λ (k : ℕ). partText lent cells i ++ partsText lent cells (n + 1 - (i + 1)) k) (sym (add-one i)))
 
-    pub parts-end : (i : ℕ) → n < i → length (partsText lent cells (n + 1 - i) i) ≡ 0
+    pub size-start : length (left 0) ≡ length (tableText cells)
+    size-start = ap length left-all
+
+    pub size-turn : (i : ℕ) → i ≤ n → length (left i) ≡ length (partText lent cells i) + length (left (i + 1))
+    size-turn i h = ap length (left-next i h) ∙ length-append (partText lent cells i) (left (i + 1))
+
+    pub size-end : (i : ℕ) → n < i → length (left i) ≡ 0
     unfolding partsText
-    parts-end i h = let z : n + 1 - i ≡ 0 = omega arith in rw (z, partsText)
+    size-end i h = let z : n + 1 - i ≡ 0 = omega arith in rw (z, partsText)
+
+    module _ (text : List ℕ) (sent : ℕ) where
+      pub due-start : Due text sent (tableText cells) → Due text sent (left 0)
+      due-start d = subst (Due text sent) (sym left-all) d
+
+      module _ (i : ℕ) (h : i ≤ n) (d : Due text sent (left i)) where
+        split : Due text sent (partText lent cells i ++ left (i + 1))
+        split = subst (Due text sent) (left-next i h) d
+
+        pub due-part : Due text sent (partText lent cells i)
+        due-part = due-first text sent (partText lent cells i) (left (i + 1)) split
+
+        pub due-turn : (next : ℕ) → next ≡ sent + length (partText lent cells i) → Due text next (left (i + 1))
+        due-turn next e = subst (λ (k : ℕ). Due text k (left (i + 1))) (sym e) (due-rest text sent (partText lent cells i) (left (i + 1)) split)
 
 -- a text that is refused, and one that is read
 pub for-refused : (text : List ℕ) (a : Answer) (n room : ℕ) → room ≡ 12271 → answerOf a ≡ answer (readCells text) room → a ≡ Refused n → programText text ≡ refusedLine n
@@ -193,6 +262,12 @@ pub for-read : (text : List ℕ) (n : ℕ) (t : List ℕ) → Made text n t → 
 unfolding programText outcomeText
 for-read text n t m = ap outcomeText (m .made)
 
+pub refused-due : (text : List ℕ) (a : Answer) (n room : ℕ) → room ≡ 12271 → answerOf a ≡ answer (readCells text) room → a ≡ Refused n → n < 18446744073709551616 → Due text 0 (refusedLine n)
+refused-due text a n room k e b h = due-whole text (refusedLine n) (for-refused text a n room k e b) (let s = refused-short n h in omega arith)
+
+pub read-due : (text : List ℕ) (n : ℕ) (t : List ℕ) → Made text n t → Due text 0 (tableText (take n t))
+read-due text n t m = due-whole text (tableText (take n t)) (for-read text n t m) (table-counted (take n t) (made-read text n t m))
+
 -- an answer taken apart
 pub answered-written : (a : Answer) (n : ℕ) (out : List ℕ) → a ≡ Written n → (out, n) ≡ answered a out
 unfolding answered
@@ -206,12 +281,15 @@ answered-refused a n out b e f = rw e f
 pub queries-counted : (cells : List ℕ) → WasRead cells → (rows : List ℕ) → rows ≡ partOf querySection cells → length rows / 6 ≡ length (queriesOf cells)
 queries-counted cells was rows part = count-is cells was rows 0 (length rows / 6) part (rows-count rows)
 
--- a text that stands in the first k bytes of a buffer of the program's own
+-- a text that stands in the first k bytes of a buffer of the program's own, and so is due where the text is
 pub record Stands (text h : List ℕ) (k : ℕ) : Type 0 where
   pub within : k ≤ length h
   pub taken : k ≡ length (take k h)
   pub whole : take k h ≡ text
   pub size : k ≡ length text
+
+pub stands-due : (text : List ℕ) (sent : ℕ) (piece h : List ℕ) (k : ℕ) → Stands piece h k → Due text sent piece → Due text sent (take k h)
+stands-due text sent piece h k s d = subst (Due text sent) (sym (s .whole)) d
 
 stands : (text o h : List ℕ) (k : ℕ) → _≡_ {A = Buf} (h, k) (puts (o, 0) text) → length text ≤ length o → Stands text h k
 stands text o h k e fits =

@@ -1,9 +1,10 @@
 -- What the program prints for its input (01, "The listing", on the program). Assumes nothing: these are definitions.
-use Prim.Native.Nat.{ℕ}
+use Prim.Native.Nat.{ℕ, _+_, _<_}
+use mathlib.Core.Path.{_≡_}
 use mathlib.Core.Bool.{true, false}
 use mathlib.Core.List.{List, [], _∷_, _++_, flatMap}
 use lib.Dec.{ltb}
-use lib.ListN.{length}
+use lib.ListN.{length, take, drop}
 use Rattle.text_field.specs.Number.{numberText}
 use Rattle.graph_file.specs.Outcome.{Outcome, refused, done}
 use Rattle.graph_file.specs.File.{readCells}
@@ -34,3 +35,8 @@ outcomeText (done cells) = tableText cells
 -- for a text
 unfoldable pub programText : List ℕ → List ℕ
 programText text = outcomeText (readCells text)
+
+-- A piece is due at place `sent` of a text's output if it is what the output has from there on; the place behind it is a machine number.
+pub record Due (text : List ℕ) (sent : ℕ) (piece : List ℕ) : Type 0 where
+  pub stands : piece ≡ take (length piece) (drop sent (programText text))
+  pub counted : sent + length piece < 18446744073709551616

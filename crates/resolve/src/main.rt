@@ -9,59 +9,58 @@ use graph_file::read;
 use parts::put_part;
 use parts::put_refused;
 use parts::query_count;
+ghost use Prim.Native.Nat.{_+_};
 ghost use mathlib.Core.Path.{_≡_};
 ghost use lib.ListN.{length};
 ghost use Rattle.resolution.specs.Asked.{WasRead};
-ghost use Rattle.resolve.specs.Printed.{refusedLine, lent, tableText, programText};
+ghost use Rattle.resolve.specs.Printed.{refusedLine, lent, tableText, programText, Due};
 ghost use Rattle.resolve.specs.Parts.{partText};
 
-// The two writes. What they write cannot be promised, so it is asked: the line of that refusal, the bytes of that part.
-fn write_line(n: u64, line: &[u8])
-    requires { ⌜ now line ≡ refusedLine n ⌝ }
+// The one function that writes. What a call of C's writes cannot be promised, so what it is handed is asked: the piece due at place `sent` of the
+// text's output. The place behind it.
+fn emit(text: &[u8], sent: usize, piece: &[u8]) -> usize
+    requires { ⌜ Due (now text) sent (now piece) ⌝ }
+    ensures { λ r. ⌜ r ≡ sent + length (now (piece .entry)) ⌝ }
 {
-    io::write_all(1, line);
+    io::write_all(1, piece);
+    sent + piece.len()
 }
 
-fn write_part(table: &[u64], i: usize, part: &[u8])
-    requires { ⌜ now part ≡ partText lent (now table) i ⌝ }
-{
-    io::write_all(1, part);
-}
-
-// The line of a refused file; its length.
-fn print_refused(n: u64) -> usize
-    ensures { λ r. ⌜ r ≡ length (refusedLine n) ⌝ }
+// The line of a refused file; the place behind it.
+fn print_refused(text: &[u8], sent: usize, n: u64) -> usize
+    requires { ⌜ Due (now text) sent (refusedLine n) ⌝ }
+    ensures { λ r. ⌜ r ≡ sent + length (refusedLine n) ⌝ }
 {
     let mut out = [0u8; 32];
     let k = put_refused(&mut out, n);
-    write_line(n, &out[..k]);
-    k
+    emit(text, sent, &out[..k])
 }
 
-// Part i of the output, in one write; its length.
-fn print_part(table: &[u64], i: usize) -> usize
+// Part i of the output, in one piece; the place behind it.
+fn print_part(text: &[u8], sent: usize, table: &[u64], i: usize) -> usize
     requires { ⌜ WasRead (now table) ⌝ }
-    ensures { λ r. ⌜ r ≡ length (partText lent (now (table .entry)) i) ⌝ }
+    requires { ⌜ Due (now text) sent (partText lent (now table) i) ⌝ }
+    ensures { λ r. ⌜ r ≡ sent + length (partText lent (now (table .entry)) i) ⌝ }
 {
     let mut out = [0u8; 65536];
     let k = put_part(table, i, &mut out);
-    write_part(table, i, &out[..k]);
-    k
+    emit(text, sent, &out[..k])
 }
 
-// All parts in turn; their length in all.
-fn print_parts(table: &[u64]) -> usize
+// All parts in turn; the place behind them.
+fn print_parts(text: &[u8], sent: usize, table: &[u64]) -> usize
     requires { ⌜ WasRead (now table) ⌝ }
-    ensures { λ r. ⌜ r ≡ length (tableText (now (table .entry))) ⌝ }
+    requires { ⌜ Due (now text) sent (tableText (now table)) ⌝ }
+    ensures { λ r. ⌜ r ≡ sent + length (tableText (now (table .entry))) ⌝ }
 {
     let n = query_count(table);
-    let mut size: usize = 0;
+    let mut place = sent;
     let mut i: usize = 0;
     while i <= n {
-        size += print_part(table, i);
+        place = print_part(text, place, table, i);
         i += 1;
     }
-    size
+    place
 }
 
 // The output for a text, which is read once; its length.
@@ -71,8 +70,8 @@ fn print_for(text: &[u8]) -> usize
     let mut table = [0u64; 12271];
     let a = read(text, &mut table);
     match a {
-        Answer::Refused(n) => print_refused(n),
-        Answer::Written(n) => print_parts(&table[..n]),
+        Answer::Refused(n) => print_refused(text, 0, n),
+        Answer::Written(n) => print_parts(text, 0, &table[..n]),
     }
 }
 
