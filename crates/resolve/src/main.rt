@@ -1,7 +1,8 @@
 // Lists the queries of the gym file on standard input, then the summary; for a refused file only its refusal.
 //
-// Proved is what each part of the output is, that these very bytes are handed over to be written, and how many they are in all. Not proved, since
-// no contract can say it: that the C library reads the whole input, and that it writes what it is handed.
+// Proved: every piece handed to `emit` is what the text's output has at that place, and the place reached in the end is the output's end. No contract can
+// say what a call of C's does, nor that a call is made. So three things are left for the reader to see: `emit` hands its piece to the C library; the
+// functions above it move the place only by calling it, once for each piece; `main` calls `print_for` with what was read.
 mod parts;
 
 use graph_file::Answer;
