@@ -1,23 +1,26 @@
 -- An open pair whose places are all away from the start is not followed, and a query's tables are ready. Assumes nothing.
 use Prim.Native.Nat.{ℕ, zero, suc, _+_, _*_, _/_, _%_, _≤_, _<_}
-use mathlib.Core.Path.{_≡_, refl, sym, ap, _∙_}
-use mathlib.Core.Bool.{Bool, true, false, _&&_}
+use mathlib.Core.Path.{_≡_, refl, sym, ap, _∙_, fun-ext}
+use mathlib.Core.Bool.{Bool, true, false, not, _&&_, _||_}
 use mathlib.Core.Logic.{_⊎_, inl, inr, ⊎-elim}
-use mathlib.Core.List.{List, [], _∷_, flatMap}
+use mathlib.Core.List.{List, [], _∷_, _++_, flatMap}
 use native.Mathlib.Omega.{arith}
 use borrow.Author.Tests.{eqb-true, eq-eqb}
 use lib.Dec.{eqb, leb}
 use lib.ListN.{length, getD, set, replicate, length-set, length-replicate}
+use Rattle.scope_graph.specs.Language.{End, stop, by}
 use Rattle.scope_graph.specs.Order.{endOf}
+use Rattle.scope_graph.specs.Rows.{anyOf}
 use Rattle.scope_graph.specs.Computed.{NodeOf}
 use Rattle.scope_graph.specs.Path.{HopOf}
 use Rattle.scope_graph.proofs.Lists.{and-left, and-right}
 use Rattle.graph_file.specs.Format.{countSection, edgeSection, declarationSection}
 use Rattle.graph_file.specs.Admission.{value, blank}
-use Rattle.search.specs.Board.{Board, without, hitsFrom}
+use Rattle.search.specs.Board.{Board, without, leadsOn, nodeAt, cutHere, ownHit, hopHits, hitsFrom}
 use Rattle.search.specs.Live.{Closed, any-way}
-use Rattle.search.specs.Tables.{placeFlag, freeFlag, tableOrder, tableBoard}
+use Rattle.search.specs.Tables.{placeFlag, pairFlag, freeFlag, endNumber, tableOrder, tableBoard}
 use Rattle.search.specs.Steps.{wayOf}
+use Rattle.search.proofs.RulesLists.{flatMap-same}
 use Rattle.search.proofs.Closed.{closed-hits}
 use Rattle.search.proofs.Cells.{place-scope, place-state, place-cell, free-below, free-taken, way-is-open}
 use Rattle.prepared.specs.Sections.{partOf, rowsOf}
@@ -29,7 +32,7 @@ use Rattle.follow.specs.declared.Budget.the-variants.{Left, Over}
 use Rattle.follow.specs.Pour.{State, spend, pour}
 use Rattle.follow.specs.Walk.{placeBytes, bytesFrom, walked}
 use Rattle.resolution.specs.declared.tables.Tables.{Tables}
-use Rattle.resolution.specs.Asked.{freeAt, LiveAt, WorthAt, Ready, IsAway, walkWith, letterTable, isOver, followedBy}
+use Rattle.resolution.specs.Asked.{freeAt, LiveAt, WorthAt, Ready, barred, IsAway, walkWith, letterTable, isOver, followedBy}
 
 -- a flag that is set
 flag-set : (b : Bool) → flag b ≡ 1 → b ≡ true
@@ -50,6 +53,56 @@ open-place delta accepts hopes at end s q h =
     let b : (eqb s at && usableFlag delta accepts hopes q end) ≡ true = flag-set _ (rw (d, m) at f) in
     (eqb-true s at (and-left (eqb s at) _ b), and-right (eqb s at) _ b)
 
+-- a barred place
+module _ (goal order away : List ℕ) (at end q : ℕ) where
+  pub barred-away : placeFlag away at q ≡ true → barred goal order away at end q ≡ true
+  unfolding barred
+  barred-away h = rw (h, barred)
+
+  pub barred-stop : placeFlag away at q ≡ false → placeFlag goal at q ≡ true → barred goal order away at end q ≡ pairFlag order 0 end
+  unfolding barred
+  barred-stop h k = rw (h, k, barred)
+
+  pub barred-no : placeFlag away at q ≡ false → placeFlag goal at q ≡ false → barred goal order away at end q ≡ false
+  unfolding barred
+  barred-no h k = rw (h, k, barred)
+
+-- a place where stopping cuts the end gives no hit, whether it is asked for or not
+cut-anyway : (k x y : Bool) → (k && not (x || y)) ≡ ((k && not x) && not (x || y))
+cut-anyway false x y = refl
+cut-anyway true true y = refl
+cut-anyway true false y = refl
+
+module _ {A : Type 0} (b : Board A) (prefers : End A → End A → Bool) (seek : ℕ → ℕ → Bool) (e : End A) where
+  abbrev open-seek : ℕ → ℕ → Bool
+  open-seek s q = seek s q && not (b .here s q && prefers stop e)
+
+  own-same : (fuel : ℕ) (free : ℕ → Bool) (s q : ℕ) → ownHit b prefers seek e fuel free s q ≡ ownHit b prefers open-seek e fuel free s q
+  unfolding ownHit cutHere
+  own-same fuel free s q =
+      ap (λ (t : Bool). elim t as (λ _. List (NodeOf A)) [ true ↦ nodeAt b s q ∷ [] | false ↦ [] ])
+      (cut-anyway (seek s q) (b .here s q && prefers stop e) (anyOf (λ h. prefers (by (h .step)) e && leadsOn b fuel free q h) (b .hops s)))
+
+  hits-same : (fuel : ℕ) (free : ℕ → Bool) (s q : ℕ) → hitsFrom b prefers seek e fuel free s q ≡ hitsFrom b prefers open-seek e fuel free s q
+  unfolding hitsFrom hopHits
+  hits-same zero free s q = refl
+  hits-same (suc fuel) free s q =
+      ap (λ (l : List (NodeOf A)). l ++ flatMap (hopHits b prefers seek e (λ t r. hitsFrom b prefers seek e fuel (without free t) t r) fuel free s q) (b .hops s)) (own-same fuel free s q)
+      ∙ ap (λ (l : List (NodeOf A)). ownHit b prefers open-seek e fuel free s q ++ l)
+      (flatMap-same _ _ (b .hops s) (λ h m.
+      ap (λ (enter : ℕ → ℕ → List (NodeOf A)). hopHits b prefers open-seek e enter fuel free s q h) (fun-ext (λ t. fun-ext (λ r. hits-same fuel (without free t) t r)))))
+
+-- an end's number, and whether stopping is preferred to it
+stop-end : (order : List ℕ) (end : ℕ) → tableOrder order stop (endOf end) ≡ pairFlag order 0 end
+unfolding tableOrder endNumber endOf
+stop-end order zero = refl
+stop-end order (suc l) = refl
+
+bar : (a x : Bool) → (a || x) ≡ true → not x ≡ true → a ≡ true
+bar true x h k = refl
+bar false true h k = k
+bar false false h k = h
+
 module _ (cells letters delta accepts hopes goal order : List ℕ) (start high low at end : ℕ) (away : List ℕ) where
   abbrev seek : List ℕ
   seek = openFlags delta accepts hopes at end
@@ -60,26 +113,33 @@ module _ (cells letters delta accepts hopes goal order : List ℕ) (start high l
   abbrev free : List ℕ
   free = set (replicate 64 1) start 0
 
-  -- the table of what is away is closed for the pair's places too
-  away-closed : WorthAt cells delta goal order [] start away → IsAway delta accepts hopes away start at end → WorthAt cells delta goal order seek start away
+  -- the table of what is away is closed for the pair's places too, but for those where stopping cuts its end
+  away-closed : WorthAt cells delta goal order [] start away → IsAway delta accepts hopes goal order away start at end
+      → Closed (tableBoard edges delta goal) 64 (open-seek (tableBoard edges delta goal) (tableOrder order) (placeFlag seek) (endOf end)) (wayOf goal order true) (freeAt start) (placeFlag away)
+  unfolding tableBoard barred
   away-closed c a = record {
     asked = λ s q h.
-        let p = open-place delta accepts hopes at end s q h in
-        rw (p .0) (a .missed q (place-state seek s q h) (p .1));
+        let f : placeFlag seek s q ≡ true = and-left (placeFlag seek s q) _ h in
+        let p = open-place delta accepts hopes at end s q f in
+        let n : not (placeFlag goal s q && pairFlag order 0 end) ≡ true = rw (stop-end order end) at (and-right (placeFlag seek s q) _ h) in
+        let m : barred goal order away s end q ≡ true = rw (p .0) (a .missed q (place-state seek s q f) (p .1)) in
+        bar (placeFlag away s q) (placeFlag goal s q && pairFlag order 0 end) m n;
     back = c .back;
   }
 
   size : length free ≡ 64
   size = simp length-set (length-replicate {A = ℕ} 64 1)
 
-  no-hits : (fuel : ℕ) → WorthAt cells delta goal order [] start away → IsAway delta accepts hopes away start at end
+  no-hits : (fuel : ℕ) → WorthAt cells delta goal order [] start away → IsAway delta accepts hopes goal order away start at end
       → hitsFrom (tableBoard edges delta goal) (tableOrder order) (placeFlag seek) (endOf end) fuel (without (freeFlag (replicate 64 1)) start) start 0 ≡ []
   no-hits fuel c a =
-      closed-hits (tableBoard edges delta goal) 64 (freeFlag free) (placeFlag away) (λ n y. rw size at (free-below free n y)) (tableOrder order) (placeFlag seek) (endOf end)
+      hits-same (tableBoard edges delta goal) (tableOrder order) (placeFlag seek) (endOf end) fuel (without (freeFlag (replicate 64 1)) start) start 0
+      ∙ closed-hits (tableBoard edges delta goal) 64 (freeFlag free) (placeFlag away) (λ n y. rw size at (free-below free n y)) (tableOrder order)
+      (open-seek (tableBoard edges delta goal) (tableOrder order) (placeFlag seek) (endOf end)) (endOf end)
       (rw (way-is-open edges delta goal order) at (away-closed c a)) fuel (without (freeFlag (replicate 64 1)) start) start 0
       (λ t h. ap (λ (f : ℕ → Bool). f t) (free-taken (replicate 64 1) start) ∙ h) (a .inside) (a .begins)
 
-  pub unfollowed : WorthAt cells delta goal order [] start away → IsAway delta accepts hopes away start at end
+  pub unfollowed : WorthAt cells delta goal order [] start away → IsAway delta accepts hopes goal order away start at end
       → followedBy cells letters delta accepts hopes goal order start high low at end ≡ false
   unfolding followedBy walkWith walked bytesFrom pour spend isOver flatMap
   unfollowed c a = one (leb (value (getD (rowsOf (partOf countSection cells)) 0 blank) 0) 64)

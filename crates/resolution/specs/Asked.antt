@@ -1,7 +1,7 @@
 -- How the code asks the walk, and how it holds what it is told: `found` as a number, `awaits` as an enum. Assumes nothing: these are definitions.
 use Prim.Native.Nat.{ℕ, zero, suc, _<_}
 use mathlib.Core.Path.{_≡_}
-use mathlib.Core.Bool.{Bool, true, false}
+use mathlib.Core.Bool.{Bool, true, false, _&&_, _||_}
 use mathlib.Core.Option.{Option, some, none}
 use mathlib.Core.List.{List, [], _∷_, _++_}
 use lib.ListN.{getD, set, replicate}
@@ -18,7 +18,7 @@ use Rattle.graph_file.specs.File.{readCells}
 use Rattle.graph_file.specs.Decode.{rulesOf, scopesOf, graphOf, opensOf}
 use Rattle.prepared.specs.Sections.{partOf, rowsOf}
 use Rattle.search.specs.Live.{Closed, any-way}
-use Rattle.search.specs.Tables.{placeFlag, freeFlag, tableBoard}
+use Rattle.search.specs.Tables.{placeFlag, pairFlag, freeFlag, tableBoard}
 use Rattle.search.specs.Steps.{wayOf}
 use Rattle.prepared.specs.Tables.{letterBytes, usableFlag, openFlags}
 use Rattle.prepared.specs.Promises.{transitionTable, orderTable, goalTable}
@@ -82,11 +82,15 @@ pub record Prepared (cells : List ℕ) (start high low : ℕ) (t : Tables) : Typ
   pub asked : Asked cells start
   pub ready : Ready cells start high low t
 
--- nothing leads from the start to where the pair's end is usable: the table of places that are away has each such place, and not the start
-pub record IsAway (delta accepts hopes away : List ℕ) (start at end : ℕ) : Type 0 where
+-- a place that does not show the pair of this scope and end followed: it is away, or what is sought is there itself and stopping is preferred to the end
+unfoldable pub barred : List ℕ → List ℕ → List ℕ → ℕ → ℕ → ℕ → Bool
+barred goal order away at end q = placeFlag away at q || (placeFlag goal at q && pairFlag order 0 end)
+
+-- no place shows the pair followed: nothing leads from the start to those that are away, and each where its end is usable is barred
+pub record IsAway (delta accepts hopes goal order away : List ℕ) (start at end : ℕ) : Type 0 where
   pub inside : start < 64
   pub begins : placeFlag away start 0 ≡ false
-  pub missed : (q : ℕ) → q < 16 → usableFlag delta accepts hopes q end ≡ true → placeFlag away at q ≡ true
+  pub missed : (q : ℕ) → q < 16 → usableFlag delta accepts hopes q end ≡ true → barred goal order away at end q ≡ true
 
 -- `found` as a number, and its number where entries were counted against a room of one
 unfoldable pub foundNumber : Found → ℕ

@@ -13,6 +13,7 @@ use prepared::section;
 use prepared::usable;
 use search::away_table;
 use search::live_table;
+use search::pair;
 use search::place;
 use text_field::cell;
 ghost use mathlib.Core.Path.{_≡_};
@@ -24,14 +25,13 @@ ghost use lib.ListN.{length};
 ghost use Rattle.scope_graph.specs.Rows.{language};
 ghost use Rattle.scope_graph.specs.Computed.{awaits};
 ghost use Rattle.graph_file.specs.Decode.{rulesOf, graphOf, opensOf};
-ghost use Rattle.search.specs.Tables.{placeFlag};
 ghost use Rattle.prepared.specs.Sections.{rowsOf};
 ghost use Rattle.prepared.specs.Tables.{usableFlag, hopefulFlags};
 ghost use Rattle.prepared.specs.Promises.{transitionTable, orderTable, goalTable};
 ghost use Rattle.text_field.specs.Buffer.{Buf, puts};
 ghost use Rattle.follow.specs.Pour.{State};
 ghost use Rattle.resolution.specs.Listing.{foundFor, entriesText};
-ghost use Rattle.resolution.specs.Asked.{Ready, Prepared, LiveAt, WorthAt, IsAway, queryFrom, walkWith, letterTable, foundNumber, roomNumber, isOver, followedBy, firstFollowed, awaitsMeaning};
+ghost use Rattle.resolution.specs.Asked.{Ready, Prepared, LiveAt, WorthAt, barred, IsAway, queryFrom, walkWith, letterTable, foundNumber, roomNumber, isOver, followedBy, firstFollowed, awaitsMeaning};
 
 // The walk over the table's declarations, edges and count of scopes, with the other tables given.
 fn walk_with(
@@ -209,31 +209,55 @@ pub fn put_rows(
     end.place
 }
 
-// Is the end usable in the state, at a place of the scope that is not away?
+// Does the place not show the pair followed: is it away, or is what is sought there and stopping preferred to the end?
+fn is_barred(goal: &[u8], order: &[u8], away: &[u8], at: u64, end: u64, q: u64) -> bool
+    ensures { λ r. ⌜ r ≡ barred (now (goal .entry)) (now (order .entry)) (now (away .entry)) at end q ⌝ }
+{
+    if place(away, at, q) {
+        return true;
+    }
+    if place(goal, at, q) {
+        return pair(order, 0, end);
+    }
+    false
+}
+
+// Is the end usable in the state, at a place of the scope that is not barred?
 fn meets(
     delta: &[u64],
     accepts: &[u8],
     hopes: &[u8],
+    goal: &[u8],
+    order: &[u8],
     away: &[u8],
     at: u64,
     end: u64,
     q: u64,
 ) -> bool
-    ensures { λ r. ⌜ (r ≡ false → usableFlag (now (delta .entry)) (now (accepts .entry)) (now (hopes .entry)) q end ≡ true → placeFlag (now (away .entry)) at q ≡ true) ⌝ }
+    ensures { λ r. ⌜ (r ≡ false → usableFlag (now (delta .entry)) (now (accepts .entry)) (now (hopes .entry)) q end ≡ true → barred (now (goal .entry)) (now (order .entry)) (now (away .entry)) at end q ≡ true) ⌝ }
 {
-    if place(away, at, q) {
+    if is_barred(goal, order, away, at, end, q) {
         return false;
     }
     usable(delta, accepts, hopes, q, end)
 }
 
-// Is each place of the scope away, where the end is usable?
-fn misses(delta: &[u64], accepts: &[u8], hopes: &[u8], away: &[u8], at: u64, end: u64) -> bool
-    ensures { λ r. ⌜ (r ≡ true → (q : ℕ) → q < 16 → usableFlag (now (delta .entry)) (now (accepts .entry)) (now (hopes .entry)) q end ≡ true → placeFlag (now (away .entry)) at q ≡ true) ⌝ }
+// Is each place of the scope barred, where the end is usable?
+fn misses(
+    delta: &[u64],
+    accepts: &[u8],
+    hopes: &[u8],
+    goal: &[u8],
+    order: &[u8],
+    away: &[u8],
+    at: u64,
+    end: u64,
+) -> bool
+    ensures { λ r. ⌜ (r ≡ true → (q : ℕ) → q < 16 → usableFlag (now (delta .entry)) (now (accepts .entry)) (now (hopes .entry)) q end ≡ true → barred (now (goal .entry)) (now (order .entry)) (now (away .entry)) at end q ≡ true) ⌝ }
 {
     let mut q: u64 = 0;
     while q < 16 {
-        if meets(delta, accepts, hopes, away, at, end, q) {
+        if meets(delta, accepts, hopes, goal, order, away, at, end, q) {
             return false;
         }
         q += 1;
@@ -246,12 +270,14 @@ fn is_away(
     delta: &[u64],
     accepts: &[u8],
     hopes: &[u8],
+    goal: &[u8],
+    order: &[u8],
     away: &[u8],
     start: u64,
     at: u64,
     end: u64,
 ) -> bool
-    ensures { λ r. ⌜ (r ≡ true → IsAway (now (delta .entry)) (now (accepts .entry)) (now (hopes .entry)) (now (away .entry)) start at end) ⌝ }
+    ensures { λ r. ⌜ (r ≡ true → IsAway (now (delta .entry)) (now (accepts .entry)) (now (hopes .entry)) (now (goal .entry)) (now (order .entry)) (now (away .entry)) start at end) ⌝ }
 {
     if 63 < start {
         return false;
@@ -259,7 +285,7 @@ fn is_away(
     if place(away, start, 0) {
         return false;
     }
-    misses(delta, accepts, hopes, away, at, end)
+    misses(delta, accepts, hopes, goal, order, away, at, end)
 }
 
 // Is the open pair of this scope and end followed? The first place found tells.
@@ -283,7 +309,7 @@ fn is_followed(
     requires { ⌜ WorthAt (now table) (now delta) (now goal) (now order) [] start (now away) ⌝ }
     ensures { λ r. ⌜ r ≡ followedBy (now (table .entry)) (now (letters .entry)) (now (delta .entry)) (now (accepts .entry)) (now (hopes .entry)) (now (goal .entry)) (now (order .entry)) start high low at end ⌝ }
 {
-    if is_away(delta, accepts, hopes, away, start, at, end) {
+    if is_away(delta, accepts, hopes, goal, order, away, start, at, end) {
         return false;
     }
     let seek = open_goal(delta, accepts, hopes, at, end);

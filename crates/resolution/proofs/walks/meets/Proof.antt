@@ -5,11 +5,11 @@ use borrow.Author.Needs.{needs}
 use Rattle.resolution.proofs.walks.meets.Statement.{statement}
 use Rattle.resolution.proofs.walks.meets.Tie as tie
 
-place-requires : tie.Need-place-requires
-place-requires c κs = search needs
+is-barred-requires : tie.Need-is-barred-requires
+is-barred-requires c κs = search needs
 
 returns : tie.Need-returns
-returns c = λ e u. sym (c .before .place .ensures) ∙ c .if1 .taken
+returns c = λ e u. sym (c .before .is-barred .ensures) ∙ c .if1 .taken
 
 usable-requires : tie.Need-usable-requires
 usable-requires c κs = search needs
@@ -18,4 +18,4 @@ returns-2 : tie.Need-returns-2
 returns-2 c = λ e u. absurd (false≢true (sym e ∙ c .usable .ensures ∙ u))
 
 pub meets-spec : {M : Type 1} → statement M
-meets-spec = tie.close (tie.spec place-requires returns usable-requires returns-2)
+meets-spec = tie.close (tie.spec is-barred-requires returns usable-requires returns-2)

@@ -5,16 +5,16 @@ use mathlib.Core.Bool.{true, false≢true}
 use native.Mathlib.Omega.{arith}
 use borrow.Author.Needs.{needs}
 use borrow.Author.Count.{below-more}
-use Rattle.search.specs.Tables.{placeFlag}
 use Rattle.prepared.specs.Tables.{usableFlag}
+use Rattle.resolution.specs.Asked.{barred}
 use Rattle.resolution.proofs.walks.misses.Statement.{statement}
 use Rattle.resolution.proofs.walks.misses.Tie as tie
 
 abbrev Inv-loop : tie.InvT-loop
-Inv-loop delta accepts hopes away at end q₀ q = (k : ℕ) → k < q → usableFlag delta accepts hopes k end ≡ true → placeFlag away at k ≡ true
+Inv-loop delta accepts hopes goal order away at end q₀ q = (k : ℕ) → k < q → usableFlag delta accepts hopes k end ≡ true → barred goal order away at end k ≡ true
 
 abbrev μ-loop : tie.MeasureT-loop
-μ-loop delta accepts hopes away at end q₀ q = 16 - q
+μ-loop delta accepts hopes goal order away at end q₀ q = 16 - q
 
 loop-holds : tie.Need-loop-holds Inv-loop μ-loop
 loop-holds c = λ k h. absurd (omega arith)
