@@ -278,9 +278,12 @@ def faulty_last_row():
 
 
 def cases(text, times):
-    """Cases for the program of crate `trials_file`: a text read, and if it is accepted written back, `times` over."""
+    """Cases for the program of crate `trials`: a text read, and if it is accepted written back, `times` over. Each case after the
+    first keeps the text of the one before."""
     room = 12288  # cells, the most that that program lends
-    return ''.join(f'r {len(text):05x} {room:016x} 04\ncase\n{text}\n' for _ in range(times))
+    head = 'r {:<2x} {:<5x} {:<5x} {:<5x} {:<3x} {:<16x} {:<5x}\ncase\n'
+    first = head.format(4, 0, len(text), len(text), 0, 0, room) + text + '\n'
+    return first + (times - 1) * (head.format(4, len(text), 0, len(text), 0, 0, room) + '\n')
 
 
 # Name, what it is, and what makes it. The sought name is declared in many scopes or, in the hard ones, in one.
