@@ -324,8 +324,8 @@ FILES = [
     ('hard/endless_14', 'the same among 14 scopes', lambda: endless(14)),
 ]
 CASES = [
-    ('read', 'the largest file read 40 times, its last row refused', lambda: cases(faulty_last_row(), 40)),
-    ('read_write', 'the largest file read and written back 40 times', lambda: cases(longest().text(), 40)),
+    ('read', 'the largest file read 40 times, its last row refused (trial programs)', lambda: cases(faulty_last_row(), 40)),
+    ('read_write', 'the largest file read and written back 40 times (trial programs)', lambda: cases(longest().text(), 40)),
 ]
 
 
