@@ -275,7 +275,7 @@ pub fn grown(
 {
     let mut out = start_table(seek);
     let open = free_bits(free);
-    let mut hot = placed_bits(seek);
+    let mut hot = first_hot(edges.len() / 6, states, seek);
     let mut round: u64 = 0;
     while round < 1024 {
         hot = sweep(
@@ -299,8 +299,24 @@ pub fn grown(
     out
 }
 
-// A table with the places of `seek`.
+// A table with the places of `seek`. A whole table is copied by a loop of its own, with no test in it, which is many times as fast.
 fn start_table(seek: &[u8]) -> [u8; 1024]
+    ensures { λ r. ⌜ Kept (now (seek .entry)) r ⌝ }
+{
+    if seek.len() < 1024 {
+        return start_short(seek);
+    }
+    let mut out = [0u8; 1024];
+    let mut i: usize = 0;
+    while i < 1024 {
+        out[i] = seek[i];
+        i += 1;
+    }
+    out
+}
+
+// The same of a table that may be short of cells.
+fn start_short(seek: &[u8]) -> [u8; 1024]
     ensures { λ r. ⌜ Kept (now (seek .entry)) r ⌝ }
 {
     let mut out = [0u8; 1024];
@@ -310,6 +326,16 @@ fn start_table(seek: &[u8]) -> [u8; 1024]
         i += 1;
     }
     out
+}
+
+// The scopes that the first sweep comes from: all where the rows are few, since to look which have a place costs more than to look at those rows.
+fn first_hot(rows: usize, states: u64, seek: &[u8]) -> u64 {
+    if rows < 256 {
+        if states < 4 {
+            return 18446744073709551615;
+        }
+    }
+    placed_bits(seek)
 }
 
 // The flag of what is not there.

@@ -21,8 +21,8 @@ start-table-requires c κs = search needs
 free-bits-requires : tie.Need-free-bits-requires Inv-loop μ-loop
 free-bits-requires c κs = search needs
 
-placed-bits-requires : tie.Need-placed-bits-requires Inv-loop μ-loop
-placed-bits-requires c κs = search needs
+first-hot-requires : tie.Need-first-hot-requires Inv-loop μ-loop
+first-hot-requires c κs = search needs
 
 loop-holds : tie.Need-loop-holds Inv-loop μ-loop
 loop-holds c = (omega arith, c .before .before .start-table .ensures)
@@ -56,7 +56,7 @@ grown-spec =
     μ-loop
     start-table-requires
     free-bits-requires
-    placed-bits-requires
+    first-hot-requires
     loop-holds
     slice-aggregate-sweep
     sweep-requires
