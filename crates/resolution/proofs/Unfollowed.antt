@@ -168,6 +168,11 @@ module _ (cells delta goal order seek edges ones : List ℕ) (start : ℕ) (e : 
       → WorthAt cells delta goal order seek start worth
   worth-at worth c = rw (e, f) at c
 
+-- a table that is closed for any step is closed for steps that are not cut
+pub live-worth : (cells delta goal order : List ℕ) (start : ℕ) (live : List ℕ) → LiveAt cells delta goal start live → WorthAt cells delta goal order goal start live
+unfolding any-way
+live-worth cells delta goal order start live c = record { asked = c .asked; back = λ s q h r below m f n w l. c .back s q h r below m f n refl l }
+
 -- the walk over the entries has the query's tables
 pub walk-ready : (cells : List ℕ) (mode start high low : ℕ) (t : Tables) (st w : State) → Ready cells start high low t
     → w ≡ walkWith cells mode (t .letters) (t .delta) (t .goal) (t .order) start high low (t .goal) 0 st

@@ -68,14 +68,13 @@ abbrev pub WorthAt : (cells delta goal order seek : List ℕ) → ℕ → List �
 WorthAt cells delta goal order seek start worth =
     Closed (tableBoard (partOf edgeSection cells) delta goal) 64 (placeFlag seek) (wayOf goal order true) (freeAt start) (placeFlag worth)
 
--- a query's tables are those of the table that was read, and both tables of places are closed
+-- a query's tables are those of the table that was read, and the table of places is closed
 pub record Ready (cells : List ℕ) (start high low : ℕ) (t : Tables) : Type 0 where
   pub letters : t .letters ≡ letterTable cells
   pub delta : t .delta ≡ transitionTable cells
   pub goal : t .goal ≡ goalTable cells (record { high = high; low = low })
   pub order : t .order ≡ orderTable cells
   pub live : LiveAt cells (t .delta) (t .goal) start (t .live)
-  pub worth : WorthAt cells (t .delta) (t .goal) (t .order) (t .goal) start (t .worth)
 
 -- a query of a table that was read, with its tables
 pub record Prepared (cells : List ℕ) (start high low : ℕ) (t : Tables) : Type 0 where

@@ -7,17 +7,16 @@ use prepared::order;
 use prepared::section;
 use prepared::transitions;
 use search::goal_table;
-use search::live_table;
 ghost use Rattle.resolution.specs.Asked.{Ready};
 
-// The labels' letters, the automaton, where a path may end, the order, and the places worth entering on the way there: by any step, and by steps that are not cut.
+// The labels' letters, the automaton, where a path may end, the order, and the places worth entering on the way there. Those serve where cut steps do not count too: up to the
+// first place where a path may end no step is cut by stopping.
 pub struct Tables {
     pub letters: [u8; 8],
     pub delta: [u64; 128],
     pub goal: [u8; 1024],
     pub order: [u8; 81],
     pub live: [u8; 1024],
-    pub worth: [u8; 1024],
 }
 
 // The tables of a query by its start and name.
@@ -32,13 +31,11 @@ pub fn tables_of(table: &[u64], start: u64, high: u64, low: u64) -> Tables
     let edges = section(table, 5);
     let free = start_free(start);
     let live = goal_table(edges, &delta, &goal, free);
-    let worth = live_table(edges, &delta, &goal, &goal, &order, true, free);
     Tables {
         letters,
         delta,
         goal,
         order,
         live,
-        worth,
     }
 }

@@ -98,7 +98,6 @@ fn walk_entries(
     let goal = t.goal;
     let order = t.order;
     let live = t.live;
-    let worth = t.worth;
     walk_with(
         table,
         mode,
@@ -112,7 +111,7 @@ fn walk_entries(
         &goal,
         0,
         &live,
-        &worth,
+        &live,
         out,
         tally,
     )

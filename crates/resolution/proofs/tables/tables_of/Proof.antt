@@ -1,6 +1,6 @@
 -- `tables_of` meets its contract. Assumes nothing.
 use mathlib.Core.List.{[]}
-use Rattle.resolution.proofs.Unfollowed.{live-at, worth-at, goal-ready}
+use Rattle.resolution.proofs.Unfollowed.{live-at, goal-ready}
 use borrow.Author.Needs.{needs}
 use Rattle.resolution.proofs.tables.tables_of.Statement.{statement}
 use Rattle.resolution.proofs.tables.tables_of.Tie as tie
@@ -38,23 +38,8 @@ slice-aggregate-goal-table-2 c = search needs
 goal-table-requires : tie.Need-goal-table-requires
 goal-table-requires c κs = search needs
 
-slice-aggregate-live-table : tie.Need-slice-aggregate-live-table
-slice-aggregate-live-table c = search needs
-
-slice-aggregate-live-table-2 : tie.Need-slice-aggregate-live-table-2
-slice-aggregate-live-table-2 c = search needs
-
-slice-aggregate-live-table-3 : tie.Need-slice-aggregate-live-table-3
-slice-aggregate-live-table-3 c = search needs
-
-slice-aggregate-live-table-4 : tie.Need-slice-aggregate-live-table-4
-slice-aggregate-live-table-4 c = search needs
-
-live-table-requires : tie.Need-live-table-requires
-live-table-requires c κs = search needs
-
 returns : tie.Need-returns
-returns c = let a = c .before .before .before .before .before .before .before .before .before .before .before .before .before .before .before .before .before .args in let e = c .before .before .before .before .before .before .before .before .before .section .ensures in let f = c .before .before .before .before .before .before .before .before .start-free .ensures in record { letters = c .before .before .before .before .before .before .before .before .before .before .before .before .before .before .before .letters .ensures; delta = c .before .before .before .before .before .before .before .before .before .before .before .before .before .before .transitions .ensures; goal = goal-ready (a .table .now) (a .high) (a .low) _ _ (c .before .before .before .before .before .before .before .before .before .before .before .before .before .accepting .ensures) (c .before .before .before .before .before .before .before .before .before .before .before .goal .ensures); order = c .before .before .before .before .before .before .before .before .before .before .order .ensures; live = live-at (a .table .now) _ _ [] [] _ _ (a .start) e f _ (c .before .before .before .before .before .goal-table .ensures); worth = worth-at (a .table .now) _ _ _ _ _ _ (a .start) e f _ (c .live-table .ensures) }
+returns c = let a = c .before .before .before .before .before .before .before .before .before .before .before .before .args in let e = c .before .before .before .before .section .ensures in let f = c .before .before .before .start-free .ensures in record { letters = c .before .before .before .before .before .before .before .before .before .before .letters .ensures; delta = c .before .before .before .before .before .before .before .before .before .transitions .ensures; goal = goal-ready (a .table .now) (a .high) (a .low) _ _ (c .before .before .before .before .before .before .before .before .accepting .ensures) (c .before .before .before .before .before .before .goal .ensures); order = c .before .before .before .before .before .order .ensures; live = live-at (a .table .now) _ _ [] [] _ _ (a .start) e f _ (c .goal-table .ensures) }
 
 pub tables-of-spec : {M : Type 1} → statement M
 tables-of-spec =
@@ -71,9 +56,4 @@ tables-of-spec =
     slice-aggregate-goal-table
     slice-aggregate-goal-table-2
     goal-table-requires
-    slice-aggregate-live-table
-    slice-aggregate-live-table-2
-    slice-aggregate-live-table-3
-    slice-aggregate-live-table-4
-    live-table-requires
     returns)
