@@ -73,7 +73,7 @@ module _ (cells : List ℕ) where
           settled = (λ e. n .0 (d .0 e), λ s. d .1 (n .1 s));
         }
 
-listing-is : (text cells : List ℕ) → readCells text ≡ done cells → (i : ℕ) → i < length (queriesOf cells) → listingFor text i ≡ done (listingText cells (queryAt cells i))
+pub listing-is : (text cells : List ℕ) → readCells text ≡ done cells → (i : ℕ) → i < length (queriesOf cells) → listingFor text i ≡ done (listingText cells (queryAt cells i))
 unfolding listingFor listingOf andThen refuseIf
 listing-is text cells e i h = rw (e, lt-leb (length (queriesOf cells)) i h)
 

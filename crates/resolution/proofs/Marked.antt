@@ -11,14 +11,14 @@ use Rattle.scope_graph.specs.Graph.{Query, OpenPair}
 use Rattle.scope_graph.specs.Path.{PathRow}
 use Rattle.scope_graph.specs.Rows.{sameEnd, sameName, anyOf, preferredBy, nextBy, language}
 use Rattle.scope_graph.specs.Order.{endOf}
-use Rattle.scope_graph.specs.Computed.{keep, firstOf, anyBelow, Found, found-one, found-several, foundOf, is-visible, is-shadowed, is-unreached, hopsAt, marksAt, declaresAny, behind, hopOn, nodesFrom, leadsOn, usable, sameHop, sameHops, preferredTo, nodes, reachedNodes, cut, rowsAt, entries, found, isReached, standing, openEnd, followedAt, awaits}
-use Rattle.scope_graph.specs.Listing.{FoundIs}
+use Rattle.scope_graph.specs.Computed.{keep, firstOf, anyBelow, Found, found-one, found-several, foundOf, is-visible, is-shadowed, is-unreached, hopsAt, marksAt, declaresAny, behind, hopOn, nodesFrom, leadsOn, usable, sameHop, sameHops, preferredTo, nodes, reachedNodes, cut, rowsAt, entries, found, isReached, standing, judged, openEnd, followedAt, awaits}
+use Rattle.scope_graph.specs.Listing.{Pairwise, RowBefore, FoundIs}
 use Rattle.scope_graph.specs.Completion.{Settled, Awaits}
 use Rattle.scope_graph.specs.Promises.{QueryPromises}
 use Rattle.scope_graph.proofs.Promises.{promises}
 use Rattle.text_field.specs.Bytes.{within, isDigit, isCapital, isLower, isNameByte}
-use Rattle.text_field.specs.Number.{growing, digitsFrom, numberHere}
-use Rattle.text_field.specs.Name.{packed, packHigh, packLow, nameRun, nameOf, nameHere}
+use Rattle.text_field.specs.Number.{digitsOf, numberText, growing, digitsFrom, numberHere}
+use Rattle.text_field.specs.Name.{packed, packHigh, packLow, bytesOf, beforeZero, nameText, nameRun, nameOf, nameHere}
 use Rattle.graph_file.specs.Format.{labels, pairs, transitions, accepts, scopeCount, edges, declarations, openPairs, queries, sections, sectionAt, everyItem}
 use Rattle.graph_file.specs.Outcome.{Outcome, refused, done, andThen, refuseIf}
 use Rattle.graph_file.specs.Admission.{nothing, begun, joined, counted, taken, kindInRange, itemInRange, inRange, keyLess, listed, follows, unless, admission}
@@ -28,17 +28,19 @@ use Rattle.graph_file.specs.File.{ifAdmitted, afterRow, oneRow, throughRows, af
 use Rattle.graph_file.specs.Decode.{keptIf, rowsAmong, rowsIn, lettersOf, orderPairOf, transitionOf, rulesOf, nameAt, edgeOf, declarationOf, openPairOf, queryOf, scopesOf, graphOf, opensOf, queriesOf}
 use Rattle.graph_file.specs.Accepted.{AcceptedTable}
 use Rattle.graph_file.proofs.DecodeAccepted.{read-accepted}
-use Rattle.resolution.specs.Listing.{queryAt}
-use Rattle.resolution.specs.Marked.{hours, service, exampleText, closedText, open1Text, open2PText, open2IText, twoMarksText, turnedText, I, P, Shown, pathRow, openPair, queryFor, Dash, Lists, Judges, Marked}
-use Rattle.resolution.proofs.Demand.{getD-in}
+use Rattle.follow.specs.Text.{foundText, letterOf, hopsText, rowText, endText}
+use Rattle.resolution.specs.Listing.{awaitsText, foundFor, entriesText, listingText, queryAt}
+use Rattle.resolution.specs.Demand.{shownText}
+use Rattle.resolution.specs.Marked.{hours, service, serviceAt2, serviceAt3Awaits3, hoursAt2, serviceAt3, serviceAt3Awaits1, hoursAt2AwaitsI, hoursTwice, serviceAt0, exampleText, closedText, open1Text, open2PText, open2IText, twoMarksText, turnedText, I, P, Shown, pathRow, openPair, queryFor, Dash, Lists, Judges, Marked}
+use Rattle.resolution.proofs.Demand.{getD-in, listing-is}
 
--- what reading a text computes with, and what a query's answers do: each trial names one of these alone on its `unfolding` line
+-- what reading a text computes with, and what a query's answers and their text do: each trial names one of these alone on its `unfolding` line
 reads : Unit {0}
 unfolding labels pairs transitions accepts scopeCount edges declarations openPairs queries sections sectionAt andThen refuseIf nothing begun joined counted taken everyItem kindInRange itemInRange inRange keyLess listed follows unless admission someRow sameEnds gap pairFault orderFault ifAdmitted afterRow oneRow throughRows afterNames enough throughSection isEmpty throughSections ordered atStart whole madeOf within isDigit isCapital isLower isNameByte numberTaken nameTaken byteTaken place endTaken readField startsWith readItem placeOf readItems growing digitsFrom numberHere packed packHigh packLow nameRun nameOf nameHere readNames rowFollows readRow reading readStage readCells
 reads = tt
 
 unfoldable pub answers : Unit {0}
-unfolding flatMap sameEnd sameName anyOf preferredBy nextBy keep firstOf anyBelow foundOf hopsAt marksAt declaresAny behind hopOn nodesFrom leadsOn usable sameHop sameHops preferredTo nodes reachedNodes cut rowsAt entries found isReached standing openEnd followedAt awaits endOf keptIf rowsAmong rowsIn lettersOf orderPairOf transitionOf rulesOf nameAt edgeOf declarationOf openPairOf queryOf scopesOf graphOf opensOf queriesOf queryAt packed packHigh packLow
+unfolding flatMap sameEnd sameName anyOf preferredBy nextBy keep firstOf anyBelow foundOf hopsAt marksAt declaresAny behind hopOn nodesFrom leadsOn usable sameHop sameHops preferredTo nodes reachedNodes cut rowsAt entries found isReached standing judged openEnd followedAt awaits endOf keptIf rowsAmong rowsIn lettersOf orderPairOf transitionOf rulesOf nameAt edgeOf declarationOf openPairOf queryOf scopesOf graphOf opensOf queriesOf queryAt packed packHigh packLow shownText awaitsText foundText letterOf hopsText rowText endText digitsOf numberText bytesOf beforeZero nameText
 answers = tt
 
 module _ (text cells : List ℕ) (e : readCells text ≡ done cells) (i : ℕ) (h : i < length (queriesOf cells)) where
@@ -58,11 +60,19 @@ module _ (text cells : List ℕ) (e : readCells text ≡ done cells) (i : ℕ) (
   dash none w = told .awaits-none .0 w
   dash (some o) w = λ s. let z = sym (told .awaits-none .1 s) ∙ w in absurd (let y : _≡_ {A = ℕ} 0 1 = cc in omega arith)
 
+  -- the listing's text, from its parts
+  shown-parts : (p : Query L) (f : Found) (o : Option (OpenPair L)) (rows : List (PathRow L)) → q ≡ p → found L (graphOf cells) q ≡ f
+      → awaits L (graphOf cells) q (opensOf cells) ≡ o → entries L (graphOf cells) q ≡ rows → listingText cells q ≡ shownText cells p f o rows
+  unfolding listingText shownText entriesText foundFor
+  shown-parts p f o rows s d w r = rw (d, w, r) (ap (λ (z : Query L). shownText cells z f o rows) s)
+
   -- a trial, from what is computed
   lists : (start : ℕ) (name : List ℕ) (rows : List Shown) (f : Found) (o : Option (ℕ × End ℕ)) → q ≡ queryFor (rulesOf cells) start name
       → entries L (graphOf cells) q ≡ map (pathRow (rulesOf cells)) rows → found L (graphOf cells) q ≡ f
-      → awaits L (graphOf cells) q (opensOf cells) ≡ openPair (rulesOf cells) o → Lists text i start name rows f o
-  lists start name rows f o s r d w = record {
+      → awaits L (graphOf cells) q (opensOf cells) ≡ openPair (rulesOf cells) o
+      → (listing : List ℕ) → shownText cells (queryFor (rulesOf cells) start name) f (openPair (rulesOf cells) o) (map (pathRow (rulesOf cells)) rows) ≡ listing
+      → Lists text i start name rows f o listing
+  lists start name rows f o s r d w listing shown = record {
     cells = cells;
     read = e;
     number = h;
@@ -70,7 +80,9 @@ module _ (text cells : List ℕ) (e : readCells text ≡ done cells) (i : ℕ) (
     entries = λ p. let k = told .entries-are p in (λ y. subst (λ (l : List (PathRow L)). p ∈ l) r (k .1 y), λ y. k .0 (subst (λ (l : List (PathRow L)). p ∈ l) (sym r) y));
     found = subst (FoundIs L (graphOf cells) q) d (told .found-is);
     awaits = subst (Awaits L (graphOf cells) (opensOf cells) q) w (told .awaits-is);
+    in-order = subst (Pairwise (RowBefore L)) r (told .entries-ascend);
     settled = dash o w;
+    printed = listing-is text cells e i h ∙ ap {B = Outcome (List ℕ)} (λ (t : List ℕ). done t) (shown-parts (queryFor (rulesOf cells) start name) f (openPair (rulesOf cells) o) (map (pathRow (rulesOf cells)) rows) s d w r ∙ shown);
   }
 
 abbrev pub exampleCells : List ℕ
@@ -122,56 +134,58 @@ turned-read : readCells turnedText ≡ done turnedCells
 unfolding reads
 turned-read = refl
 
-m1 : Lists exampleText 0 2 service ((21, 2, []) ∷ []) found-one none
+m1 : Lists exampleText 0 2 service ((21, 2, []) ∷ []) found-one none serviceAt2
 unfolding answers
-m1 = lists exampleText exampleCells example-read 0 (omega arith) 2 service ((21, 2, []) ∷ []) found-one none refl refl refl refl
+m1 = lists exampleText exampleCells example-read 0 (omega arith) 2 service ((21, 2, []) ∷ []) found-one none refl refl refl refl serviceAt2 refl
 
-m2 : Lists exampleText 1 3 service ((10, 3, (P, 1) ∷ []) ∷ []) found-one (some (3, stop))
+m2 : Lists exampleText 1 3 service ((10, 3, (P, 1) ∷ []) ∷ []) found-one (some (3, stop)) serviceAt3Awaits3
 unfolding answers
-m2 = lists exampleText exampleCells example-read 1 (omega arith) 3 service ((10, 3, (P, 1) ∷ []) ∷ []) found-one (some (3, stop)) refl refl refl refl
+m2 = lists exampleText exampleCells example-read 1 (omega arith) 3 service ((10, 3, (P, 1) ∷ []) ∷ []) found-one (some (3, stop)) refl refl refl refl serviceAt3Awaits3 refl
 
-m3 : Lists exampleText 2 2 hours ((40, 2, (I, 4) ∷ []) ∷ []) found-one none
+m3 : Lists exampleText 2 2 hours ((40, 2, (I, 4) ∷ []) ∷ []) found-one none hoursAt2
 unfolding answers
-m3 = lists exampleText exampleCells example-read 2 (omega arith) 2 hours ((40, 2, (I, 4) ∷ []) ∷ []) found-one none refl refl refl refl
+m3 = lists exampleText exampleCells example-read 2 (omega arith) 2 hours ((40, 2, (I, 4) ∷ []) ∷ []) found-one none refl refl refl refl hoursAt2 refl
 
-m4 : Lists closedText 1 3 service ((10, 3, (P, 1) ∷ []) ∷ []) found-one none
+m4 : Lists closedText 1 3 service ((10, 3, (P, 1) ∷ []) ∷ []) found-one none serviceAt3
 unfolding answers
-m4 = lists closedText closedCells closed-read 1 (omega arith) 3 service ((10, 3, (P, 1) ∷ []) ∷ []) found-one none refl refl refl refl
+m4 = lists closedText closedCells closed-read 1 (omega arith) 3 service ((10, 3, (P, 1) ∷ []) ∷ []) found-one none refl refl refl refl serviceAt3 refl
 
-m5 : Lists open1Text 1 3 service ((10, 3, (P, 1) ∷ []) ∷ []) found-one (some (1, stop))
+m5 : Lists open1Text 1 3 service ((10, 3, (P, 1) ∷ []) ∷ []) found-one (some (1, stop)) serviceAt3Awaits1
 unfolding answers
-m5 = lists open1Text open1Cells open1-read 1 (omega arith) 3 service ((10, 3, (P, 1) ∷ []) ∷ []) found-one (some (1, stop)) refl refl refl refl
+m5 = lists open1Text open1Cells open1-read 1 (omega arith) 3 service ((10, 3, (P, 1) ∷ []) ∷ []) found-one (some (1, stop)) refl refl refl refl serviceAt3Awaits1 refl
 
-m5-start : Lists open1Text 0 2 service ((21, 2, []) ∷ []) found-one none
+m5-start : Lists open1Text 0 2 service ((21, 2, []) ∷ []) found-one none serviceAt2
 unfolding answers
-m5-start = lists open1Text open1Cells open1-read 0 (omega arith) 2 service ((21, 2, []) ∷ []) found-one none refl refl refl refl
+m5-start = lists open1Text open1Cells open1-read 0 (omega arith) 2 service ((21, 2, []) ∷ []) found-one none refl refl refl refl serviceAt2 refl
 
-m6 : Lists open2PText 2 2 hours ((40, 2, (I, 4) ∷ []) ∷ []) found-one none
+m6 : Lists open2PText 2 2 hours ((40, 2, (I, 4) ∷ []) ∷ []) found-one none hoursAt2
 unfolding answers
-m6 = lists open2PText open2PCells open2P-read 2 (omega arith) 2 hours ((40, 2, (I, 4) ∷ []) ∷ []) found-one none refl refl refl refl
+m6 = lists open2PText open2PCells open2P-read 2 (omega arith) 2 hours ((40, 2, (I, 4) ∷ []) ∷ []) found-one none refl refl refl refl hoursAt2 refl
 
-m7 : Lists open2IText 2 2 hours ((40, 2, (I, 4) ∷ []) ∷ []) found-one (some (2, by I))
+m7 : Lists open2IText 2 2 hours ((40, 2, (I, 4) ∷ []) ∷ []) found-one (some (2, by I)) hoursAt2AwaitsI
 unfolding answers
-m7 = lists open2IText open2ICells open2I-read 2 (omega arith) 2 hours ((40, 2, (I, 4) ∷ []) ∷ []) found-one (some (2, by I)) refl refl refl refl
+m7 = lists open2IText open2ICells open2I-read 2 (omega arith) 2 hours ((40, 2, (I, 4) ∷ []) ∷ []) found-one (some (2, by I)) refl refl refl refl hoursAt2AwaitsI refl
 
-m8 : Lists twoMarksText 2 2 hours ((40, 2, (I, 4) ∷ []) ∷ (41, 2, (I, 4) ∷ []) ∷ []) found-several none
+m8 : Lists twoMarksText 2 2 hours ((40, 2, (I, 4) ∷ []) ∷ (41, 2, (I, 4) ∷ []) ∷ []) found-several none hoursTwice
 unfolding answers
-m8 = lists twoMarksText twoMarksCells twoMarks-read 2 (omega arith) 2 hours ((40, 2, (I, 4) ∷ []) ∷ (41, 2, (I, 4) ∷ []) ∷ []) found-several none refl refl refl refl
+m8 = lists twoMarksText twoMarksCells twoMarks-read 2 (omega arith) 2 hours ((40, 2, (I, 4) ∷ []) ∷ (41, 2, (I, 4) ∷ []) ∷ []) found-several none refl refl refl refl hoursTwice refl
 
-m9 : Lists turnedText 0 0 service ((21, 0, (P, 2) ∷ []) ∷ []) found-one none
+m9 : Lists turnedText 0 0 service ((21, 0, (P, 2) ∷ []) ∷ []) found-one none serviceAt0
 unfolding answers
-m9 = lists turnedText turnedCells turned-read 0 (omega arith) 0 service ((21, 0, (P, 2) ∷ []) ∷ []) found-one none refl refl refl refl
+m9 = lists turnedText turnedCells turned-read 0 (omega arith) 0 service ((21, 0, (P, 2) ∷ []) ∷ []) found-one none refl refl refl refl serviceAt0 refl
 
-m10 : Judges exampleText 0 (10, 2, (P, 1) ∷ []) (21, 2, []) (5, 2, (P, 1) ∷ (P, 0) ∷ [])
+m10 : Judges exampleText 0 2 service (10, 2, (P, 1) ∷ []) (21, 2, []) (5, 2, (P, 1) ∷ (P, 0) ∷ [])
 unfolding answers
 m10 =
     let k = told exampleText exampleCells example-read 0 (omega arith) in
     record {
       cells = exampleCells;
       read = example-read;
-      shadowed = k .shadowed _ .0 refl;
-      visible = k .visible _ .0 refl;
-      unreached = k .unreached _ .0 refl;
+      number = omega arith;
+      query = refl;
+      shadowed = k .judged-shadowed (pathRow (rulesOf exampleCells) (10, 2, (P, 1) ∷ [])) .0 refl;
+      visible = k .judged-visible (pathRow (rulesOf exampleCells) (21, 2, [])) .0 refl;
+      unreached = k .judged-unreached (pathRow (rulesOf exampleCells) (5, 2, (P, 1) ∷ (P, 0) ∷ [])) .0 refl;
     }
 
 pub marked : Marked
