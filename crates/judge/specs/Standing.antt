@@ -26,7 +26,7 @@ Stands cells i p is-unreached =
     × MarkDeclared (language (rulesOf cells)) (graphOf cells) (queryAt cells i) (ruled cells p))
 
 -- the answer is a standing, the row has it, and has no other
-pub record Right (cells : List ℕ) (i : ℕ) (p : PathRow) (text row : List ℕ) (room : ℕ) : Type 0 where
+pub record RightStanding (cells : List ℕ) (i : ℕ) (p : PathRow) (text row : List ℕ) (room : ℕ) : Type 0 where
   pub answered : (s : Standing) → (judgeAnswer text i row room ≡ done s) ↔ Stands cells i p s
   pub standing : Standing
   pub stands : Stands cells i p standing
@@ -35,4 +35,4 @@ pub record Right (cells : List ℕ) (i : ℕ) (p : PathRow) (text row : List ℕ
 -- every text that is read, every query of it, every row that is one and fits the records lent for its steps
 abbrev pub JudgedRight : Type 0
 JudgedRight = (text cells : List ℕ) → readCells text ≡ done cells → (i : ℕ) → i < length (queriesOf cells)
-    → (row : List ℕ) (p : PathRow) → rowHere row ≡ done p → (room : ℕ) → length (p .steps) ≤ room → Right cells i p text row room
+    → (row : List ℕ) (p : PathRow) → rowHere row ≡ done p → (room : ℕ) → length (p .steps) ≤ room → RightStanding cells i p text row room
