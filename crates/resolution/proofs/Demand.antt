@@ -1,6 +1,6 @@
 -- Demand 3 over the text: the value of specs/Demand. Assumes nothing.
 use Prim.Native.Nat.{ℕ, zero, suc, _+_, _≤_, _<_}
-use mathlib.Core.Path.{_≡_, refl, sym, ap, _∙_}
+use mathlib.Core.Path.{_≡_, refl, sym, ap, _∙_, subst}
 use mathlib.Core.Bool.{Bool, true, false}
 use mathlib.Core.Logic.{_↔_}
 use mathlib.Core.Option.{Option, some, none}
@@ -11,9 +11,11 @@ use lib.ListN.{length, getD, drop, length-append}
 use borrow.Author.Tests.{lt-ltb, le-ltb, lt-leb}
 use Rattle.scope_graph.specs.Language.{_∈_, Language}
 use Rattle.scope_graph.specs.Graph.{Graph, Query, OpenPair}
+use Rattle.scope_graph.specs.Path.{PathRow}
 use Rattle.scope_graph.specs.Rows.{language}
 use Rattle.scope_graph.specs.Computed.{entries, awaits}
 use Rattle.scope_graph.specs.Completion.{Settled}
+use Rattle.scope_graph.specs.Listing.{Pairwise, RowBefore}
 use Rattle.scope_graph.specs.Promises.{QueryPromises}
 use Rattle.scope_graph.proofs.Promises.{promises}
 use Rattle.scope_graph.proofs.Lists.{here, there}
@@ -55,6 +57,11 @@ module _ (cells : List ℕ) where
     told : QueryPromises L (graphOf cells) (opensOf cells) q
     told = promises .query L (graphOf cells) (opensOf cells) q (t .accepted q starts)
 
+    -- no row comes before itself, so none that ascend is there twice
+    no-repeat : (rows : List (PathRow L)) → Pairwise (RowBefore L) rows → Pairwise (λ r p. ¬ (r ≡ p)) rows
+    no-repeat [] a = tt
+    no-repeat (r ∷ rows) a = (λ p k e. told .once r (subst (RowBefore L r) (sym e) (a .0 p k)), no-repeat rows (a .1))
+
     pub listing-right : Right cells q (listingText cells q)
     unfolding listingText shownText entriesText foundFor
     listing-right =
@@ -67,7 +74,7 @@ module _ (cells : List ℕ) where
           printed = refl;
           entries = told .entries-are;
           in-order = told .entries-ascend;
-          once = told .once;
+          once = no-repeat (entries L (graphOf cells) q) (told .entries-ascend);
           found-is = told .found-is;
           awaits-is = told .awaits-is;
           settled = (λ e. n .0 (d .0 e), λ s. d .1 (n .1 s));

@@ -44,7 +44,8 @@ module _ (cells : List ℕ) where
     pub printed : text ≡ shownText q found awaited rows
     pub entries : (r : PathRow L) → (r ∈ rows) ↔ Entry L (graphOf cells) q r
     pub in-order : Pairwise (RowBefore L) rows
-    pub once : (r : PathRow L) → ¬ RowBefore L r r
+    -- no row is there twice
+    pub once : Pairwise (λ r p. ¬ (r ≡ p)) rows
     pub found-is : FoundIs L (graphOf cells) q found
     pub awaits-is : Awaits L (graphOf cells) (opensOf cells) q awaited
     pub settled : (awaitsText cells awaited ≡ 45 ∷ []) ↔ Settled L (graphOf cells) (opensOf cells) q
