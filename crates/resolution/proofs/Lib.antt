@@ -6,6 +6,7 @@ pub mod Unfollowed
 pub mod Walked
 pub mod Capitals
 pub mod Demand
+pub mod Totals
 pub mod Given
 pub mod Answers
 pub mod Heads
