@@ -6,3 +6,4 @@ pub mod Calls
 pub mod Right
 pub mod LentLaws
 pub mod Marked
+pub mod Listed
