@@ -29,6 +29,28 @@ static int holds(const tewhoranu_step *step, char label, int scope)
     return step->label == label && step->scope == scope;
 }
 
+/* Is the text refused by this number, with the first `old` in it made `new`? Nothing lent changes then. */
+static int refused_with(size_t length, const char *old, const char *new, uint64_t number)
+{
+    static uint8_t changed[TEWHORANU_TEXT];
+    const char *found = strstr((const char *)text, old);
+    size_t before, rest;
+    uint64_t place = 7;
+
+    expect(found != NULL, old);
+    before = (size_t)(found - (const char *)text);
+    rest = length - before - strlen(old);
+    memcpy(changed, text, before);
+    memcpy(changed + before, new, strlen(new));
+    memcpy(changed + before + strlen(new), found + strlen(old), rest);
+    length = before + strlen(new) + rest;
+    out[0] = 'x';
+    return tewhoranu_read(changed, length, table, TEWHORANU_CELLS) == number
+        && tewhoranu_summary(changed, length, out, TEWHORANU_SUMMARY) == number
+        && tewhoranu_compare(changed, length, bytes("1 2"), 3, bytes("1 2"), 3, steps, 1, others, 1) == number
+        && tewhoranu_name_sought(changed, length, 0, &place) == 0 && place == 7 && out[0] == 'x';
+}
+
 int main(int argc, char **argv)
 {
     static const char listing[] = "start seek found awaits\n3 service one 3$\nmark path\n10 3P1\n";
@@ -48,6 +70,11 @@ int main(int argc, char **argv)
     EXPECT(tewhoranu_read(text, length, table, cells - 1) == TEWHORANU_NO_ROOM);
     EXPECT(tewhoranu_read(text, length - 1, table, cells) == TEWHORANU_MALFORMED);
     EXPECT(tewhoranu_read(text, TEWHORANU_TEXT + 1, table, cells) == TEWHORANU_TOO_LONG);
+
+    EXPECT(refused_with(length, "1 P 0\n2", "9 P 0\n2", TEWHORANU_OUT_OF_RANGE));
+    EXPECT(refused_with(length, "1 P 0\n2", "3 P 0\n2", TEWHORANU_NOT_ASCENDING));
+    EXPECT(refused_with(length, "scopes\n5\n", "scopes\n5\n5\n", TEWHORANU_TOO_MANY_ROWS));
+    EXPECT(refused_with(length, "$ I\n", "$ $\n", TEWHORANU_NO_ORDER));
 
     answer = tewhoranu_write(table, cells, out, sizeof out);
     EXPECT(answer == TEWHORANU_DONE + length && memcmp(out, text, length) == 0);

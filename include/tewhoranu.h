@@ -30,7 +30,8 @@
 extern "C" {
 #endif
 
-/* Refusals. The sender of a file causes 1 to 6, the writer of a path row 8, the host 7 and 9. */
+/* Refusals. The sender of a file causes 1 to 6 (the host, where a table of its own is written), the writer of a path row
+ * 8, the host 7 and 9. */
 #define TEWHORANU_TOO_LONG 1      /* the file is longer than 32,768 bytes */
 #define TEWHORANU_MALFORMED 2     /* a line, or a row of a graph table, not of its section's form; a missing section */
 #define TEWHORANU_OUT_OF_RANGE 3  /* a scope, state, mark, count or label outside its range or list */
@@ -39,7 +40,7 @@ extern "C" {
 #define TEWHORANU_NO_ORDER 6      /* an order pair with equal ends, or pairs a, b and b, c without a, c */
 #define TEWHORANU_NO_QUERY 7      /* a query number at or past the number of queries */
 #define TEWHORANU_NO_PATH_ROW 8   /* a path row not of its form */
-#define TEWHORANU_NO_ROOM 9       /* an output longer than the memory lent for it */
+#define TEWHORANU_NO_ROOM 9       /* an output longer than the memory lent for it, or more steps than records */
 
 /* An answer of this and more is no refusal. */
 #define TEWHORANU_DONE 16
@@ -63,8 +64,8 @@ extern "C" {
 #define TEWHORANU_LISTING 65536
 
 /* Stack that serves every call, in bytes. A search is at most 64 + 512 calls deep, of about 2,000 bytes each, above some
- * 250,000 bytes of tables: counted from the library as it is built, not proved. The host test runs on a thread with
- * this much. */
+ * 250,000 bytes of tables: counted from the library as it is built, not proved. The host test runs small and middling
+ * files on a thread with this much, none that goes as deep. */
 #define TEWHORANU_STACK (2 * 1024 * 1024)
 
 /* A step of a path: the label's letter (A to Z) and the scope that it comes to (0 to 63). */
@@ -87,7 +88,8 @@ uint64_t tewhoranu_read(const uint8_t *text, size_t text_length, uint64_t *table
 
 /* Writes a graph table as a gym file's text: the inverse of reading.
  * Answers 16 and the number of bytes, at most TEWHORANU_TEXT; bytes behind them stay as they were.
- * Refuses from the first row row by row by 2, 5, 3, 4; then 6; then 9. */
+ * Refuses by 2 where cell 0 is missing or no form of file; then from the first row, row by row, by 2, 5, 3, 4; then by
+ * 6; then by 9. */
 uint64_t tewhoranu_write(const uint64_t *table, size_t table_length, uint8_t *out, size_t out_length);
 
 /* Finds the name that a query of the file seeks.
