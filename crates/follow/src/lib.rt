@@ -623,7 +623,7 @@ pub fn start_free(start: u64) -> [u8; 64]
     taken(all_free(), start)
 }
 
-// The walk from the query's start, in state 0. Mode 0 writes rows, 1 measures them, 2 counts entries, 3 finds places. The two tables of places worth entering, on
+// The walk from the query's start, in state 0. Mode 0 writes rows, 1 and any other measures them, 2 counts entries, 3 finds places. The two tables of places worth entering, on
 // the way to what is sought and to what is asked for, are the caller's, so that walks with the same ones share them.
 pub fn walk(
     mode: u64,

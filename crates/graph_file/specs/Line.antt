@@ -48,7 +48,7 @@ endTaken letters x text = elim (eqb x 36) [ true ↦ byteTaken true 0 text | fal
 abbrev pub first : List ℕ → ℕ
 first text = getD text 0 0
 
--- A field at the front of the text. A label is one letter A to Z, listed or not: whether it is listed is a matter of range, refusal 3.
+-- A field at the front of the text. A label's form is any capital (01, "The gym file"): whether the file lists it is a matter of range, refusal 3.
 unfoldable pub readField : List ℕ → Kind → List ℕ → Outcome Reading
 readField letters state text = numberTaken (numberHere text) text
 readField letters scope text = numberTaken (numberHere text) text

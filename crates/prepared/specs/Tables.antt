@@ -17,7 +17,7 @@ unfoldable pub tabulate : (ℕ → ℕ) → ℕ → List ℕ
 tabulate f zero = []
 tabulate f (suc n) = tabulate f n ++ (f n ∷ [])
 
--- a flag's cell, and the flag of a state
+-- a flag's cell, and the flag of a state or a scope
 unfoldable pub flag : Bool → ℕ
 flag true = 1
 flag false = 0

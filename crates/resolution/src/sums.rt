@@ -101,7 +101,7 @@ fn put_counts(out: &mut [u8], n: u64, one: u64, several: u64, none: u64) -> usiz
     put_field(out, e, none)
 }
 
-// The share in whole per cent, rounded down; `-` without queries.
+// The summary's last field (01, "The listing").
 fn put_share(out: &mut [u8], k: usize, n: u64, one: u64) -> usize
     requires { ⌜ one < 1000 ⌝ }
     ensures { λ r. ⌜ _≡_ {A = Buf} (now (out .exit), r) (puts (now (out .entry), k) (shareText n one)) ⌝ }

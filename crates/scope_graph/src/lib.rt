@@ -5,8 +5,8 @@ ghost use lib.ListN.{getD};
 ghost use Rattle.scope_graph.specs.Rows.{sameEnd, preferredBy};
 ghost use Rattle.scope_graph.specs.Order.{endOf, orderRows, noRow, meaning, pairMeaning};
 
-// Document 01, "Where each language form goes": an order pair has two ends, each the end mark or a label with its number, and the preference test
-// matches on both (`same_end`, `holds`).
+// The form that document 01 binds for order pairs ("Where each language form goes"): a struct of two of these, and a preference test that matches on
+// both (`same_end`, `holds`).
 pub enum End {
     Stop,
     Label(u64),

@@ -1,5 +1,5 @@
 -- The search, over what it looks at of a graph and a query. A *board* is no term of document 01; proofs/ says that its answers are those of
--- scope_graph's rules. It follows paths scope by scope, and at each scope edge by edge (01, "Paths"). Assumes nothing: these are definitions.
+-- scope_graph's rules. How it goes through the graph is 01's ("Paths", the sentence on a search). Assumes nothing: these are definitions.
 use Prim.Native.Nat.{ℕ, zero, suc}
 use mathlib.Core.Bool.{Bool, true, false, not, _&&_, _||_}
 use mathlib.Core.Option.{Option, some, none}

@@ -9,7 +9,7 @@ use Rattle.scope_graph.specs.Path.{HopOf}
 use Rattle.search.specs.Board.{Board}
 
 module _ {A : Type 0} (b : Board A) where
-  -- any step; or one that is not cut wherever a path comes by it: it is, if what is sought is there itself and stopping is preferred
+  -- any step; or any but those that are cut wherever a path comes by them: what is sought is there itself, and stopping is preferred to the step
   unfoldable pub any-way : ℕ → ℕ → A → Bool
   any-way s q t = true
 

@@ -44,7 +44,7 @@ endNumber (by l) = suc l
 unfoldable pub pairFlag : List ℕ → ℕ → ℕ → Bool
 pairFlag t a c = elim (ltb a 9 && ltb c 9) [ true ↦ eqb (getD t (a * 9 + c) 0) 1 | false ↦ false ]
 
--- the flag of a scope: it is not on the path
+-- a flag by its number: of a scope that is not on the path, of an end that is cut or leads on
 unfoldable pub freeFlag : List ℕ → ℕ → Bool
 freeFlag free t = eqb (getD free t 0) 1
 

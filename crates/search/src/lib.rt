@@ -245,7 +245,7 @@ fn filled(flag: u8) -> [u8; 1024]
 }
 
 // The places worth entering on the way to `seek` by free scopes: a table is grown and then tested. Only one that is closed is taken; the table of all
-// places, which is closed too, is what is left to answer otherwise.
+// places, which is closed too, is what is left to answer otherwise. Which closed table it is is left open: any will do, and only time depends on it.
 pub fn live_table(
     edges: &[u64],
     delta: &[u64],
@@ -266,7 +266,7 @@ pub fn live_table(
 }
 
 // Places that steps which are not cut, by free scopes, do not lead to from (s, q): nothing that is asked for only there is followed from (s, q). The table is
-// tested as the one above is; it holds (s, q) itself only if that failed.
+// tested as the one above is. Promised is that it is closed, and no more: who uses it looks whether (s, q) is in it.
 pub fn away_table(
     edges: &[u64],
     delta: &[u64],
@@ -286,7 +286,7 @@ pub fn away_table(
     filled(1)
 }
 
-// The places worth entering on the way to what is sought, by any step.
+// The places worth entering on the way to what is sought, by any step; any closed table will do.
 pub fn goal_table(edges: &[u64], delta: &[u64], goal: &[u8], free: [u8; 64]) -> [u8; 1024]
     ensures { λ r. ⌜ Closed (tableBoard (now (edges .entry)) (now (delta .entry)) (now (goal .entry))) 64 (placeFlag (now (goal .entry))) (any-way (tableBoard (now (edges .entry)) (now (delta .entry)) (now (goal .entry)))) (freeFlag free) (placeFlag r) ⌝ }
 {
@@ -316,7 +316,8 @@ fn worth(delta: &[u64], live: &[u8], free: [u8; 64], q: u64, want: u64, label: u
     16
 }
 
-// Is what is sought at the end of a path that goes on from the scope and state by free scopes, with fewer than `fuel` hops?
+// Is what is sought at the end of a path that goes on from the scope and state by free scopes, with fewer than `fuel` hops? `fuel` falls by one with each scope entered:
+// a walk begins with the number of scopes, so it is how many are not yet on the path, this one included. Paired with the rows left it is the falling number of both functions.
 pub fn exists_at(
     edges: &[u64],
     delta: &[u64],
@@ -340,7 +341,7 @@ pub fn exists_at(
 }
 
 // The same by the rows from cell p on whose label is asked for. A hop that leads nowhere although its place was worth entering shows that the table
-// hopes too much: it is made anew for the scopes that are free now, once at each scope.
+// hopes too much: it is made anew for the scopes that are free now, at most once in this look through a scope's rows.
 pub fn exists_from(
     edges: &[u64],
     delta: &[u64],

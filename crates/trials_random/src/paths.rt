@@ -81,7 +81,7 @@ fn pop(p: &mut [u8]) -> usize {
     k
 }
 
-// The next path in the listing's order: one step more, or, as often as there is none, one step back and there the next one. A path has at most 15 steps.
+// The next path in the listing's order: one step more, or, as often as there is none, one step back and there the next one. A path here has at most 8 steps.
 pub fn advance(g: &[u8], p: &mut [u8]) -> bool {
     let mut from = 0;
     let mut turns: usize = 16;
