@@ -368,7 +368,8 @@ pub fn exists_from(
     if 15 < r {
         return exists_from(edges, delta, goal, live, fuel, free, s, q, want, fresh, on);
     }
-    if exists_at(edges, delta, goal, live, fuel, taken(free, to), to, r) {
+    let inner = taken(free, to);
+    if exists_at(edges, delta, goal, live, fuel, inner, to, r) {
         return true;
     }
     if fresh {
