@@ -1,12 +1,11 @@
 -- What the walk tells of a query of a table that was read. Assumes nothing.
-use Prim.Native.Nat.{ℕ, zero, suc, _+_, _-_, _≤_, _<_}
+use Prim.Native.Nat.{ℕ, zero, suc, _+_, _≤_, _<_}
 use mathlib.Core.Path.{_≡_, refl, sym, ap, _∙_}
-use mathlib.Core.Bool.{Bool, true, false, not}
+use mathlib.Core.Bool.{Bool, true, false}
 use mathlib.Core.Logic.{_⊎_, inl, inr, ⊎-elim}
 use mathlib.Core.Option.{Option, some, none}
 use mathlib.Core.List.{List, [], _∷_, _++_, map}
 use native.Mathlib.Omega.{arith}
-use lib.Dec.{leb}
 use lib.ListN.{length, getD}
 use Rattle.scope_graph.specs.Language.{_∈_, Language}
 use Rattle.scope_graph.specs.Graph.{Query, OpenPair}
@@ -21,8 +20,7 @@ use Rattle.graph_file.specs.Decode.{rowsIn, rulesOf, scopesOf, graphOf, openPai
 use Rattle.prepared.specs.Sections.{partOf, rowsOf}
 use Rattle.prepared.specs.Tables.{hopefulFlags}
 use Rattle.prepared.specs.Promises.{transitionTable, acceptingTable, orderTable, hopefulTable, goalTable, openTable}
-use Rattle.follow.specs.declared.Budget.{Budget}
-use Rattle.follow.specs.declared.Budget.the-variants.{Left, Over}
+use Rattle.follow.specs.declared.Budget.the-variants.{Left}
 use Rattle.follow.specs.declared.Tally.{Tally}
 use Rattle.follow.specs.Pour.{spend, State, written, pour}
 use Rattle.follow.specs.Walk.{walked}
@@ -65,23 +63,14 @@ module _ (cells : List ℕ) (start high low : ℕ) (a : Asked cells start) where
       ap (λ (s : State). roomNumber (s .1 .budget)) (e ∙ walk-is 2 goal 0 (0 ∷ [], record { place = 0; budget = Left 1 }))
       ∙ poured-found cells (accepted cells (a .read)) (tables-are cells (a .read)) q (a .starts)
 
-  fits : (n room : ℕ) → not (isOver (spend (Left room) n)) ≡ leb n room
-  unfolding spend isOver
-  fits n room = one (leb n room)
-    where
-      one : (t : Bool) → not (isOver (elim t as (λ _. Budget) [ true ↦ Left (room - n) | false ↦ Over ])) ≡ t
-      one true = refl
-      one false = refl
-
   -- measured against a room
-  pub fit-walk : (room : ℕ) (o : List ℕ) (t : Tally)
+  pub room-walk : (room : ℕ) (o : List ℕ) (t : Tally)
       → _≡_ {A = State} (o, t) (walkWith cells 1 (letterTable cells) (transitionTable cells) goal (orderTable cells) start high low goal 0 (0 ∷ [], record { place = 0; budget = Left room }))
-      → not (isOver (t .budget)) ≡ leb (length (entriesText cells q)) room
+      → t .budget ≡ spend (Left room) (length (entriesText cells q))
   unfolding pour
-  fit-walk room o t e =
-      ap (λ (s : State). not (isOver (s .1 .budget))) (e ∙ walk-is 1 goal 0 (0 ∷ [], record { place = 0; budget = Left room }))
-      ∙ ap (λ (xs : List ℕ). not (isOver (spend (Left room) (length xs)))) (poured-text cells (accepted cells (a .read)) (tables-are cells (a .read)) q (a .starts) 1 refl refl)
-      ∙ fits (length (entriesText cells q)) room
+  room-walk room o t e =
+      ap (λ (s : State). s .1 .budget) (e ∙ walk-is 1 goal 0 (0 ∷ [], record { place = 0; budget = Left room }))
+      ∙ ap (λ (xs : List ℕ). spend (Left room) (length xs)) (poured-text cells (accepted cells (a .read)) (tables-are cells (a .read)) q (a .starts) 1 refl refl)
 
   -- written
   pub rows-walk : (out : List ℕ) (n : ℕ) (o : List ℕ) (t : Tally)

@@ -1,7 +1,7 @@
 -- A listing is its head and its rows; how it is measured and written. Assumes nothing.
 use Prim.Native.Nat.{ℕ, zero, suc, _+_, _-_, _^_, _≤_, _<_}
 use mathlib.Core.Path.{_≡_, refl, sym, ap, _∙_, subst}
-use mathlib.Core.Bool.{Bool, true, false}
+use mathlib.Core.Bool.{Bool, true, false, true≢false, false≢true}
 use mathlib.Core.Logic.{_⊎_, inl, inr, ⊎-elim}
 use mathlib.Core.Option.{Option, some, none}
 use mathlib.Core.List.{List, [], _∷_, _++_, map, append-assoc}
@@ -35,10 +35,13 @@ use Rattle.graph_file.proofs.DecodeAccepted.{read-accepted}
 use Rattle.graph_file.specs.Decode.{rowsIn, rulesOf, scopesOf, graphOf, lettersOf, opensOf, nameAt, queryOf, queriesOf}
 use Rattle.prepared.specs.Sections.{partOf, rowsOf}
 use Rattle.follow.specs.Text.{headLine, rowsLine, foundText, letterOf, endText}
+use Rattle.follow.specs.declared.Budget.{Budget}
+use Rattle.follow.specs.declared.Budget.the-variants.{Left, Over}
+use Rattle.follow.specs.Pour.{spend}
 use Rattle.resolution.specs.declared.text.Awaits.{Awaits}
 use Rattle.resolution.specs.declared.text.Awaits.the-variants.{Settled, Pair}
 use Rattle.resolution.specs.Listing.{awaitsText, foundFor, entriesText, listingText, queryAt, listingOf, summaryOf, listingFor, summaryFor}
-use Rattle.resolution.specs.Asked.{WasRead, Asked, queryFrom, letterTable, foundNumber, foundFrom, awaitsMeaning, awaitsBytes, queryText, headText, queryHead}
+use Rattle.resolution.specs.Asked.{WasRead, Asked, queryFrom, letterTable, foundNumber, foundFrom, isOver, awaitsMeaning, awaitsBytes, queryText, headText, queryHead}
 use Rattle.resolution.proofs.Demand.{getD-in}
 use Rattle.resolution.proofs.Given.{accepted, rows-are, letters-are}
 
@@ -119,6 +122,27 @@ pub whole-leaves : (text out : List ℕ) → length text ≤ length out → text
 unfolding leaves written
 whole-leaves text out h = rw (le-ltb (length out) (length text) h)
 
+-- what a budget tells of the bytes that were spent of a room
+unfoldable roomIn : Budget → ℕ
+roomIn (Left n) = n
+roomIn Over = 0
+
+spent-over : (n room : ℕ) → Over ≡ spend (Left room) n → room < n
+unfolding spend isOver
+spent-over n room = one (leb n room) refl
+  where
+    one : (t : Bool) → leb n room ≡ t → Over ≡ elim t as (λ _. Budget) [ true ↦ Left (room - n) | false ↦ Over ] → room < n
+    one true x e = absurd (true≢false (ap isOver e))
+    one false x e = leb-false n room x
+
+spent-left : (n room left : ℕ) → Left left ≡ spend (Left room) n → (n ≤ room) × (left ≡ room - n)
+unfolding spend isOver roomIn
+spent-left n room left = one (leb n room) refl
+  where
+    one : (t : Bool) → leb n room ≡ t → Left left ≡ elim t as (λ _. Budget) [ true ↦ Left (room - n) | false ↦ Over ] → (n ≤ room) × (left ≡ room - n)
+    one true x e = (leb-true n room x, ap roomIn e)
+    one false x e = absurd (false≢true (ap isOver e))
+
 -- a query of a table that was read starts at one of its scopes; what stands above its rows is short
 module _ (cells : List ℕ) (start high low : ℕ) (a : Asked cells start) where
   abbrev L : Language
@@ -177,11 +201,21 @@ module _ (cells : List ℕ) (start high low : ℕ) (a : Asked cells start) where
   pub list-short : (out : List ℕ) → length out < length T → (refused 9 ≡ answer (done T) (length out)) × (out ≡ leaves (done T) out)
   list-short out h = (short-answer T (length out) h, short-leaves T out h)
 
-  pub no-head : (o h : List ℕ) (n room : ℕ) → _≡_ {A = Buf} (h, n) (puts (o, 0) (queryHead cells q)) → length o ≡ 128 → room < n → room < length T
-  no-head o h n room e w l =
+  pub no-rows : (room : ℕ) (m : Budget) → m ≡ spend (Left room) (length (entriesText cells q)) → m ≡ Over → room < length T
+  no-rows room m p t =
+      let z = size-is in
+      let x = spent-over (length (entriesText cells q)) room (sym t ∙ p) in
+      omega arith
+
+  pub no-head : (o h : List ℕ) (n room left : ℕ) (m : Budget) → m ≡ spend (Left room) (length (entriesText cells q)) → m ≡ Left left
+      → _≡_ {A = Buf} (h, n) (puts (o, 0) (queryHead cells q)) → length o ≡ 128 → left < n → room < length T
+  no-head o h n room left m p t e w l =
       let s = head-short in
       let z = size-is in
       let k = head-fits o h n (queryHead cells q) e (omega arith) .0 in
+      let x = spent-left (length (entriesText cells q)) room left (sym t ∙ p) in
+      let fits = x .0 in
+      let left-is = x .1 in
       omega arith
 
   pub head-within : (o h : List ℕ) (n : ℕ) → _≡_ {A = Buf} (h, n) (puts (o, 0) (queryHead cells q)) → length o ≡ 128 → (n ≤ length h) × (n ≡ length (take n h))
@@ -193,25 +227,20 @@ module _ (cells : List ℕ) (start high low : ℕ) (a : Asked cells start) where
       let l = length-take-most n h in
       (omega arith, y)
 
-  pub no-rows : (o h : List ℕ) (n room : ℕ) (f : Bool) → _≡_ {A = Buf} (h, n) (puts (o, 0) (queryHead cells q)) → length o ≡ 128 → n ≤ room → f ≡ leb (length (entriesText cells q)) (room - n) → f ≡ false → room < length T
-  no-rows o h n room f e w l r t =
-      let s = head-short in
-      let z = size-is in
-      let k = head-fits o h n (queryHead cells q) e (omega arith) .0 in
-      let x = leb-false (length (entriesText cells q)) (room - n) (sym r ∙ t) in
-      omega arith
-
-  pub list-whole : (o h : List ℕ) (n : ℕ) (out : List ℕ) (f : Bool) (b : List ℕ) (k : ℕ) (c : List ℕ) (r : ℕ) → _≡_ {A = Buf} (h, n) (puts (o, 0) (queryHead cells q)) → length o ≡ 128
-      → n ≤ length out → f ≡ leb (length (entriesText cells q)) (length out - n) → f ≡ true
+  pub list-whole : (o h : List ℕ) (n : ℕ) (out : List ℕ) (left : ℕ) (m : Budget) (b : List ℕ) (k : ℕ) (c : List ℕ) (r : ℕ)
+      → m ≡ spend (Left (length out)) (length (entriesText cells q)) → m ≡ Left left
+      → _≡_ {A = Buf} (h, n) (puts (o, 0) (queryHead cells q)) → length o ≡ 128 → n ≤ left
       → _≡_ {A = Buf} (b, k) (puts (out, 0) (take n h)) → _≡_ {A = Buf} (c, r) (puts (b, k) (entriesText cells q))
       → (done r ≡ answer (done T) (length out)) × (c ≡ leaves (done T) out)
-  list-whole o h n out f b k c r e w l p t u v =
+  list-whole o h n out left m b k c r p t e w l u v =
       let s = head-short in
       let z = size-is in
       let x = head-fits o h n (queryHead cells q) e (omega arith) in
       let n-is = x .0 in
-      let y = leb-true (length (entriesText cells q)) (length out - n) (sym p ∙ t) in
-      let m : length T ≤ length out = omega arith in
+      let y = spent-left (length (entriesText cells q)) (length out) left (sym t ∙ p) in
+      let fits = y .0 in
+      let left-is = y .1 in
+      let room : length T ≤ length out = omega arith in
       let all : _≡_ {A = Buf} (c, r) (puts (out, 0) T) = puts-then (out, 0) (b, k) (c, r) (queryHead cells q) (entriesText cells q) (u ∙ ap (puts (out, 0)) (x .1)) v ∙ ap (puts (out, 0)) (sym (listing-parts cells q)) in
       let i : 0 + length T ≤ length out = omega arith in
       let g = all ∙ puts-fits out 0 T i in
@@ -219,7 +248,7 @@ module _ (cells : List ℕ) (start high low : ℕ) (a : Asked cells start) where
       let r-is : r ≡ length T = omega arith in
       let c-is : c ≡ T ++ drop (0 + length T) out = ap (λ (d : Buf). d .0) g in
       let d-is : 0 + length T ≡ length T = omega arith in
-      (ap {B = Outcome ℕ} (λ (d : ℕ). done d) r-is ∙ whole-answer T (length out) m, c-is ∙ ap (λ (d : ℕ). T ++ drop d out) d-is ∙ whole-leaves T out m)
+      (ap {B = Outcome ℕ} (λ (d : ℕ). done d) r-is ∙ whole-answer T (length out) room, c-is ∙ ap (λ (d : ℕ). T ++ drop d out) d-is ∙ whole-leaves T out room)
 
 listing-inside : (cells : List ℕ) (i : ℕ) → i < length (queriesOf cells) → listingOf cells i ≡ done (listingText cells (queryAt cells i))
 unfolding listingOf refuseIf

@@ -1,7 +1,7 @@
 -- The text above a listing's rows, and a section's rows by number, as code goes through them. Assumes nothing.
 use Prim.Native.Nat.{ℕ, zero, suc, _+_, _-_, _*_, _/_, _≤_, _<_}
 use mathlib.Core.Path.{_≡_, refl, sym, ap, _∙_}
-use mathlib.Core.Bool.{Bool, true, false, not}
+use mathlib.Core.Bool.{Bool, true, false}
 use mathlib.Core.Logic.{_⊎_, inl, inr, ⊎-elim}
 use mathlib.Core.List.{List, [], _∷_, _++_}
 use native.Mathlib.Omega.{arith}
@@ -138,7 +138,3 @@ unfolding followedBy
 followed-asked cells letters delta accepts hopes goal order start high low at end seek o t r s w e =
     e
     ∙ ap (λ (x : State). isOver (x .1 .budget)) (w ∙ ap (λ (l : List ℕ). walkWith cells 3 letters delta goal order start high low l end (0 ∷ [], record { place = 0; budget = Left 0 })) s)
-
-pub not-false : (b : Bool) → not b ≡ false → b ≡ true
-not-false true e = refl
-not-false false e = sym e

@@ -7,7 +7,8 @@ use crate::text::put_head;
 use crate::walks::awaits_of;
 use crate::walks::found_of;
 use crate::walks::put_rows;
-use crate::walks::rows_fit;
+use crate::walks::rows_room;
+use follow::Budget;
 use graph_file::Answer;
 use graph_file::read;
 use prepared::section;
@@ -32,20 +33,21 @@ fn put_heading(table: &[u64], t: Tables, start: u64, high: u64, low: u64, out: &
     put_head(out, &letters, start, high, low, f, a)
 }
 
-// The listing of a query of the table by its start and name. At most 128 bytes stand above its rows.
+// The listing of a query of the table by its start and name. Its rows are measured first: where they alone do not fit, `found` and `awaits`, which can take long,
+// are not needed. At most 128 bytes stand above its rows.
 fn list(table: &[u64], start: u64, high: u64, low: u64, out: &mut [u8]) -> Answer
     requires { ⌜ Asked (now table) start ⌝ }
     ensures { λ r. ⌜ answerOf r ≡ answer (done (listingText (now (table .entry)) (queryFrom (now (table .entry)) start high low))) (length (now (out .entry))) ⌝ }
     ensures { λ r. ⌜ now (out .exit) ≡ leaves (done (listingText (now (table .entry)) (queryFrom (now (table .entry)) start high low))) (now (out .entry)) ⌝ }
 {
     let t = tables_of(table, start, high, low);
+    let room = out.len();
+    let Budget::Left(left) = rows_room(table, t, start, high, low, room) else {
+        return Answer::Refused(9);
+    };
     let mut head = [0u8; 128];
     let n = put_heading(table, t, start, high, low, &mut head);
-    let size = out.len();
-    if size < n {
-        return Answer::Refused(9);
-    }
-    if !rows_fit(table, t, start, high, low, size - n) {
+    if left < n {
         return Answer::Refused(9);
     }
     let k = put_bytes(out, 0, &head[..n]);

@@ -1,4 +1,4 @@
-// The walk, asked for a query of a table: how many entries it has, whether its rows fit, whether an open pair is decisive.
+// The walk, asked for a query of a table: how many entries it has, what its rows leave of a room, whether an open pair is decisive.
 use crate::parts::row_value;
 use crate::tables::Tables;
 use crate::text::Awaits;
@@ -20,7 +20,6 @@ ghost use mathlib.Core.Path.{_≡_};
 ghost use mathlib.Core.Bool.{true, false};
 ghost use mathlib.Core.List.{List, []};
 ghost use Prim.Native.Nat.{ℕ, _<_};
-ghost use lib.Dec.{leb};
 ghost use lib.ListN.{length};
 ghost use Rattle.scope_graph.specs.Rows.{language};
 ghost use Rattle.scope_graph.specs.Computed.{awaits};
@@ -29,7 +28,8 @@ ghost use Rattle.prepared.specs.Sections.{rowsOf};
 ghost use Rattle.prepared.specs.Tables.{usableFlag, hopefulFlags};
 ghost use Rattle.prepared.specs.Promises.{transitionTable, orderTable, goalTable};
 ghost use Rattle.text_field.specs.Buffer.{Buf, puts};
-ghost use Rattle.follow.specs.Pour.{State};
+ghost use Rattle.follow.specs.declared.Budget.the-variants.{Left};
+ghost use Rattle.follow.specs.Pour.{State, spend};
 ghost use Rattle.resolution.specs.Listing.{foundFor, entriesText};
 ghost use Rattle.resolution.specs.Asked.{Ready, Prepared, LiveAt, WorthAt, barred, IsAway, queryFrom, walkWith, letterTable, foundNumber, roomNumber, isOver, followedBy, firstFollowed, awaitsMeaning};
 
@@ -160,10 +160,10 @@ pub fn found_of(table: &[u64], t: Tables, start: u64, high: u64, low: u64) -> u6
     room_number(left)
 }
 
-// Do the query's rows fit the room?
-pub fn rows_fit(table: &[u64], t: Tables, start: u64, high: u64, low: u64, room: usize) -> bool
+// What the query's rows leave of a room; more than it holds makes it Over.
+pub fn rows_room(table: &[u64], t: Tables, start: u64, high: u64, low: u64, room: usize) -> Budget
     requires { ⌜ Prepared (now table) start high low t ⌝ }
-    ensures { λ r. ⌜ r ≡ leb (length (entriesText (now (table .entry)) (queryFrom (now (table .entry)) start high low))) room ⌝ }
+    ensures { λ r. ⌜ r ≡ spend (Left room) (length (entriesText (now (table .entry)) (queryFrom (now (table .entry)) start high low))) ⌝ }
 {
     let mut none = [0u8; 1];
     let budget = Budget::Left(room);
@@ -177,8 +177,7 @@ pub fn rows_fit(table: &[u64], t: Tables, start: u64, high: u64, low: u64, room:
         &mut none,
         Tally { place: 0, budget },
     );
-    let left = end.budget;
-    !is_over(left)
+    end.budget
 }
 
 // The query's rows written from a place on; the place after them.
