@@ -281,7 +281,7 @@ answered-refused a n out b e f = rw e f
 pub queries-counted : (cells : List ℕ) → WasRead cells → (rows : List ℕ) → rows ≡ partOf querySection cells → length rows / 6 ≡ length (queriesOf cells)
 queries-counted cells was rows part = count-is cells was rows 0 (length rows / 6) part (rows-count rows)
 
--- a text that stands in the first k bytes of a buffer of the program's own, and so is due where the text is
+-- a text that stands in the first k bytes of a buffer, and so is due where the text is
 pub record Stands (text h : List ℕ) (k : ℕ) : Type 0 where
   pub within : k ≤ length h
   pub taken : k ≡ length (take k h)
@@ -297,10 +297,16 @@ stands text o h k e fits =
     let f = head-fits o h k text e fits in
     record { within = w .0; taken = w .1; whole = f .1; size = f .0 }
 
-pub part-stands : (cells : List ℕ) (i : ℕ) (o h : List ℕ) (k : ℕ) → length o ≡ lent → _≡_ {A = Buf} (h, k) (puts (o, 0) (partText (length o) cells i))
-    → Stands (partText lent cells i) h k
-part-stands cells i o h k room e =
-    stands (partText lent cells i) o h k (e ∙ ap (λ (n : ℕ). puts (o, 0) (partText n cells i)) room) (let s = part-short lent cells i (omega arith) in omega arith)
+-- part i in a buffer of the room that the program lends, whatever stood in it
+module _ (cells : List ℕ) (i : ℕ) (o h : List ℕ) (k : ℕ) (room : length o ≡ lent) (e : _≡_ {A = Buf} (h, k) (puts (o, 0) (partText (length o) cells i))) where
+  part-put : _≡_ {A = Buf} (h, k) (puts (o, 0) (partText lent cells i))
+  part-put = e ∙ ap (λ (n : ℕ). puts (o, 0) (partText n cells i)) room
+
+  pub part-stands : Stands (partText lent cells i) h k
+  part-stands = stands (partText lent cells i) o h k part-put (let s = part-short lent cells i (omega arith) in omega arith)
+
+  pub part-left : h ≡ puts (o, 0) (partText lent cells i) .0
+  part-left = ap (λ (b : Buf). b .0) part-put
 
 pub line-stands : (n : ℕ) → n < 18446744073709551616 → (o h : List ℕ) (k : ℕ) → length o ≡ 32 → _≡_ {A = Buf} (h, k) (puts (o, 0) (refusedLine n)) → Stands (refusedLine n) h k
 line-stands n small o h k room e = stands (refusedLine n) o h k e (let s = refused-short n small in omega arith)

@@ -13,6 +13,7 @@ use parts::query_count;
 ghost use Prim.Native.Nat.{_+_};
 ghost use mathlib.Core.Path.{_≡_};
 ghost use lib.ListN.{length};
+ghost use Rattle.text_field.specs.Buffer.{puts};
 ghost use Rattle.resolution.specs.Asked.{WasRead};
 ghost use Rattle.resolve.specs.Printed.{refusedLine, lent, tableText, programText, Due};
 ghost use Rattle.resolve.specs.Parts.{partText};
@@ -37,28 +38,30 @@ fn print_refused(text: &[u8], sent: usize, n: u64) -> usize
     emit(text, sent, &out[..k])
 }
 
-// Part i of the output, in one piece; the place behind it.
-fn print_part(text: &[u8], sent: usize, table: &[u64], i: usize) -> usize
+// Part i of the output, in one piece; the place behind it. It is made at the front of the bytes lent, whatever stood there; those behind it stay.
+fn print_part(text: &[u8], sent: usize, table: &[u64], i: usize, out: &mut [u8]) -> usize
     requires { ⌜ WasRead (now table) ⌝ }
+    requires { ⌜ length (now out) ≡ lent ⌝ }
     requires { ⌜ Due (now text) sent (partText lent (now table) i) ⌝ }
     ensures { λ r. ⌜ r ≡ sent + length (partText lent (now (table .entry)) i) ⌝ }
+    ensures { λ r. ⌜ now (out .exit) ≡ puts (now (out .entry), 0) (partText lent (now (table .entry)) i) .0 ⌝ }
 {
-    let mut out = [0u8; 65536];
-    let k = put_part(table, i, &mut out);
+    let k = put_part(table, i, out);
     emit(text, sent, &out[..k])
 }
 
-// All parts in turn; the place behind them.
+// All parts in turn; the place behind them. One buffer is lent to all of them, so that it is cleared once.
 fn print_parts(text: &[u8], sent: usize, table: &[u64]) -> usize
     requires { ⌜ WasRead (now table) ⌝ }
     requires { ⌜ Due (now text) sent (tableText (now table)) ⌝ }
     ensures { λ r. ⌜ r ≡ sent + length (tableText (now (table .entry))) ⌝ }
 {
     let n = query_count(table);
+    let mut out = [0u8; 65536];
     let mut place = sent;
     let mut i: usize = 0;
     while i <= n {
-        place = print_part(text, place, table, i);
+        place = print_part(text, place, table, i, &mut out);
         i += 1;
     }
     place
