@@ -1,6 +1,6 @@
 -- What the steps of the walk's code answer: the path stack, a scope's own share, a hop's share, which hops are entered. Assumes nothing: these are definitions.
 use Prim.Native.Nat.{ℕ, zero, suc, _+_}
-use mathlib.Core.Bool.{Bool, true, false, not, _&&_, _||_}
+use mathlib.Core.Bool.{Bool, true, false, _&&_}
 use mathlib.Core.List.{List, [], _∷_, _++_, flatMap}
 use lib.ListN.{getD}
 use Rattle.scope_graph.specs.Order.{endOf}
@@ -15,19 +15,19 @@ stackHops labels tos zero = []
 stackHops labels tos (suc depth) =
     stackHops labels tos depth ++ (record { step = getD labels depth 0; to = getD tos depth 0 } ∷ [])
 
--- the state after a hop whose label is not cut, to a free scope, at a place that the table holds; else 16
-unfoldable pub onwardState : List ℕ → List ℕ → List ℕ → List ℕ → ℕ → HopOf ℕ → ℕ
-onwardState delta worth free cut q h =
-    elim (freeFlag cut (h .step + 1) || not (freeFlag free (h .to) && placeFlag worth (h .to) (nextCell delta q (h .step)))) [
-      | true ↦ 16
-      | false ↦ nextCell delta q (h .step)
+-- the state after a hop to a free scope, at a place that the table holds; else 16
+unfoldable pub onwardState : List ℕ → List ℕ → List ℕ → ℕ → HopOf ℕ → ℕ
+onwardState delta worth free q h =
+    elim (freeFlag free (h .to) && placeFlag worth (h .to) (nextCell delta q (h .step))) [
+      | true ↦ nextCell delta q (h .step)
+      | false ↦ 16
     ]
 
 module _ (mode : ℕ) (letters decls : List ℕ) (high low start : ℕ) where
-  -- a scope's own share, with the flags of the cut ends given
-  unfoldable pub ownBytes : List ℕ → ℕ → List ℕ → List (HopOf ℕ) → ℕ → ℕ → List ℕ
-  ownBytes seek e cut hops s q =
-      elim (placeFlag seek s q && not (freeFlag cut e)) [ true ↦ placeBytes mode letters decls high low start hops (record { hops = []; at = s; state = q }) | false ↦ [] ]
+  -- a scope's own share, unless it is passed over
+  unfoldable pub ownBytes : Bool → List (HopOf ℕ) → ℕ → ℕ → List ℕ
+  ownBytes passed hops s q =
+      elim passed [ true ↦ [] | false ↦ placeBytes mode letters decls high low start hops (record { hops = []; at = s; state = q }) ]
 
   -- what lies behind one hop
   module _ (edges delta goal order seek : List ℕ) (e : ℕ) where

@@ -42,11 +42,12 @@ module _ (letters : List ℕ) where
   endText stop = 36
   endText (by l) = letterOf l
 
--- four numbers and the share, with its line's end; the share is `-` without queries
+-- the share of queries found one; `-` without queries
 unfoldable pub shareText : ℕ → ℕ → List ℕ
 shareText zero one = 45 ∷ []
 shareText (suc n) one = numberText (one * 100 / suc n)
 
+-- four numbers and the share, with its line's end
 unfoldable pub summaryText : ℕ → ℕ → ℕ → ℕ → List ℕ
 summaryText n one several none =
     summaryLine

@@ -1,9 +1,11 @@
 // The walk over followed places: it writes the rows of a listing, measures them, counts entries, or finds places, all by one fold.
-use search::cuts;
+use search::Learnt;
 use search::is_free;
+use search::learn;
 use search::live_table;
 use search::next_row;
 use search::next_state;
+use search::nothing_known;
 use search::place;
 use search::taken;
 use text_field::byte_at;
@@ -11,7 +13,7 @@ use text_field::number_len;
 use text_field::put_byte;
 use text_field::put_number;
 ghost use mathlib.Core.Path.{_≡_};
-ghost use mathlib.Core.Bool.{true, false};
+ghost use mathlib.Core.Bool.{true, false, not, _||_};
 ghost use mathlib.Core.List.{List, [], _∷_, flatMap};
 ghost use Prim.Native.Nat.{ℕ, _+_, _%_, _<_, _≤_};
 ghost use lib.ListN.{getD, set, drop, replicate};
@@ -19,7 +21,7 @@ ghost use Rattle.scope_graph.specs.Order.{endOf};
 ghost use Rattle.search.specs.Board.{cutHere};
 ghost use Rattle.search.specs.Live.{Closed, any-way};
 ghost use Rattle.search.specs.Tables.{rowHops, placeFlag, freeFlag, tableOrder, tableBoard};
-ghost use Rattle.search.specs.Steps.{hopTo, wayOf};
+ghost use Rattle.search.specs.Steps.{hopTo, wayOf, Sorted, Known};
 ghost use Rattle.text_field.specs.Number.{numberText};
 ghost use Rattle.follow.specs.Text.{rowText, hopsText};
 ghost use Rattle.follow.specs.Pour.{State, spend, pour};
@@ -246,7 +248,7 @@ fn entries(
     t
 }
 
-// A place that is asked for, and where the end sought is not cut: one byte where places are found, else its entries.
+// The share of a place that is asked for, unless it is passed over: one byte where places are found, else its entries.
 fn visit(
     mode: u64,
     letters: &[u8],
@@ -254,9 +256,7 @@ fn visit(
     high: u64,
     low: u64,
     start: u64,
-    seek: &[u8],
-    e: u64,
-    cut: [u8; 9],
+    passed: bool,
     labels: [u8; 64],
     tos: [u8; 64],
     depth: usize,
@@ -265,12 +265,9 @@ fn visit(
     out: &mut [u8],
     tally: Tally,
 ) -> Tally
-    ensures { λ r. ⌜ _≡_ {A = State} (now (out .exit), r) (pour mode (now (out .entry), tally) (ownBytes mode (now (letters .entry)) (now (decls .entry)) high low start (now (seek .entry)) e cut (stackHops labels tos depth) s q)) ⌝ }
+    ensures { λ r. ⌜ _≡_ {A = State} (now (out .exit), r) (pour mode (now (out .entry), tally) (ownBytes mode (now (letters .entry)) (now (decls .entry)) high low start passed (stackHops labels tos depth) s q)) ⌝ }
 {
-    if !place(seek, s, q) {
-        return tally;
-    }
-    if is_cut(cut, e) {
+    if passed {
         return tally;
     }
     if mode == 3 {
@@ -292,39 +289,53 @@ fn visit(
     )
 }
 
-// Is the end with this number cut?
-fn is_cut(cut: [u8; 9], e: u64) -> bool
-    ensures { λ r. ⌜ r ≡ freeFlag cut e ⌝ }
+// Is the place passed over: not asked for, or the end sought is cut there? What was learnt of its ends on the way is kept. A place that is not asked for costs no search.
+fn own_end(
+    edges: &[u64],
+    delta: &[u64],
+    hint: &[u64],
+    goal: &[u64],
+    order: &[u8],
+    seek: &[u64],
+    e: u64,
+    live: &[u64],
+    fuel: usize,
+    free: [u8; 64],
+    s: u64,
+    q: u64,
+) -> Learnt
+    requires { ⌜ Sorted (now edges) ⌝ }
+    requires { ⌜ Closed (tableBoard (now edges) (now delta) (now goal)) (placeFlag (now goal)) (any-way (tableBoard (now edges) (now delta) (now goal))) (freeFlag free) (placeFlag (now live)) ⌝ }
+    ensures { λ r. ⌜ Known (tableBoard (now (edges .entry)) (now (delta .entry)) (now (goal .entry))) fuel (freeFlag free) s q (r .known) ⌝ }
+    ensures { λ r. ⌜ r .cut ≡ (not (placeFlag (now (seek .entry)) s q) || cutHere (tableBoard (now (edges .entry)) (now (delta .entry)) (now (goal .entry))) (tableOrder (now (order .entry))) fuel (freeFlag free) s q (endOf e)) ⌝ }
 {
-    let k = e as usize;
-    if k < 9 { cut[k] == 1 } else { false }
-}
-
-// Is the hop's label cut?
-fn label_cut(cut: [u8; 9], label: u64) -> bool
-    ensures { λ r. ⌜ r ≡ freeFlag cut (label + 1) ⌝ }
-{
-    if label < 8 {
-        return is_cut(cut, label + 1);
+    let none = nothing_known();
+    if !place(seek, s, q) {
+        return Learnt {
+            known: none,
+            cut: true,
+        };
     }
-    false
+    learn(
+        edges,
+        delta,
+        hint,
+        goal,
+        order,
+        live,
+        fuel,
+        free,
+        s,
+        q,
+        none,
+        e,
+    )
 }
 
 // The state after a hop that is worth entering, or 16.
-fn onward(
-    delta: &[u64],
-    worth: &[u8],
-    free: [u8; 64],
-    cut: [u8; 9],
-    q: u64,
-    label: u64,
-    to: u64,
-) -> u64
-    ensures { λ r. ⌜ r ≡ onwardState (now (delta .entry)) (now (worth .entry)) free cut q (hopTo label to) ⌝ }
+fn onward(delta: &[u64], worth: &[u64], free: [u8; 64], q: u64, label: u64, to: u64) -> u64
+    ensures { λ r. ⌜ r ≡ onwardState (now (delta .entry)) (now (worth .entry)) free q (hopTo label to) ⌝ }
 {
-    if label_cut(cut, label) {
-        return 16;
-    }
     if !is_free(free, to) {
         return 16;
     }
@@ -357,11 +368,22 @@ fn room(budget: Budget) -> usize {
     }
 }
 
-// Did the walk behind a hop change nothing? Then the table of places worth entering hoped too much.
-fn in_vain(before: Tally, after: Tally) -> bool {
+// Was a hop entered in vain, earlier or now: did the walk behind it change nothing? Then the table of places worth entering hoped too much.
+fn in_vain(earlier: bool, before: Tally, after: Tally) -> bool {
+    if earlier {
+        return true;
+    }
     let old = before.budget;
     let new = after.budget;
     before.place == after.place && room(old) == room(new)
+}
+
+// Is the table to be made anew? Only after a hop was entered in vain, and not if it was made anew already.
+fn stale(fresh: bool, vain: bool) -> bool {
+    if fresh {
+        return false;
+    }
+    vain
 }
 
 // The followed places from a scope on, behind the path of the stack: the scope's own share, then hop by hop.
@@ -374,12 +396,13 @@ fn follow_at(
     start: u64,
     edges: &[u64],
     delta: &[u64],
-    goal: &[u8],
+    hint: &[u64],
+    goal: &[u64],
     order: &[u8],
-    seek: &[u8],
+    seek: &[u64],
     e: u64,
-    live: &[u8],
-    worth: &[u8],
+    live: &[u64],
+    worth: &[u64],
     labels: [u8; 64],
     tos: [u8; 64],
     depth: usize,
@@ -390,15 +413,30 @@ fn follow_at(
     out: &mut [u8],
     tally: Tally,
 ) -> Tally
-    requires { ⌜ Closed (tableBoard (now edges) (now delta) (now goal)) 64 (placeFlag (now goal)) (any-way (tableBoard (now edges) (now delta) (now goal))) (freeFlag free) (placeFlag (now live)) ⌝ }
-    requires { ⌜ Closed (tableBoard (now edges) (now delta) (now goal)) 64 (placeFlag (now seek)) (wayOf (now goal) (now order) true) (freeFlag free) (placeFlag (now worth)) ⌝ }
+    requires { ⌜ Sorted (now edges) ⌝ }
+    requires { ⌜ Closed (tableBoard (now edges) (now delta) (now goal)) (placeFlag (now goal)) (any-way (tableBoard (now edges) (now delta) (now goal))) (freeFlag free) (placeFlag (now live)) ⌝ }
+    requires { ⌜ Closed (tableBoard (now edges) (now delta) (now goal)) (placeFlag (now seek)) (wayOf (now goal) (now order) true) (freeFlag free) (placeFlag (now worth)) ⌝ }
     requires { ⌜ depth + fuel ≤ 64 ⌝ }
     ensures { λ r. ⌜ _≡_ {A = State} (now (out .exit), r) (pour mode (now (out .entry), tally) (bytesFrom mode (now (letters .entry)) (now (decls .entry)) high low start (now (edges .entry)) (now (delta .entry)) (now (goal .entry)) (now (order .entry)) (now (seek .entry)) e (stackHops labels tos depth) fuel (freeFlag free) s q)) ⌝ }
 {
     if fuel == 0 {
         return tally;
     }
-    let cut = cuts(edges, delta, goal, order, live, fuel - 1, free, s, q);
+    let own = own_end(
+        edges,
+        delta,
+        hint,
+        goal,
+        order,
+        seek,
+        e,
+        live,
+        fuel - 1,
+        free,
+        s,
+        q,
+    );
+    let known = own.known;
     let t = visit(
         mode,
         letters,
@@ -406,9 +444,7 @@ fn follow_at(
         high,
         low,
         start,
-        seek,
-        e,
-        cut,
+        own.cut,
         labels,
         tos,
         depth,
@@ -426,6 +462,7 @@ fn follow_at(
         start,
         edges,
         delta,
+        hint,
         goal,
         order,
         seek,
@@ -439,7 +476,8 @@ fn follow_at(
         free,
         s,
         q,
-        cut,
+        known,
+        false,
         false,
         0,
         out,
@@ -447,8 +485,8 @@ fn follow_at(
     )
 }
 
-// The same by the rows from cell p on. A hop entered in vain shows that the table of places worth entering hopes too much: it is made anew for the scopes that
-// are free now, once at each scope. Which closed table is used changes no answer.
+// The same by the rows from cell p on. A hop entered in vain shows that the table of places worth entering hopes too much: before the next hop is entered it is made anew for the scopes that
+// are free now, once at each scope (`vain`: such a hop was met; `fresh`: it was made anew), and that hop is entered only if the new table holds its place too. Which closed table is used changes no answer.
 fn follow_from(
     mode: u64,
     letters: &[u8],
@@ -458,12 +496,13 @@ fn follow_from(
     start: u64,
     edges: &[u64],
     delta: &[u64],
-    goal: &[u8],
+    hint: &[u64],
+    goal: &[u64],
     order: &[u8],
-    seek: &[u8],
+    seek: &[u64],
     e: u64,
-    live: &[u8],
-    worth: &[u8],
+    live: &[u64],
+    worth: &[u64],
     labels: [u8; 64],
     tos: [u8; 64],
     depth: usize,
@@ -471,16 +510,18 @@ fn follow_from(
     free: [u8; 64],
     s: u64,
     q: u64,
-    cut: [u8; 9],
+    known: [u8; 9],
     fresh: bool,
+    vain: bool,
     p: usize,
     out: &mut [u8],
     tally: Tally,
 ) -> Tally
-    requires { ⌜ Closed (tableBoard (now edges) (now delta) (now goal)) 64 (placeFlag (now goal)) (any-way (tableBoard (now edges) (now delta) (now goal))) (freeFlag free) (placeFlag (now live)) ⌝ }
-    requires { ⌜ Closed (tableBoard (now edges) (now delta) (now goal)) 64 (placeFlag (now seek)) (wayOf (now goal) (now order) true) (freeFlag free) (placeFlag (now worth)) ⌝ }
+    requires { ⌜ Sorted (now edges) ⌝ }
+    requires { ⌜ Closed (tableBoard (now edges) (now delta) (now goal)) (placeFlag (now goal)) (any-way (tableBoard (now edges) (now delta) (now goal))) (freeFlag free) (placeFlag (now live)) ⌝ }
+    requires { ⌜ Closed (tableBoard (now edges) (now delta) (now goal)) (placeFlag (now seek)) (wayOf (now goal) (now order) true) (freeFlag free) (placeFlag (now worth)) ⌝ }
     requires { ⌜ depth + fuel < 64 ⌝ }
-    requires { ⌜ ((c : ℕ) → c < 9 → freeFlag cut c ≡ cutHere (tableBoard (now edges) (now delta) (now goal)) (tableOrder (now order)) fuel (freeFlag free) s q (endOf c)) ⌝ }
+    requires { ⌜ Known (tableBoard (now edges) (now delta) (now goal)) fuel (freeFlag free) s q known ⌝ }
     ensures { λ r. ⌜ _≡_ {A = State} (now (out .exit), r) (pour mode (now (out .entry), tally) (flatMap (hopBytes mode (now (letters .entry)) (now (decls .entry)) high low start (now (edges .entry)) (now (delta .entry)) (now (goal .entry)) (now (order .entry)) (now (seek .entry)) e (stackHops labels tos depth) fuel (freeFlag free) s q) (rowHops (drop p (now (edges .entry))) s))) ⌝ }
 {
     if is_over(mode, tally) {
@@ -492,7 +533,7 @@ fn follow_from(
     }
     let label = edges[at + 2];
     let to = edges[at + 3];
-    let r = onward(delta, worth, free, cut, q, label, to);
+    let r = onward(delta, worth, free, q, label, to);
     if 15 < r {
         return follow_from(
             mode,
@@ -503,6 +544,7 @@ fn follow_from(
             start,
             edges,
             delta,
+            hint,
             goal,
             order,
             seek,
@@ -516,11 +558,152 @@ fn follow_from(
             free,
             s,
             q,
-            cut,
+            known,
             fresh,
+            vain,
             at + 6,
             out,
             tally,
+        );
+    }
+    let more = learn(
+        edges,
+        delta,
+        hint,
+        goal,
+        order,
+        live,
+        fuel,
+        free,
+        s,
+        q,
+        known,
+        label + 1,
+    );
+    let learnt = more.known;
+    if more.cut {
+        return follow_from(
+            mode,
+            letters,
+            decls,
+            high,
+            low,
+            start,
+            edges,
+            delta,
+            hint,
+            goal,
+            order,
+            seek,
+            e,
+            live,
+            worth,
+            labels,
+            tos,
+            depth,
+            fuel,
+            free,
+            s,
+            q,
+            learnt,
+            fresh,
+            vain,
+            at + 6,
+            out,
+            tally,
+        );
+    }
+    let deeper = depth + 1;
+    if stale(fresh, vain) {
+        let table = live_table(edges, delta, hint, seek, goal, order, true, free);
+        let again = onward(delta, &table, free, q, label, to);
+        if 15 < again {
+            return follow_from(
+                mode,
+                letters,
+                decls,
+                high,
+                low,
+                start,
+                edges,
+                delta,
+                hint,
+                goal,
+                order,
+                seek,
+                e,
+                live,
+                &table,
+                labels,
+                tos,
+                depth,
+                fuel,
+                free,
+                s,
+                q,
+                learnt,
+                true,
+                false,
+                at + 6,
+                out,
+                tally,
+            );
+        }
+        let t = follow_at(
+            mode,
+            letters,
+            decls,
+            high,
+            low,
+            start,
+            edges,
+            delta,
+            hint,
+            goal,
+            order,
+            seek,
+            e,
+            live,
+            &table,
+            pushed(labels, depth, label),
+            pushed(tos, depth, to),
+            deeper,
+            fuel,
+            taken(free, to),
+            to,
+            again,
+            out,
+            tally,
+        );
+        return follow_from(
+            mode,
+            letters,
+            decls,
+            high,
+            low,
+            start,
+            edges,
+            delta,
+            hint,
+            goal,
+            order,
+            seek,
+            e,
+            live,
+            &table,
+            labels,
+            tos,
+            depth,
+            fuel,
+            free,
+            s,
+            q,
+            learnt,
+            true,
+            false,
+            at + 6,
+            out,
+            t,
         );
     }
     let t = follow_at(
@@ -532,6 +715,7 @@ fn follow_from(
         start,
         edges,
         delta,
+        hint,
         goal,
         order,
         seek,
@@ -540,7 +724,7 @@ fn follow_from(
         worth,
         pushed(labels, depth, label),
         pushed(tos, depth, to),
-        depth + 1,
+        deeper,
         fuel,
         taken(free, to),
         to,
@@ -548,37 +732,6 @@ fn follow_from(
         out,
         tally,
     );
-    if fresh || !in_vain(tally, t) {
-        return follow_from(
-            mode,
-            letters,
-            decls,
-            high,
-            low,
-            start,
-            edges,
-            delta,
-            goal,
-            order,
-            seek,
-            e,
-            live,
-            worth,
-            labels,
-            tos,
-            depth,
-            fuel,
-            free,
-            s,
-            q,
-            cut,
-            fresh,
-            at + 6,
-            out,
-            t,
-        );
-    }
-    let table = live_table(edges, delta, seek, goal, order, true, free);
     follow_from(
         mode,
         letters,
@@ -588,12 +741,13 @@ fn follow_from(
         start,
         edges,
         delta,
+        hint,
         goal,
         order,
         seek,
         e,
         live,
-        &table,
+        worth,
         labels,
         tos,
         depth,
@@ -601,8 +755,9 @@ fn follow_from(
         free,
         s,
         q,
-        cut,
-        true,
+        learnt,
+        fresh,
+        in_vain(vain, tally, t),
         at + 6,
         out,
         t,
@@ -634,18 +789,20 @@ pub fn walk(
     start: u64,
     edges: &[u64],
     delta: &[u64],
-    goal: &[u8],
+    hint: &[u64],
+    goal: &[u64],
     order: &[u8],
-    seek: &[u8],
+    seek: &[u64],
     e: u64,
-    live: &[u8],
-    worth: &[u8],
+    live: &[u64],
+    worth: &[u64],
     scopes: usize,
     out: &mut [u8],
     tally: Tally,
 ) -> Tally
-    requires { ⌜ Closed (tableBoard (now edges) (now delta) (now goal)) 64 (placeFlag (now goal)) (any-way (tableBoard (now edges) (now delta) (now goal))) (freeFlag (set (replicate 64 1) start 0)) (placeFlag (now live)) ⌝ }
-    requires { ⌜ Closed (tableBoard (now edges) (now delta) (now goal)) 64 (placeFlag (now seek)) (wayOf (now goal) (now order) true) (freeFlag (set (replicate 64 1) start 0)) (placeFlag (now worth)) ⌝ }
+    requires { ⌜ Sorted (now edges) ⌝ }
+    requires { ⌜ Closed (tableBoard (now edges) (now delta) (now goal)) (placeFlag (now goal)) (any-way (tableBoard (now edges) (now delta) (now goal))) (freeFlag (set (replicate 64 1) start 0)) (placeFlag (now live)) ⌝ }
+    requires { ⌜ Closed (tableBoard (now edges) (now delta) (now goal)) (placeFlag (now seek)) (wayOf (now goal) (now order) true) (freeFlag (set (replicate 64 1) start 0)) (placeFlag (now worth)) ⌝ }
     ensures { λ r. ⌜ _≡_ {A = State} (now (out .exit), r) (walked mode (now (letters .entry)) (now (decls .entry)) high low start (now (edges .entry)) (now (delta .entry)) (now (goal .entry)) (now (order .entry)) (now (seek .entry)) e scopes (now (out .entry), tally)) ⌝ }
 {
     if 64 < scopes {
@@ -662,6 +819,7 @@ pub fn walk(
         start,
         edges,
         delta,
+        hint,
         goal,
         order,
         seek,

@@ -7,7 +7,7 @@ use native.Mathlib.Omega.{arith}
 use native.Mathlib.Numerals.{add-one}
 use borrow.Author.Tests.{eq-eqb, ne-eqb}
 use lib.Dec.{eqb}
-use lib.ListN.{length, getD, drop, drop-of-length-le}
+use lib.ListN.{length, getD, drop, replicate, drop-of-length-le}
 use lib.Seq.{drop-cons}
 use Rattle.scope_graph.specs.Language.{End, stop, by}
 use Rattle.scope_graph.specs.Order.{endOf}
@@ -16,11 +16,16 @@ use Rattle.scope_graph.specs.Rows.{anyOf}
 use Rattle.graph_file.specs.Admission.{Row, value, blank}
 use Rattle.search.specs.Board.{Board, cutHere, cutAlong}
 use Rattle.search.specs.Tables.{nextCell, freeFlag, endNumber, tableOrder}
-use Rattle.search.specs.Steps.{hopTo}
+use Rattle.search.specs.Steps.{hopTo, Known}
 use Rattle.search.proofs.RulesLists.{anyOf-no}
 use Rattle.search.proofs.Cells.{pair-no-second}
+use Rattle.search.proofs.CutEnds.{known-nothing}
 use Rattle.prepared.specs.Sections.{rowsOf}
 use Rattle.judge.specs.Steps.{rowIs, hasRow, stateOn, stateAlong}
+
+-- nothing is known of ends whose bytes are all 0
+pub known-none : (b : Board ℕ) (fuel : ℕ) (free : ℕ → Bool) (s q : ℕ) (known : List ℕ) → known ≡ replicate 9 0 → Known b fuel free s q known
+known-none b fuel free s q known is = rw is (known-nothing b fuel free s q)
 
 -- a row's values one by one
 module _ (four : Bool) (a b c d : ℕ) (row : Row) (v0 : ℕ) (e0 : v0 ≡ value row 0) where
@@ -108,10 +113,10 @@ module _ (b : Board ℕ) (order : List ℕ) (free : ℕ → Bool) (s q : ℕ) wh
   unfolding endOf
   cut-label fuel l = rw (add-one l)
 
-  pub cut-flag : (fuel c : ℕ) (cut : List ℕ) → (fuel ≡ 0 → ⊥) → c < 9
-      → ((k : ℕ) → k < 9 → freeFlag cut k ≡ cutHere b (tableOrder order) (fuel - 1) free s q (endOf k))
-      → eqb (getD cut c 0) 1 ≡ cutAlong b (tableOrder order) fuel free s q [] (endOf c)
-  unfolding cutAlong freeFlag
-  cut-flag fuel c cut h k flags =
+  -- what is learnt of an end with the fuel of its hops
+  pub cut-told : (fuel c : ℕ) → (fuel ≡ 0 → ⊥)
+      → cutHere b (tableOrder order) (fuel - 1) free s q (endOf c) ≡ cutAlong b (tableOrder order) fuel free s q [] (endOf c)
+  unfolding cutAlong
+  cut-told fuel c h =
       let one : fuel ≡ suc (fuel - 1) = omega arith in
-      flags c k ∙ ap (λ (n : ℕ). cutAlong b (tableOrder order) n free s q [] (endOf c)) (sym one)
+      ap (λ (n : ℕ). cutAlong b (tableOrder order) n free s q [] (endOf c)) (sym one)

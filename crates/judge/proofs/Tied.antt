@@ -2,7 +2,7 @@
 use mathlib.Core.Path.{_≡_, refl, sym, ap, _∙_}
 use mathlib.Core.Bool.{Bool, true, false, not, _&&_, _||_}
 use mathlib.Core.List.{List, [], _∷_, map}
-use Prim.Native.Nat.{ℕ, zero, suc, _<_}
+use Prim.Native.Nat.{ℕ, _<_}
 use native.Mathlib.Omega.{arith}
 use borrow.Author.Tests.{eq-eqb, ne-eqb}
 use lib.Dec.{eqb}
@@ -23,13 +23,14 @@ use Rattle.search.specs.Tables.{freeFlag, tableOrder, tableBoard}
 use Rattle.search.proofs.Cells.{free-taken}
 use Rattle.search.proofs.Rules.{standing-is}
 use Rattle.prepared.specs.Sections.{partOf, rowsOf}
-use Rattle.prepared.specs.Tables.{transitionCells, acceptingFlags, orderFlags, declaringFlags, goalFlags}
+use Rattle.prepared.specs.Tables.{transitionCells, acceptingFlags, orderFlags, declaringFlags, goalSets}
 use Rattle.path_row.specs.declared.form.Step.{Step}
 use Rattle.path_row.specs.Form.{mostSteps, stepsOf, stepsIn}
 use Rattle.path_row.specs.Compare.{hopOf, pathOf}
 use Rattle.path_row.specs.Scan.{scannedLetters}
 use Rattle.path_row.proofs.ScanLaws.{letters-scanned}
 use Rattle.resolution.specs.Asked.{Asked, queryFrom}
+use Rattle.resolution.proofs.Walked.{full-free}
 use Rattle.resolution.proofs.Given.{accepted, rows-are, tables-are}
 use Rattle.judge.specs.declared.standing.Judged.{Judged}
 use Rattle.judge.specs.declared.standing.Judged.the-variants.{Visible, Shadowed, Unreached, Refused}
@@ -67,12 +68,6 @@ last-is : (r : Rules) (s : ℕ) (hs : List (HopOf ℕ)) → lastOf s hs ≡ last
 unfolding lastOf
 last-is r s [] = refl
 last-is r s (h ∷ hs) = last-is r (h .to) hs
-
-full-free : (n t : ℕ) → t < n → freeFlag (replicate n 1) t ≡ true
-unfolding freeFlag
-full-free zero t h = absurd (omega arith)
-full-free (suc n) zero h = refl
-full-free (suc n) (suc t) h = full-free n t (omega arith)
 
 -- A row's steps as hops, by the rules and as the code finds their letters' numbers.
 hops-are : (cells : List ℕ) (ss : List Step) → scannedLetters cells ≡ lettersOf cells
@@ -151,7 +146,7 @@ module _ (cells : List ℕ) (start high low mark from : ℕ) (row : List ℕ) (a
   module _ (same : from ≡ start) (edges decls delta accepts goal free : List ℕ) (at : ℕ)
       (edges-is : edges ≡ partOf 5 cells) (decls-is : decls ≡ partOf 6 cells)
       (delta-is : delta ≡ transitionCells (rowsOf (partOf 2 cells))) (accepts-is : accepts ≡ acceptingFlags (rowsOf (partOf 3 cells)))
-      (goal-is : goal ≡ goalFlags accepts (declaringFlags (record { high = high; low = low }) (rowsOf (partOf 6 cells))))
+      (goal-is : goal ≡ goalSets accepts (declaringFlags (record { high = high; low = low }) (rowsOf (partOf 6 cells))))
       (free-is : free ≡ set (replicate 64 1) start 0) (at-is : stepsOf mostSteps (drop at row) ≡ stepsIn row) where
     marked-is : hasRow true (lastOf start hs) high low mark (rowsOf (partOf 6 cells)) ≡ ruledMark
     unfolding graphOf

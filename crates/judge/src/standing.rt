@@ -12,9 +12,11 @@ use prepared::order;
 use prepared::section;
 use prepared::transitions;
 use resolution::row_value;
-use search::cuts;
 use search::goal_table;
+use search::learn;
+use search::nothing_known;
 use search::place;
+use search::put_hints;
 use search::taken;
 ghost use mathlib.Core.Path.{_≡_};
 ghost use mathlib.Core.List.{List, []};
@@ -26,6 +28,7 @@ ghost use Rattle.scope_graph.specs.Rows.{language};
 ghost use Rattle.scope_graph.specs.Computed.{judged};
 ghost use Rattle.search.specs.Board.{cutAlong};
 ghost use Rattle.search.specs.Live.{Closed, any-way};
+ghost use Rattle.search.specs.Steps.{Sorted};
 ghost use Rattle.search.specs.Tables.{placeFlag, freeFlag, tableOrder, tableBoard};
 ghost use Rattle.graph_file.specs.Outcome.{done};
 ghost use Rattle.graph_file.specs.Decode.{rulesOf, graphOf};
@@ -44,7 +47,7 @@ pub enum Judged {
 }
 
 // Is what is sought here, and declared with the mark?
-fn ends_here(decls: &[u64], goal: &[u8], high: u64, low: u64, mark: u64, s: u64, q: u64) -> bool
+fn ends_here(decls: &[u64], goal: &[u64], high: u64, low: u64, mark: u64, s: u64, q: u64) -> bool
     ensures { λ r. ⌜ ((edges delta free : List ℕ) → r ≡ rowReached edges (now (decls .entry)) delta (now (goal .entry)) high low mark free s q []) ⌝ }
 {
     if !place(goal, s, q) {
@@ -59,7 +62,7 @@ fn is_reached(
     edges: &[u64],
     decls: &[u64],
     delta: &[u64],
-    goal: &[u8],
+    goal: &[u64],
     high: u64,
     low: u64,
     mark: u64,
@@ -98,48 +101,75 @@ fn is_reached(
 fn end_cut(
     edges: &[u64],
     delta: &[u64],
-    goal: &[u8],
+    hint: &[u64],
+    goal: &[u64],
     order: &[u8],
-    live: &[u8],
+    live: &[u64],
     fuel: usize,
     free: [u8; 64],
     s: u64,
     q: u64,
     e: u64,
 ) -> bool
-    requires { ⌜ Closed (tableBoard (now edges) (now delta) (now goal)) 64 (placeFlag (now goal)) (any-way (tableBoard (now edges) (now delta) (now goal))) (freeFlag free) (placeFlag (now live)) ⌝ }
+    requires { ⌜ Sorted (now edges) ⌝ }
+    requires { ⌜ Closed (tableBoard (now edges) (now delta) (now goal)) (placeFlag (now goal)) (any-way (tableBoard (now edges) (now delta) (now goal))) (freeFlag free) (placeFlag (now live)) ⌝ }
     ensures { λ r. ⌜ r ≡ cutAlong (tableBoard (now (edges .entry)) (now (delta .entry)) (now (goal .entry))) (tableOrder (now (order .entry))) fuel (freeFlag free) s q [] (endOf e) ⌝ }
 {
     if fuel == 0 {
         return false;
     }
-    if 8 < e {
-        return false;
-    }
-    let cut = cuts(edges, delta, goal, order, live, fuel - 1, free, s, q);
-    cut[e as usize] == 1
+    let none = nothing_known();
+    let told = learn(
+        edges,
+        delta,
+        hint,
+        goal,
+        order,
+        live,
+        fuel - 1,
+        free,
+        s,
+        q,
+        none,
+        e,
+    );
+    told.cut
 }
 
 // The same of a label by its number.
 fn label_cut(
     edges: &[u64],
     delta: &[u64],
-    goal: &[u8],
+    hint: &[u64],
+    goal: &[u64],
     order: &[u8],
-    live: &[u8],
+    live: &[u64],
     fuel: usize,
     free: [u8; 64],
     s: u64,
     q: u64,
     label: u64,
 ) -> bool
-    requires { ⌜ Closed (tableBoard (now edges) (now delta) (now goal)) 64 (placeFlag (now goal)) (any-way (tableBoard (now edges) (now delta) (now goal))) (freeFlag free) (placeFlag (now live)) ⌝ }
+    requires { ⌜ Sorted (now edges) ⌝ }
+    requires { ⌜ Closed (tableBoard (now edges) (now delta) (now goal)) (placeFlag (now goal)) (any-way (tableBoard (now edges) (now delta) (now goal))) (freeFlag free) (placeFlag (now live)) ⌝ }
     ensures { λ r. ⌜ r ≡ cutAlong (tableBoard (now (edges .entry)) (now (delta .entry)) (now (goal .entry))) (tableOrder (now (order .entry))) fuel (freeFlag free) s q [] (by label) ⌝ }
 {
     if 7 < label {
         return false;
     }
-    end_cut(edges, delta, goal, order, live, fuel, free, s, q, label + 1)
+    end_cut(
+        edges,
+        delta,
+        hint,
+        goal,
+        order,
+        live,
+        fuel,
+        free,
+        s,
+        q,
+        label + 1,
+    )
 }
 
 // Is some end cut where the steps from place `at` of the row on go by it, or `$` where they end? The table of places worth entering serves all the way: a closed one
@@ -148,16 +178,18 @@ fn is_cut(
     table: &[u64],
     edges: &[u64],
     delta: &[u64],
-    goal: &[u8],
+    hint: &[u64],
+    goal: &[u64],
     order: &[u8],
-    live: &[u8],
+    live: &[u64],
     scopes: usize,
     free: [u8; 64],
     start: u64,
     row: &[u8],
     at: usize,
 ) -> bool
-    requires { ⌜ Closed (tableBoard (now edges) (now delta) (now goal)) 64 (placeFlag (now goal)) (any-way (tableBoard (now edges) (now delta) (now goal))) (freeFlag free) (placeFlag (now live)) ⌝ }
+    requires { ⌜ Sorted (now edges) ⌝ }
+    requires { ⌜ Closed (tableBoard (now edges) (now delta) (now goal)) (placeFlag (now goal)) (any-way (tableBoard (now edges) (now delta) (now goal))) (freeFlag free) (placeFlag (now live)) ⌝ }
     ensures { λ r. ⌜ r ≡ cutAlong (tableBoard (now (edges .entry)) (now (delta .entry)) (now (goal .entry))) (tableOrder (now (order .entry))) scopes (freeFlag free) start 0 (hopsBy (scannedLetters (now (table .entry))) (stepsOf mostSteps (drop at (now (row .entry))))) stop ⌝ }
 {
     let mut left: usize = 63;
@@ -171,11 +203,11 @@ fn is_cut(
             return false;
         }
         let StepRead::Taken(x, v, next) = next_step(row, i) else {
-            return end_cut(edges, delta, goal, order, live, fuel, on, s, q, 0);
+            return end_cut(edges, delta, hint, goal, order, live, fuel, on, s, q, 0);
         };
         let to = v as u64;
         let label = label_number(table, x);
-        if label_cut(edges, delta, goal, order, live, fuel, on, s, q, label) {
+        if label_cut(edges, delta, hint, goal, order, live, fuel, on, s, q, label) {
             return true;
         }
         let r = state_on(delta, on, q, label, to);
@@ -190,7 +222,7 @@ fn is_cut(
         fuel -= 1;
         left -= 1;
     }
-    end_cut(edges, delta, goal, order, live, fuel, on, s, q, 0)
+    end_cut(edges, delta, hint, goal, order, live, fuel, on, s, q, 0)
 }
 
 // All scopes are free but the start.
@@ -241,11 +273,14 @@ pub fn standing(
     }
     let scopes = row_value(section(table, 4), 0, 0) as usize;
     let prefers = order(table);
-    let live = goal_table(edges, &delta, &sought, free);
+    let mut hint = [0u64; 1088];
+    put_hints(edges, &delta, &mut hint);
+    let live = goal_table(edges, &delta, &hint, &sought, free);
     if is_cut(
         table,
         edges,
         &delta,
+        &hint,
         &sought,
         &prefers,
         &live,

@@ -8,7 +8,7 @@ use native.Mathlib.Omega.{arith}
 use lib.Dec.{eqb, ltb}
 use lib.ListN.{length, getD, set, replicate, length-set, length-replicate, getD-replicate, List·getD-map}
 use lib.Seq.{getD-set-same, getD-set-other}
-use borrow.Author.Tests.{lt-ltb, le-ltb, eqb-true, eqb-false, ne-eqb}
+use borrow.Author.Tests.{lt-ltb, le-ltb, eqb-true, eqb-false, eq-eqb, ne-eqb}
 use Rattle.scope_graph.specs.Language.{End, stop, by}
 use Rattle.scope_graph.specs.Rows.{PackedName, Rules, language, anyOf, sameName, preferredBy, nextBy}
 use Rattle.scope_graph.specs.Order.{endOf}
@@ -20,36 +20,53 @@ use Rattle.graph_file.specs.Admission.{Row, value, blank}
 use Rattle.graph_file.specs.Format.{labelSection, pairSection, transitionSection, acceptSection, edgeSection, declarationSection}
 use Rattle.graph_file.specs.Decode.{rowsIn, lettersOf, orderPairOf, rulesOf, nameAt, edgeOf, declarationOf, graphOf}
 use Rattle.search.specs.Board.{boardOf}
-use Rattle.search.specs.Tables.{rowHops, stateOf, nextCell, placeFlag, endNumber, pairFlag, tableOrder, tableBoard}
+use Rattle.search.specs.Tables.{rowHops, stateOf, nextCell, hasState, placeFlag, endNumber, pairFlag, tableOrder, tableBoard}
+use Rattle.search.proofs.States.{state-in, state-past, states-none}
+use Rattle.search.proofs.Cells.{place-in, place-no-scope}
 use Rattle.prepared.specs.Sections.{partOf, rowsOf}
-use Rattle.prepared.specs.Tables.{tabulate, flag, stateFlag, letterOf, letterBytes, orderFlag, orderFlags, hopefulFlags, noted, notedAll, declaringFlags, goalFlag, goalFlags, usableFlag, openFlag, openFlags}
+use Rattle.prepared.specs.Tables.{tabulate, flag, stateFlag, letterOf, letterBytes, orderFlag, orderFlags, hopefulFlags, noted, notedAll, declaringFlags, statesBelow, goalCell, goalSets, usableFlag, openSets}
 use Rattle.prepared.specs.Promises.{Sound, transitionTable, acceptingTable, orderTable, hopefulTable, goalTable, openTable, LettersAre, HopefulIs, BoardIs, OrderIs, OpenIs}
 use Rattle.prepared.proofs.Fill.{tabulate-at, hopes-length}
+use Rattle.prepared.proofs.Sets.{states-at, goal-there, goal-else}
 use Rattle.prepared.proofs.Parts.{below-or}
-use Rattle.prepared.proofs.Cells.{and-second, and-first, and-rest, next-state-past}
+use Rattle.prepared.proofs.Cells.{and-second, and-first, and-rest, and-true, next-state-past}
 use Rattle.prepared.proofs.SectionLaws.{rows-in-part, row-hops}
 use Rattle.prepared.proofs.Automaton.{flag-is, state-flag-past, accepting-is, next-is, behind, behind-is, behind-equal, flag-behind, or-false, hope-is}
 
--- the flag of a scope and a state
-module _ (g : ℕ → ℕ) (s q : ℕ) where
-  place-inside : (b : Bool) → s < 64 → q < 16 → g (s * 16 + q) ≡ flag b → placeFlag (tabulate g 1024) s q ≡ b
-  unfolding placeFlag
-  place-inside b h k e =
-      rw (and-rest (ltb s 64) (ltb q 16) (lt-ltb s 64 h) ∙ lt-ltb q 16 k, placeFlag)
-      (ap (λ v. eqb v 1) (tabulate-at g 1024 (s * 16 + q) 0 (omega arith) ∙ e) ∙ flag-is b)
+-- the set of the states below 16 of which a test holds has just these, if the test fails past them
+pub states-are : (f : ℕ → Bool) (q : ℕ) → (16 ≤ q → f q ≡ false) → hasState (statesBelow f 16) q ≡ f q
+states-are f q past =
+    ⊎-elim (λ (h : q < 16). state-in (statesBelow f 16) q h ∙ ap (λ v. eqb v 1) (states-at f 16 q h) ∙ flag-is (f q))
+    (λ (h : 16 ≤ q). state-past (statesBelow f 16) q h ∙ sym (past h))
+    (below-or q 16)
 
-  place-past : (64 ≤ s) ⊎ (16 ≤ q) → placeFlag (tabulate g 1024) s q ≡ false
-  unfolding placeFlag
-  place-past (inl h) = rw (and-first (ltb s 64) (ltb q 16) (le-ltb s 64 h), placeFlag)
-  place-past (inr h) = rw (and-second (ltb s 64) (ltb q 16) (le-ltb q 16 h), placeFlag)
+-- a table of sets is a test, if each scope's set is that of the test and the test fails past the scopes
+place-is : (t : List ℕ) (s q : ℕ) (b : Bool) → (s < 64 → hasState (getD t s 0) q ≡ b) → (64 ≤ s → b ≡ false) → placeFlag t s q ≡ b
+place-is t s q b inside past =
+    ⊎-elim (λ (h : s < 64). place-in t s q h ∙ inside h) (λ (h : 64 ≤ s). place-no-scope t s q h ∙ sym (past h)) (below-or s 64)
 
-  -- a table of flags is a test, if it is so at each place of the table and the test fails past it
-  place-is : (b : Bool) → (s < 64 → q < 16 → g (s * 16 + q) ≡ flag b) → (64 ≤ s → b ≡ false) → (16 ≤ q → b ≡ false) → placeFlag (tabulate g 1024) s q ≡ b
-  place-is b e f k =
-      ⊎-elim
-      (λ (h : s < 64). ⊎-elim (λ (i : q < 16). place-inside b h i (e h i)) (λ (i : 16 ≤ q). place-past (inr i) ∙ sym (k i)) (below-or q 16))
-      (λ (h : 64 ≤ s). place-past (inl h) ∙ sym (f h))
-      (below-or s 64)
+-- the states of a scope that declares the name, and of one that does not
+goal-states : (states : ℕ) (declaring : List ℕ) (s q : ℕ) → hasState (goalCell states declaring s) q ≡ (hasState states q && stateFlag declaring s)
+goal-states states declaring s q =
+    ⊎-elim
+    (λ (y : stateFlag declaring s ≡ true).
+    ap (λ v. hasState v q) (sym (goal-there states declaring s y)) ∙ sym (and-true (hasState states q) (stateFlag declaring s) y))
+    (λ (n : stateFlag declaring s ≡ false).
+    ap (λ v. hasState v q) (sym (goal-else states declaring s n)) ∙ states-none q ∙ sym (and-second (hasState states q) (stateFlag declaring s) n))
+    (Two (stateFlag declaring s))
+
+-- one set among none
+pub one-set : (states at s q : ℕ) → s < 64 → hasState (getD (set (replicate 64 0) at states) s 0) q ≡ (eqb s at && hasState states q)
+one-set states at s q h =
+    ⊎-elim
+    (λ (y : eqb s at ≡ true).
+    let l = length-replicate {A = ℕ} 64 0 in
+    let e = eqb-true s at y in
+    rw e (ap (λ v. hasState v q) (getD-set-same (replicate 64 0) at states 0 (omega arith)) ∙ sym (and-rest (eqb at at) (hasState states q) (eq-eqb at at refl))))
+    (λ (n : eqb s at ≡ false).
+    ap (λ v. hasState v q) (getD-set-other (replicate 64 0) at s states 0 (eqb-false s at n) ∙ getD-replicate {A = ℕ} 64 s 0 0 h)
+    ∙ states-none q ∙ sym (and-first (eqb s at) (hasState states q) n))
+    (Two (eqb s at))
 
 -- the scopes that declare a name
 or-true : (b : Bool) → (b || true) ≡ true
@@ -189,15 +206,16 @@ module _ (cells : List ℕ) (sound : Sound cells) where
 
   here-eq : (x : PackedName) (s q : ℕ)
       → placeFlag (goalTable cells x) s q ≡ (anyOf (eqb q) (rulesOf cells .accept) && declaresAny (language (rulesOf cells)) (graphOf cells .declarations) s x)
-  unfolding goalFlags goalFlag
+  unfolding goalSets
   here-eq x s q =
-      place-is _ s q _
-      (λ h k.
-      let d : (s * 16 + q) / 16 ≡ s = omega arith in
-      let m : (s * 16 + q) % 16 ≡ q = omega arith in
-      rw (d, m, accept-eq q, declared-eq x s h))
+      let declaring = declaringFlags x (rowsOf (partOf declarationSection cells)) in
+      let states = statesBelow (stateFlag (acceptingTable cells)) 16 in
+      place-is (goalTable cells x) s q _
+      (λ h.
+      ap (λ v. hasState v q) (tabulate-at (goalCell states declaring) 64 s 0 h)
+      ∙ goal-states states declaring s q
+      ∙ rw (states-are (stateFlag (acceptingTable cells)) q (λ k. accept-eq q ∙ accept-past q k), accept-eq q, declared-eq x s h))
       (λ h. and-second (anyOf (eqb q) (rulesOf cells .accept)) (declaresAny (language (rulesOf cells)) (graphOf cells .declarations) s x) (declared-past x s h))
-      (λ h. and-first (anyOf (eqb q) (rulesOf cells .accept)) (declaresAny (language (rulesOf cells)) (graphOf cells .declarations) s x) (accept-past q h))
 
   hops-eq : (s : ℕ) → rowHops (partOf edgeSection cells) s ≡ hopsAt (language (rulesOf cells)) (graphOf cells .edges) s
   unfolding graphOf
@@ -235,15 +253,12 @@ module _ (cells : List ℕ) (sound : Sound cells) where
 
     open-eq : (at end : ℕ) → at < 64 → (s q : ℕ) → placeFlag (openTable cells at end) s q
         ≡ (eqb s at && usable (language (rulesOf cells)) q (openEnd (language (rulesOf cells)) (graphOf cells) query (endOf end)))
-    unfolding openFlags openFlag
+    unfolding openSets
     open-eq at end i s q =
-        place-is _ s q _
-        (λ h k.
-        let d : (s * 16 + q) / 16 ≡ s = omega arith in
-        let m : (s * 16 + q) % 16 ≡ q = omega arith in
-        rw (d, m, usable-eq q end))
+        let f : ℕ → Bool = λ p. usableFlag (transitionTable cells) (acceptingTable cells) (hopefulTable cells) p end in
+        place-is (openTable cells at end) s q _
+        (λ h. one-set (statesBelow f 16) at s q h ∙ ap (λ b. eqb s at && b) (states-are f q (λ k. usable-past q end k) ∙ usable-eq q end))
         (λ h. and-first (eqb s at) (usable (language (rulesOf cells)) q (openEnd (language (rulesOf cells)) (graphOf cells) query (endOf end))) (ne-eqb s at (λ e. omega arith)))
-        (λ h. and-second (eqb s at) (usable (language (rulesOf cells)) q (openEnd (language (rulesOf cells)) (graphOf cells) query (endOf end))) (sym (usable-eq q end) ∙ usable-past q end h))
 
 pub board-is : BoardIs
 unfolding tableBoard boardOf

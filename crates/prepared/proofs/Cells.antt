@@ -1,5 +1,5 @@
 -- Single cells of the tables: what a test says of them. Assumes nothing.
-use Prim.Native.Nat.{ℕ, zero, suc, _+_, _-_, _*_, _/_, _%_, _≤_, _<_}
+use Prim.Native.Nat.{ℕ, zero, suc, _+_, _-_, _*_, _≤_, _<_}
 use mathlib.Core.Path.{_≡_, refl, ap, _∙_}
 use mathlib.Core.Bool.{Bool, true, false, _&&_}
 use mathlib.Core.List.{List}
@@ -12,7 +12,7 @@ use Rattle.scope_graph.specs.Computed.{anyBelow}
 use Rattle.graph_file.specs.Admission.{Row, value}
 use Rattle.graph_file.specs.Decode.{nameAt}
 use Rattle.search.specs.Tables.{nextCell}
-use Rattle.prepared.specs.Tables.{flag, stateFlag, hopeFlag, noted, goalFlag, usableFlag, openFlag}
+use Rattle.prepared.specs.Tables.{flag, stateFlag, hopeFlag, noted, usableFlag}
 
 pub and-second : (a b : Bool) → b ≡ false → (a && b) ≡ false
 and-second true b e = e
@@ -23,6 +23,10 @@ and-first a b e = rw e
 
 pub and-rest : (a b : Bool) → a ≡ true → (a && b) ≡ b
 and-rest a b e = rw e
+
+pub and-true : (a b : Bool) → b ≡ true → (a && b) ≡ a
+and-true true b e = e
+and-true false b e = refl
 
 module _ (delta : List ℕ) (q l : ℕ) where
   pub next-state-past : 16 ≤ q → nextCell delta q l ≡ 16
@@ -76,23 +80,6 @@ module _ (delta accepting hopes : List ℕ) where
   unfolding usableFlag
   usable-stop q zero h = refl
   usable-stop q (suc l) h = absurd (omega arith)
-
-  pub open-else : (at end i : ℕ) → (i / 16 ≡ at → ⊥) → openFlag delta accepting hopes at end i ≡ 0
-  unfolding openFlag flag
-  open-else at end i h = rw (ne-eqb (i / 16) at h)
-
-  pub open-there : (at end i : ℕ) → i / 16 ≡ at → openFlag delta accepting hopes at end i ≡ flag (usableFlag delta accepting hopes (i % 16) end)
-  unfolding openFlag
-  open-there at end i h = rw (eq-eqb (i / 16) at h)
-
-module _ (accepting declaring : List ℕ) (i : ℕ) where
-  pub goal-else : stateFlag accepting (i % 16) ≡ false → goalFlag accepting declaring i ≡ 0
-  unfolding goalFlag flag
-  goal-else e = rw e
-
-  pub goal-there : stateFlag accepting (i % 16) ≡ true → goalFlag accepting declaring i ≡ flag (stateFlag declaring (i / 16))
-  unfolding goalFlag
-  goal-there e = rw e
 
 -- a declaration is noted, or passed over
 module _ (high low : ℕ) (row : Row) (flags : List ℕ) where

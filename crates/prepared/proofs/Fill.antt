@@ -43,7 +43,7 @@ filled-all f n i t d h =
     let e : i ≡ n = omega arith in
     sym (take-all n t (omega arith)) ∙ (rw e at (d .front))
 
-below-suc : (i n : ℕ) → i < suc n → (i < n) ⊎ (i ≡ n)
+pub below-suc : (i n : ℕ) → i < suc n → (i < n) ⊎ (i ≡ n)
 below-suc i n h = ⊎-elim (λ y. inl (ltb-true i n y)) (λ z. let g = ltb-false i n z in inr (omega arith)) (Two (ltb i n))
 
 -- a cell of the table

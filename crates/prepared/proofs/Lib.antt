@@ -1,8 +1,10 @@
 -- The laws that the proofs of this crate share. Assumes nothing.
 pub mod Fill
+pub mod Sets
 pub mod Parts
 pub mod Cells
 pub mod SectionLaws
 pub mod Automaton
 pub mod Board
 pub mod Accepted
+pub mod Ascending

@@ -17,8 +17,9 @@ use Rattle.graph_file.specs.File.{readCells, writeText}
 use Rattle.graph_file.specs.Decode.{rowsIn, lettersOf, rulesOf, graphOf}
 use Rattle.search.specs.Board.{boardOf}
 use Rattle.search.specs.Tables.{endNumber, placeFlag, tableBoard, tableOrder}
+use Rattle.search.specs.Steps.{Sorted}
 use Rattle.prepared.specs.Sections.{SectionsAscend, partOf, rowsOf}
-use Rattle.prepared.specs.Tables.{tabulate, stateFlag, letterBytes, transitionCells, acceptingFlags, orderFlags, hopefulFlags, declaringFlags, goalFlags, openFlags}
+use Rattle.prepared.specs.Tables.{tabulate, stateFlag, letterBytes, transitionCells, acceptingFlags, orderFlags, hopefulFlags, declaringFlags, goalSets, openSets}
 
 -- what an accepted table gives: the sections stand in sequence, and values are in their ranges (01, refusals 2 and 3)
 pub record Sound (cells : List ℕ) : Type 0 where
@@ -46,10 +47,10 @@ abbrev pub hopefulTable : List ℕ → List ℕ
 hopefulTable cells = hopefulFlags (transitionTable cells) (acceptingTable cells)
 
 abbrev pub goalTable : List ℕ → PackedName → List ℕ
-goalTable cells x = goalFlags (acceptingTable cells) (declaringFlags x (rowsOf (partOf declarationSection cells)))
+goalTable cells x = goalSets (acceptingTable cells) (declaringFlags x (rowsOf (partOf declarationSection cells)))
 
 abbrev pub openTable : List ℕ → ℕ → ℕ → List ℕ
-openTable cells at end = openFlags (transitionTable cells) (acceptingTable cells) (hopefulTable cells) at end
+openTable cells at end = openSets (transitionTable cells) (acceptingTable cells) (hopefulTable cells) at end
 
 -- where the section numbers ascend, a section's rows are the rows of its part
 abbrev pub PartIs : Type 0
@@ -84,3 +85,7 @@ ReadSound = (text cells : List ℕ) → readCells text ≡ done cells → Sound 
 
 abbrev pub WrittenSound : Type 0
 WrittenSound = (cells text : List ℕ) → writeText cells ≡ done text → Sound cells
+
+-- the edge rows of what a text is read as stand by ascending scope, as the search needs them (01, "The gym file": edges are sorted by `from` first)
+abbrev pub EdgesAscend : Type 0
+EdgesAscend = (text cells : List ℕ) → readCells text ≡ done cells → Sorted (partOf edgeSection cells)

@@ -1,5 +1,5 @@
 -- What each table of the search holds, cell by cell, for the rows of a section (crate search, Tables, says how the search reads them). Assumes nothing: these are definitions.
-use Prim.Native.Nat.{ℕ, zero, suc, _/_, _%_}
+use Prim.Native.Nat.{ℕ, zero, suc, _+_, _/_, _%_, _^_}
 use mathlib.Core.List.{List, [], _∷_, _++_, map}
 use mathlib.Core.Bool.{Bool, true, false, _&&_, _||_}
 use mathlib.Core.Option.{Option, some, none}
@@ -84,21 +84,26 @@ notedAll x (row ∷ rows) flags = notedAll x rows (noted x row flags)
 unfoldable pub declaringFlags : PackedName → List Row → List ℕ
 declaringFlags x rows = notedAll x rows (replicate 64 0)
 
--- where a path of the query may end, by scope and state: the state accepts and the scope declares the name
-unfoldable pub goalFlag : List ℕ → List ℕ → ℕ → ℕ
-goalFlag accepting declaring i = flag (stateFlag accepting (i % 16) && stateFlag declaring (i / 16))
+-- A set of states is the bits of a number (search, specs/Tables): the bit of a state, if so; the set of the states below n of which `f` says so.
+unfoldable pub bitIf : Bool → ℕ → ℕ
+bitIf b q = elim b [ true ↦ 2 ^ q | false ↦ 0 ]
 
-unfoldable pub goalFlags : List ℕ → List ℕ → List ℕ
-goalFlags accepting declaring = tabulate (goalFlag accepting declaring) 1024
+unfoldable pub statesBelow : (ℕ → Bool) → ℕ → ℕ
+statesBelow f zero = 0
+statesBelow f (suc n) = statesBelow f n + bitIf (f n) n
 
--- Where an open pair's end is usable, by scope and state: at its scope, in a state that accepts (end mark), or with a transition by the label to a state from which
+-- where a path of the query may end, a set of states for each scope: those that accept, where the scope declares the name
+unfoldable pub goalCell : ℕ → List ℕ → ℕ → ℕ
+goalCell states declaring s = elim (stateFlag declaring s) [ true ↦ states | false ↦ 0 ]
+
+unfoldable pub goalSets : List ℕ → List ℕ → List ℕ
+goalSets accepting declaring = tabulate (goalCell (statesBelow (stateFlag accepting) 16) declaring) 64
+
+-- Where an open pair's end is usable, a set of states for each scope: at its scope, in a state that accepts (end mark), or with a transition by the label to a state from which
 -- transitions lead on. An end is 0 for the end mark and n + 1 for the label n.
 unfoldable pub usableFlag : List ℕ → List ℕ → List ℕ → ℕ → ℕ → Bool
 usableFlag delta accepting hopeful q zero = stateFlag accepting q
 usableFlag delta accepting hopeful q (suc l) = stateFlag hopeful (nextCell delta q l)
 
-unfoldable pub openFlag : List ℕ → List ℕ → List ℕ → ℕ → ℕ → ℕ → ℕ
-openFlag delta accepting hopeful at end i = flag (eqb (i / 16) at && usableFlag delta accepting hopeful (i % 16) end)
-
-unfoldable pub openFlags : List ℕ → List ℕ → List ℕ → ℕ → ℕ → List ℕ
-openFlags delta accepting hopeful at end = tabulate (openFlag delta accepting hopeful at end) 1024
+unfoldable pub openSets : List ℕ → List ℕ → List ℕ → ℕ → ℕ → List ℕ
+openSets delta accepting hopeful at end = set (replicate 64 0) at (statesBelow (λ q. usableFlag delta accepting hopeful q end) 16)

@@ -8,7 +8,7 @@ use text_field::cell;
 ghost use mathlib.Core.Path.{_≡_};
 ghost use mathlib.Core.Bool.{Bool, _&&_, _||_};
 ghost use mathlib.Core.List.{List, [], _∷_, map};
-ghost use Prim.Native.Nat.{ℕ, _+_, _/_, _%_};
+ghost use Prim.Native.Nat.{ℕ, _+_, _/_, _%_, _<_};
 ghost use lib.Dec.{eqb};
 ghost use lib.ListN.{getD, drop};
 ghost use Rattle.scope_graph.specs.Rows.{PackedName, anyOf, preferredBy, nextBy};
@@ -18,7 +18,7 @@ ghost use Rattle.graph_file.specs.Admission.{Row, value, rowOf};
 ghost use Rattle.graph_file.specs.Decode.{orderPairOf, transitionOf};
 ghost use Rattle.search.specs.Tables.{nextCell};
 ghost use Rattle.prepared.specs.Sections.{startOf, partOf, rowsOf};
-ghost use Rattle.prepared.specs.Tables.{flag, stateFlag, stateCell, transitionCell, transitionCells, acceptingFlag, acceptingFlags, letterOf, letterBytes, orderFlag, orderFlags, hopeFlag, roundFlags, hopesAfter, hopefulFlags, noted, notedAll, declaringFlags, goalFlag, goalFlags, usableFlag, openFlag, openFlags};
+ghost use Rattle.prepared.specs.Tables.{flag, stateFlag, stateCell, transitionCell, transitionCells, acceptingFlag, acceptingFlags, letterOf, letterBytes, orderFlag, orderFlags, hopeFlag, roundFlags, hopesAfter, hopefulFlags, noted, notedAll, declaringFlags, tabulate, bitIf, statesBelow, goalCell, goalSets, usableFlag, openSets};
 
 // The place of the first row whose section number is k or more; where the whole rows end, if there is none.
 pub fn rows_start(table: &[u64], k: u64) -> usize
@@ -65,7 +65,7 @@ fn flag(b: bool) -> u8
     if b { 1 } else { 0 }
 }
 
-// The flag of a state.
+// The flag of a state or a scope.
 fn state_flag(t: &[u8], q: u64) -> bool
     ensures { λ r. ⌜ r ≡ stateFlag (now (t .entry)) q ⌝ }
 {
@@ -336,34 +336,52 @@ fn declaring(rows: &[u64], high: u64, low: u64) -> [u8; 64]
     flags
 }
 
-// The table's cell i, for scope i / 16 and state i % 16.
-fn goal_cell(accepting: &[u8], declaring: &[u8], i: u64) -> u8
-    ensures { λ r. ⌜ r ≡ goalFlag (now (accepting .entry)) (now (declaring .entry)) i ⌝ }
+// The bit of the state, if it has the flag.
+fn state_bit(flags: &[u8], q: u64) -> u64
+    requires { ⌜ q < 16 ⌝ }
+    ensures { λ r. ⌜ r ≡ bitIf (stateFlag (now (flags .entry)) q) q ⌝ }
 {
-    if state_flag(accepting, i % 16) {
-        return flag(state_flag(declaring, i / 16));
-    }
-    0
+    if state_flag(flags, q) { 1 << q } else { 0 }
 }
 
-fn goal_table(accepting: &[u8], declaring: &[u8]) -> [u8; 1024]
-    ensures { λ r. ⌜ r ≡ goalFlags (now (accepting .entry)) (now (declaring .entry)) ⌝ }
+// The states that have the flag, as a set.
+fn state_set(flags: &[u8]) -> u64
+    ensures { λ r. ⌜ r ≡ statesBelow (stateFlag (now (flags .entry))) 16 ⌝ }
 {
-    let mut t = [0; 1024];
-    let mut i: u64 = 0;
-    while i < 1024 {
-        t[i as usize] = goal_cell(accepting, declaring, i);
-        i += 1;
+    let mut out: u64 = 0;
+    let mut q: u64 = 0;
+    while q < 16 {
+        out = out + state_bit(flags, q);
+        q += 1;
+    }
+    out
+}
+
+// The set of a scope: all of `states` if it declares the name, else none.
+fn goal_cell(states: u64, declaring: &[u8], s: u64) -> u64
+    ensures { λ r. ⌜ r ≡ goalCell states (now (declaring .entry)) s ⌝ }
+{
+    if state_flag(declaring, s) { states } else { 0 }
+}
+
+fn goal_table(states: u64, declaring: &[u8]) -> [u64; 64]
+    ensures { λ r. ⌜ r ≡ tabulate (goalCell states (now (declaring .entry))) 64 ⌝ }
+{
+    let mut t = [0; 64];
+    let mut s: u64 = 0;
+    while s < 64 {
+        t[s as usize] = goal_cell(states, declaring, s);
+        s += 1;
     }
     t
 }
 
-// A flag for each scope and state, at scope * 16 + state: the state accepts and the scope declares the name.
-pub fn goal(table: &[u64], accepting: &[u8], high: u64, low: u64) -> [u8; 1024]
-    ensures { λ r. ⌜ r ≡ goalFlags (now (accepting .entry)) (declaringFlags (record { high = high; low = low }) (rowsOf (partOf 6 (now (table .entry))))) ⌝ }
+// A set of states for each scope: those that accept, where the scope declares the name.
+pub fn goal(table: &[u64], accepting: &[u8], high: u64, low: u64) -> [u64; 64]
+    ensures { λ r. ⌜ r ≡ goalSets (now (accepting .entry)) (declaringFlags (record { high = high; low = low }) (rowsOf (partOf 6 (now (table .entry))))) ⌝ }
 {
     let found = declaring(section(table, 6), high, low);
-    goal_table(accepting, &found)
+    goal_table(state_set(accepting), &found)
 }
 
 // Is the end usable in the state?
@@ -376,25 +394,38 @@ pub fn usable(delta: &[u64], accepting: &[u8], hopeful: &[u8], q: u64, end: u64)
     state_flag(hopeful, next_cell(delta, q, end - 1))
 }
 
-// The table's cell i, for scope i / 16 and state i % 16.
-fn open_cell(delta: &[u64], accepting: &[u8], hopeful: &[u8], at: u64, end: u64, i: u64) -> u8
-    ensures { λ r. ⌜ r ≡ openFlag (now (delta .entry)) (now (accepting .entry)) (now (hopeful .entry)) at end i ⌝ }
+// The bit of the state, if the end is usable in it.
+fn usable_bit(delta: &[u64], accepting: &[u8], hopeful: &[u8], end: u64, q: u64) -> u64
+    requires { ⌜ q < 16 ⌝ }
+    ensures { λ r. ⌜ r ≡ bitIf (usableFlag (now (delta .entry)) (now (accepting .entry)) (now (hopeful .entry)) q end) q ⌝ }
 {
-    if i / 16 != at {
-        return 0;
+    if usable(delta, accepting, hopeful, q, end) {
+        1 << q
+    } else {
+        0
     }
-    flag(usable(delta, accepting, hopeful, i % 16, end))
 }
 
-// A flag for each scope and state: the scope is the open pair's, and its end is usable in the state.
-pub fn open_goal(delta: &[u64], accepting: &[u8], hopeful: &[u8], at: u64, end: u64) -> [u8; 1024]
-    ensures { λ r. ⌜ r ≡ openFlags (now (delta .entry)) (now (accepting .entry)) (now (hopeful .entry)) at end ⌝ }
+// The states in which the end is usable, as a set.
+fn usable_set(delta: &[u64], accepting: &[u8], hopeful: &[u8], end: u64) -> u64
+    ensures { λ r. ⌜ r ≡ statesBelow (λ q. usableFlag (now (delta .entry)) (now (accepting .entry)) (now (hopeful .entry)) q end) 16 ⌝ }
 {
-    let mut t = [0; 1024];
-    let mut i: u64 = 0;
-    while i < 1024 {
-        t[i as usize] = open_cell(delta, accepting, hopeful, at, end, i);
-        i += 1;
+    let mut out: u64 = 0;
+    let mut q: u64 = 0;
+    while q < 16 {
+        out = out + usable_bit(delta, accepting, hopeful, end, q);
+        q += 1;
+    }
+    out
+}
+
+// A set of states for each scope: those in which the open pair's end is usable at the pair's scope, none at any other.
+pub fn open_goal(delta: &[u64], accepting: &[u8], hopeful: &[u8], at: u64, end: u64) -> [u64; 64]
+    ensures { λ r. ⌜ r ≡ openSets (now (delta .entry)) (now (accepting .entry)) (now (hopeful .entry)) at end ⌝ }
+{
+    let mut t = [0; 64];
+    if at < 64 {
+        t[at as usize] = usable_set(delta, accepting, hopeful, end);
     }
     t
 }

@@ -18,7 +18,7 @@ use Rattle.follow.specs.Text.{headLine, rowsLine, foundText, letterOf, endText}
 use Rattle.resolution.specs.declared.text.Awaits.{Awaits}
 use Rattle.resolution.specs.declared.text.Awaits.the-variants.{Settled, Pair}
 use Rattle.graph_file.specs.Format.{countSection, edgeSection, declarationSection}
-use Rattle.prepared.specs.Tables.{openFlags}
+use Rattle.prepared.specs.Tables.{openSets}
 use Rattle.follow.specs.declared.Budget.{Budget}
 use Rattle.follow.specs.declared.Budget.the-variants.{Left, Over}
 use Rattle.follow.specs.declared.Tally.{Tally}
@@ -131,7 +131,7 @@ walk-asked cells mode letters delta goal order start high low seek e st w edges 
 
 -- an open pair's walk seeks its places
 pub followed-asked : (cells letters delta accepts hopes goal order : List ℕ) (start high low at end : ℕ) (seek : List ℕ) (o : List ℕ) (t : Tally) (r : Bool)
-    → seek ≡ openFlags delta accepts hopes at end
+    → seek ≡ openSets delta accepts hopes at end
     → _≡_ {A = State} (o, t) (walkWith cells 3 letters delta goal order start high low seek end (0 ∷ [], record { place = 0; budget = Left 0 }))
     → r ≡ isOver (t .budget) → r ≡ followedBy cells letters delta accepts hopes goal order start high low at end
 unfolding followedBy

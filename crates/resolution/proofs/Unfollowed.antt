@@ -1,57 +1,48 @@
 -- An open pair whose places are all away from the start is not followed, and a query's tables are ready. Assumes nothing.
-use Prim.Native.Nat.{ℕ, zero, suc, _+_, _*_, _/_, _%_, _≤_, _<_}
+use Prim.Native.Nat.{ℕ, zero, suc, _<_}
 use mathlib.Core.Path.{_≡_, refl, sym, ap, _∙_, fun-ext}
 use mathlib.Core.Bool.{Bool, true, false, not, _&&_, _||_}
-use mathlib.Core.Logic.{_⊎_, inl, inr, ⊎-elim}
 use mathlib.Core.List.{List, [], _∷_, _++_, flatMap}
 use native.Mathlib.Omega.{arith}
-use borrow.Author.Tests.{eqb-true, eq-eqb}
+use borrow.Author.Tests.{eqb-true}
 use lib.Dec.{eqb, leb}
-use lib.ListN.{length, getD, set, replicate, length-set, length-replicate}
+use lib.ListN.{getD, set, replicate}
 use Rattle.scope_graph.specs.Language.{End, stop, by}
 use Rattle.scope_graph.specs.Order.{endOf}
 use Rattle.scope_graph.specs.Rows.{anyOf}
 use Rattle.scope_graph.specs.Computed.{NodeOf}
-use Rattle.scope_graph.specs.Path.{HopOf}
 use Rattle.scope_graph.proofs.Lists.{and-left, and-right}
 use Rattle.graph_file.specs.Format.{countSection, edgeSection, declarationSection}
 use Rattle.graph_file.specs.Admission.{value, blank}
 use Rattle.search.specs.Board.{Board, without, leadsOn, nodeAt, cutHere, ownHit, hopHits, hitsFrom}
 use Rattle.search.specs.Live.{Closed, any-way}
-use Rattle.search.specs.Tables.{placeFlag, pairFlag, freeFlag, endNumber, tableOrder, tableBoard}
-use Rattle.search.specs.Steps.{wayOf}
+use Rattle.search.specs.Tables.{hasState, placeFlag, pairFlag, freeFlag, endNumber, tableOrder, tableBoard}
+use Rattle.search.specs.Steps.{Sorted, wayOf}
 use Rattle.search.proofs.RulesLists.{flatMap-same}
-use Rattle.search.proofs.Closed.{closed-hits}
-use Rattle.search.proofs.Cells.{place-scope, place-state, place-cell, free-below, free-taken, way-is-open}
+use Rattle.search.proofs.Closed.{without-within, closed-hits}
+use Rattle.search.proofs.Cells.{place-scope, place-state, place-held, way-is-open}
 use Rattle.prepared.specs.Sections.{partOf, rowsOf}
-use Rattle.prepared.specs.Tables.{tabulate, flag, usableFlag, openFlag, openFlags, declaringFlags, goalFlags}
+use Rattle.prepared.specs.Tables.{statesBelow, usableFlag, openSets, declaringFlags, goalSets}
 use Rattle.prepared.specs.Promises.{transitionTable, acceptingTable, orderTable, goalTable}
-use Rattle.prepared.proofs.Fill.{tabulate-at}
-use Rattle.follow.specs.declared.Budget.{Budget}
-use Rattle.follow.specs.declared.Budget.the-variants.{Left, Over}
+use Rattle.prepared.proofs.Board.{states-are, one-set}
+use Rattle.prepared.proofs.Ascending.{edges-ascend}
+use Rattle.follow.specs.declared.Budget.the-variants.{Left}
 use Rattle.follow.specs.Pour.{State, spend, pour}
 use Rattle.follow.specs.Walk.{placeBytes, bytesFrom, walked}
 use Rattle.resolution.specs.declared.tables.Tables.{Tables}
-use Rattle.resolution.specs.Asked.{freeAt, LiveAt, WorthAt, Ready, barred, IsAway, walkWith, letterTable, isOver, followedBy}
-
--- a flag that is set
-flag-set : (b : Bool) → flag b ≡ 1 → b ≡ true
-unfolding flag
-flag-set true e = refl
-flag-set false e = let z : _≡_ {A = ℕ} 0 1 = e in absurd (omega arith)
+use Rattle.resolution.specs.Asked.{WasRead, LiveAt, WorthAt, AwayAt, Ready, barred, IsAway, walkWith, letterTable, isOver, followedBy}
+use Rattle.resolution.proofs.Walked.{full-free}
 
 -- a place that an open pair asks for is at its scope, in a state where its end is usable
-pub open-place : (delta accepts hopes : List ℕ) (at end s q : ℕ) → placeFlag (openFlags delta accepts hopes at end) s q ≡ true
+pub open-place : (delta accepts hopes : List ℕ) (at end s q : ℕ) → placeFlag (openSets delta accepts hopes at end) s q ≡ true
     → (s ≡ at) × (usableFlag delta accepts hopes q end ≡ true)
-unfolding openFlags openFlag
+unfolding openSets
 open-place delta accepts hopes at end s q h =
+    let f : ℕ → Bool = λ p. usableFlag delta accepts hopes p end in
     let below : s < 64 = place-scope _ s q h in
     let few : q < 16 = place-state _ s q h in
-    let d : (s * 16 + q) / 16 ≡ s = omega arith in
-    let m : (s * 16 + q) % 16 ≡ q = omega arith in
-    let f : openFlag delta accepts hopes at end (s * 16 + q) ≡ 1 = sym (tabulate-at (openFlag delta accepts hopes at end) 1024 (s * 16 + q) 0 (omega arith)) ∙ place-cell _ s q h in
-    let b : (eqb s at && usableFlag delta accepts hopes q end) ≡ true = flag-set _ (rw (d, m) at f) in
-    (eqb-true s at (and-left (eqb s at) _ b), and-right (eqb s at) _ b)
+    let b : (eqb s at && hasState (statesBelow f 16) q) ≡ true = sym (one-set (statesBelow f 16) at s q below) ∙ place-held _ s q h in
+    (eqb-true s at (and-left (eqb s at) _ b), sym (states-are f q (λ k. absurd (omega arith))) ∙ and-right (eqb s at) _ b)
 
 -- a barred place
 module _ (goal order away : List ℕ) (at end q : ℕ) where
@@ -105,17 +96,17 @@ bar false false h k = h
 
 module _ (cells letters delta accepts hopes goal order : List ℕ) (start high low at end : ℕ) (away : List ℕ) where
   abbrev seek : List ℕ
-  seek = openFlags delta accepts hopes at end
+  seek = openSets delta accepts hopes at end
 
   abbrev edges : List ℕ
   edges = partOf edgeSection cells
 
-  abbrev free : List ℕ
-  free = set (replicate 64 1) start 0
+  abbrev ones : List ℕ
+  ones = replicate 64 1
 
   -- the table of what is away is closed for the pair's places too, but for those where stopping cuts its end
-  away-closed : WorthAt cells delta goal order [] start away → IsAway delta accepts hopes goal order away start at end
-      → Closed (tableBoard edges delta goal) 64 (open-seek (tableBoard edges delta goal) (tableOrder order) (placeFlag seek) (endOf end)) (wayOf goal order true) (freeAt start) (placeFlag away)
+  away-closed : AwayAt cells delta goal order away → IsAway delta accepts hopes goal order away start at end
+      → Closed (tableBoard edges delta goal) (open-seek (tableBoard edges delta goal) (tableOrder order) (placeFlag seek) (endOf end)) (wayOf goal order true) (freeFlag ones) (placeFlag away)
   unfolding tableBoard barred
   away-closed c a = record {
     asked = λ s q h.
@@ -127,19 +118,16 @@ module _ (cells letters delta accepts hopes goal order : List ℕ) (start high l
     back = c .back;
   }
 
-  size : length free ≡ 64
-  size = simp length-set (length-replicate {A = ℕ} 64 1)
-
-  no-hits : (fuel : ℕ) → WorthAt cells delta goal order [] start away → IsAway delta accepts hopes goal order away start at end
+  no-hits : (fuel : ℕ) → AwayAt cells delta goal order away → IsAway delta accepts hopes goal order away start at end
       → hitsFrom (tableBoard edges delta goal) (tableOrder order) (placeFlag seek) (endOf end) fuel (without (freeFlag (replicate 64 1)) start) start 0 ≡ []
   no-hits fuel c a =
       hits-same (tableBoard edges delta goal) (tableOrder order) (placeFlag seek) (endOf end) fuel (without (freeFlag (replicate 64 1)) start) start 0
-      ∙ closed-hits (tableBoard edges delta goal) 64 (freeFlag free) (placeFlag away) (λ n y. rw size at (free-below free n y)) (tableOrder order)
+      ∙ closed-hits (tableBoard edges delta goal) (freeFlag ones) (placeFlag away) (tableOrder order)
       (open-seek (tableBoard edges delta goal) (tableOrder order) (placeFlag seek) (endOf end)) (endOf end)
-      (rw (way-is-open edges delta goal order) at (away-closed c a)) fuel (without (freeFlag (replicate 64 1)) start) start 0
-      (λ t h. ap (λ (f : ℕ → Bool). f t) (free-taken (replicate 64 1) start) ∙ h) (a .inside) (a .begins)
+      (rw (way-is-open edges delta goal order) at (away-closed c a)) fuel (without (freeFlag ones) start) start 0
+      (without-within (freeFlag ones) (freeFlag ones) start (λ t h. h)) (full-free 64 start (a .inside)) (a .begins)
 
-  pub unfollowed : WorthAt cells delta goal order [] start away → IsAway delta accepts hopes goal order away start at end
+  pub unfollowed : AwayAt cells delta goal order away → IsAway delta accepts hopes goal order away start at end
       → followedBy cells letters delta accepts hopes goal order start high low at end ≡ false
   unfolding followedBy walkWith walked bytesFrom pour spend isOver flatMap
   unfollowed c a = one (leb (value (getD (rowsOf (partOf countSection cells)) 0 blank) 0) 64)
@@ -161,12 +149,21 @@ module _ (cells letters delta accepts hopes goal order : List ℕ) (start high l
 
 -- a table that is made for the scopes that are free at the start, over the table's edges
 module _ (cells delta goal order seek edges ones : List ℕ) (start : ℕ) (e : edges ≡ partOf edgeSection cells) (f : ones ≡ set (replicate 64 1) start 0) where
-  pub live-at : (live : List ℕ) → Closed (tableBoard edges delta goal) 64 (placeFlag goal) (any-way (tableBoard edges delta goal)) (freeFlag ones) (placeFlag live) → LiveAt cells delta goal start live
+  pub live-at : (live : List ℕ) → Closed (tableBoard edges delta goal) (placeFlag goal) (any-way (tableBoard edges delta goal)) (freeFlag ones) (placeFlag live) → LiveAt cells delta goal start live
   live-at live c = rw (e, f) at c
 
-  pub worth-at : (worth : List ℕ) → Closed (tableBoard edges delta goal) 64 (placeFlag seek) (wayOf goal order true) (freeFlag ones) (placeFlag worth)
+  pub worth-at : (worth : List ℕ) → Closed (tableBoard edges delta goal) (placeFlag seek) (wayOf goal order true) (freeFlag ones) (placeFlag worth)
       → WorthAt cells delta goal order seek start worth
   worth-at worth c = rw (e, f) at c
+
+-- the edges of a table that was read stand by ascending scope
+pub read-sorted : (cells : List ℕ) → WasRead cells → Sorted (partOf edgeSection cells)
+read-sorted cells r = edges-ascend (r .0) cells (r .1)
+
+-- a table that is made with all scopes free, over the table's edges
+pub away-at : (cells delta goal order edges away : List ℕ) → edges ≡ partOf edgeSection cells
+    → Closed (tableBoard edges delta goal) (placeFlag []) (wayOf goal order true) (freeFlag (replicate 64 1)) (placeFlag away) → AwayAt cells delta goal order away
+away-at cells delta goal order edges away e c = rw e at c
 
 -- a table that is closed for any step is closed for steps that are not cut
 pub live-worth : (cells delta goal order : List ℕ) (start : ℕ) (live : List ℕ) → LiveAt cells delta goal start live → WorthAt cells delta goal order goal start live
@@ -186,6 +183,6 @@ walk-ready cells mode start high low t st w r h =
 
 -- where a path may end, by the table's accepting states
 pub goal-ready : (cells : List ℕ) (high low : ℕ) (accepts goal : List ℕ) → accepts ≡ acceptingTable cells
-    → goal ≡ goalFlags accepts (declaringFlags (record { high = high; low = low }) (rowsOf (partOf declarationSection cells)))
+    → goal ≡ goalSets accepts (declaringFlags (record { high = high; low = low }) (rowsOf (partOf declarationSection cells)))
     → goal ≡ goalTable cells (record { high = high; low = low })
-goal-ready cells high low accepts goal a g = g ∙ ap (λ (l : List ℕ). goalFlags l (declaringFlags (record { high = high; low = low }) (rowsOf (partOf declarationSection cells)))) a
+goal-ready cells high low accepts goal a g = g ∙ ap (λ (l : List ℕ). goalSets l (declaringFlags (record { high = high; low = low }) (rowsOf (partOf declarationSection cells)))) a

@@ -23,7 +23,7 @@ use Rattle.search.specs.Tables.{placeFlag, freeFlag, endNumber, tableOrder, tab
 use Rattle.search.proofs.Rules.{entries-are-hits, followed-is-hit}
 use Rattle.search.proofs.RulesLists.{flatMap-same}
 use Rattle.prepared.specs.Sections.{partOf, rowsOf}
-use Rattle.prepared.specs.Tables.{transitionCells, acceptingFlags, letterBytes, orderFlags, hopefulFlags, declaringFlags, goalFlags, openFlags}
+use Rattle.prepared.specs.Tables.{transitionCells, acceptingFlags, letterBytes, orderFlags, hopefulFlags, declaringFlags, goalSets, openSets}
 use Rattle.follow.specs.Text.{letterOf, hopsText, rowText}
 use Rattle.follow.specs.declared.Budget.{Budget}
 use Rattle.follow.specs.declared.Budget.the-variants.{Left, Over}
@@ -101,10 +101,10 @@ module _ (cells : List ℕ) where
   orderOf = orderFlags (rowsOf (partOf 1 cells))
 
   abbrev pub goalOf : ℕ → ℕ → List ℕ
-  goalOf high low = goalFlags acceptingOf (declaringFlags (record { high = high; low = low }) (rowsOf declsOf))
+  goalOf high low = goalSets acceptingOf (declaringFlags (record { high = high; low = low }) (rowsOf declsOf))
 
   abbrev pub openOf : ℕ → ℕ → List ℕ
-  openOf at end = openFlags deltaOf acceptingOf (hopefulFlags deltaOf acceptingOf) at end
+  openOf at end = openSets deltaOf acceptingOf (hopefulFlags deltaOf acceptingOf) at end
 
   -- They are the rules' own.
   pub record TablesAre : Type 0 where
@@ -128,7 +128,8 @@ unfolding isOver spend anyOf
 over-any [] = refl
 over-any (a ∷ l) = rw (lt-leb (length (a ∷ l)) 0 (omega arith), spend, isOver)
 
-full-free : (n t : ℕ) → t < n → freeFlag (replicate n 1) t ≡ true
+-- with all scopes free each below their number is
+pub full-free : (n t : ℕ) → t < n → freeFlag (replicate n 1) t ≡ true
 unfolding freeFlag
 full-free zero t h = absurd (omega arith)
 full-free (suc n) zero h = refl

@@ -20,7 +20,7 @@ use Rattle.prepared.specs.Sections.{partOf, rowsOf}
 use Rattle.search.specs.Live.{Closed, any-way}
 use Rattle.search.specs.Tables.{placeFlag, pairFlag, freeFlag, tableBoard}
 use Rattle.search.specs.Steps.{wayOf}
-use Rattle.prepared.specs.Tables.{letterBytes, usableFlag, openFlags}
+use Rattle.prepared.specs.Tables.{letterBytes, usableFlag, openSets}
 use Rattle.prepared.specs.Promises.{transitionTable, orderTable, goalTable}
 use Rattle.follow.specs.declared.Budget.{Budget}
 use Rattle.follow.specs.declared.Budget.the-variants.{Left, Over}
@@ -62,11 +62,16 @@ freeAt start = freeFlag (set (replicate 64 1) start 0)
 -- asked for by steps that are not cut
 abbrev pub LiveAt : (cells delta goal : List ℕ) → ℕ → List ℕ → Type 0
 LiveAt cells delta goal start live =
-    Closed (tableBoard (partOf edgeSection cells) delta goal) 64 (placeFlag goal) (any-way (tableBoard (partOf edgeSection cells) delta goal)) (freeAt start) (placeFlag live)
+    Closed (tableBoard (partOf edgeSection cells) delta goal) (placeFlag goal) (any-way (tableBoard (partOf edgeSection cells) delta goal)) (freeAt start) (placeFlag live)
 
 abbrev pub WorthAt : (cells delta goal order seek : List ℕ) → ℕ → List ℕ → Type 0
 WorthAt cells delta goal order seek start worth =
-    Closed (tableBoard (partOf edgeSection cells) delta goal) 64 (placeFlag seek) (wayOf goal order true) (freeAt start) (placeFlag worth)
+    Closed (tableBoard (partOf edgeSection cells) delta goal) (placeFlag seek) (wayOf goal order true) (freeAt start) (placeFlag worth)
+
+-- the same of the table of places that are away from the start, made with all scopes free: the start's own place is asked about too
+abbrev pub AwayAt : (cells delta goal order away : List ℕ) → Type 0
+AwayAt cells delta goal order away =
+    Closed (tableBoard (partOf edgeSection cells) delta goal) (placeFlag []) (wayOf goal order true) (freeFlag (replicate 64 1)) (placeFlag away)
 
 -- a query's tables are those of the table that was read, and the table of places is closed
 pub record Ready (cells : List ℕ) (start high low : ℕ) (t : Tables) : Type 0 where
@@ -115,7 +120,7 @@ isOver Over = true
 module _ (cells letters delta accepts hopes goal order : List ℕ) (start high low : ℕ) where
   unfoldable pub followedBy : ℕ → ℕ → Bool
   followedBy at end =
-      isOver ((walkWith cells 3 letters delta goal order start high low (openFlags delta accepts hopes at end) end (0 ∷ [], record { place = 0; budget = Left 0 })) .1 .budget)
+      isOver ((walkWith cells 3 letters delta goal order start high low (openSets delta accepts hopes at end) end (0 ∷ [], record { place = 0; budget = Left 0 })) .1 .budget)
 
   unfoldable pub firstFollowed : List Row → Awaits
   firstFollowed [] = Settled

@@ -2,6 +2,7 @@
 use crate::parts::row_count;
 use crate::parts::row_value;
 use crate::tables::Tables;
+use crate::tables::hint_table;
 use crate::tables::tables_of;
 use crate::text::put_head;
 use crate::walks::awaits_of;
@@ -23,12 +24,20 @@ ghost use Rattle.resolution.specs.Listing.{listingText, listingOf, listi
 ghost use Rattle.resolution.specs.Asked.{WasRead, Asked, Prepared, queryFrom, queryHead};
 
 // The listing up to its rows.
-fn put_heading(table: &[u64], t: Tables, start: u64, high: u64, low: u64, out: &mut [u8]) -> usize
+fn put_heading(
+    table: &[u64],
+    t: Tables,
+    hint: &[u64],
+    start: u64,
+    high: u64,
+    low: u64,
+    out: &mut [u8],
+) -> usize
     requires { ⌜ Prepared (now table) start high low t ⌝ }
     ensures { λ r. ⌜ _≡_ {A = Buf} (now (out .exit), r) (puts (now (out .entry), 0) (queryHead (now (table .entry)) (queryFrom (now (table .entry)) start high low))) ⌝ }
 {
-    let f = found_of(table, t, start, high, low);
-    let a = awaits_of(table, t, start, high, low);
+    let f = found_of(table, t, hint, start, high, low);
+    let a = awaits_of(table, t, hint, start, high, low);
     let letters = t.letters;
     put_head(out, &letters, start, high, low, f, a)
 }
@@ -40,18 +49,20 @@ fn list(table: &[u64], start: u64, high: u64, low: u64, out: &mut [u8]) -> Answe
     ensures { λ r. ⌜ answerOf r ≡ answer (done (listingText (now (table .entry)) (queryFrom (now (table .entry)) start high low))) (length (now (out .entry))) ⌝ }
     ensures { λ r. ⌜ now (out .exit) ≡ leaves (done (listingText (now (table .entry)) (queryFrom (now (table .entry)) start high low))) (now (out .entry)) ⌝ }
 {
-    let t = tables_of(table, start, high, low);
+    let mut hint = [0u64; 1088];
+    hint_table(table, &mut hint);
+    let t = tables_of(table, &hint, start, high, low);
     let room = out.len();
-    let Budget::Left(left) = rows_room(table, t, start, high, low, room) else {
+    let Budget::Left(left) = rows_room(table, t, &hint, start, high, low, room) else {
         return Answer::Refused(9);
     };
     let mut head = [0u8; 128];
-    let n = put_heading(table, t, start, high, low, &mut head);
+    let n = put_heading(table, t, &hint, start, high, low, &mut head);
     if left < n {
         return Answer::Refused(9);
     }
     let k = put_bytes(out, 0, &head[..n]);
-    Answer::Written(put_rows(table, t, start, high, low, out, k))
+    Answer::Written(put_rows(table, t, &hint, start, high, low, out, k))
 }
 
 // The listing of a query of a table that was read.

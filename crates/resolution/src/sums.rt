@@ -1,6 +1,7 @@
 // The summary: how many queries are found one, several and none, and the share of those found one.
 use crate::parts::row_count;
 use crate::parts::row_value;
+use crate::tables::hint_table;
 use crate::tables::tables_of;
 use crate::walks::found_of;
 use graph_file::Answer;
@@ -65,6 +66,8 @@ fn figures_of(table: &[u64]) -> Figures
 {
     let queries = section(table, 8);
     let n = row_count(queries);
+    let mut hint = [0u64; 1088];
+    hint_table(table, &mut hint);
     let mut c = Figures {
         one: 0,
         several: 0,
@@ -75,8 +78,8 @@ fn figures_of(table: &[u64]) -> Figures
         let start = row_value(queries, i, 0);
         let high = row_value(queries, i, 1);
         let low = row_value(queries, i, 2);
-        let t = tables_of(table, start, high, low);
-        c = counted(c, found_of(table, t, start, high, low));
+        let t = tables_of(table, &hint, start, high, low);
+        c = counted(c, found_of(table, t, &hint, start, high, low));
         i += 1;
     }
     c

@@ -18,20 +18,21 @@ use search::place;
 use text_field::cell;
 ghost use mathlib.Core.Path.{_≡_};
 ghost use mathlib.Core.Bool.{true, false};
-ghost use mathlib.Core.List.{List, []};
 ghost use Prim.Native.Nat.{ℕ, _<_};
 ghost use lib.ListN.{length};
 ghost use Rattle.scope_graph.specs.Rows.{language};
 ghost use Rattle.scope_graph.specs.Computed.{awaits};
+ghost use Rattle.graph_file.specs.Format.{edgeSection};
 ghost use Rattle.graph_file.specs.Decode.{rulesOf, graphOf, opensOf};
-ghost use Rattle.prepared.specs.Sections.{rowsOf};
+ghost use Rattle.search.specs.Steps.{Sorted};
+ghost use Rattle.prepared.specs.Sections.{partOf, rowsOf};
 ghost use Rattle.prepared.specs.Tables.{usableFlag, hopefulFlags};
 ghost use Rattle.prepared.specs.Promises.{transitionTable, orderTable, goalTable};
 ghost use Rattle.text_field.specs.Buffer.{Buf, puts};
 ghost use Rattle.follow.specs.declared.Budget.the-variants.{Left};
 ghost use Rattle.follow.specs.Pour.{State, spend};
 ghost use Rattle.resolution.specs.Listing.{foundFor, entriesText};
-ghost use Rattle.resolution.specs.Asked.{Ready, Prepared, LiveAt, WorthAt, barred, IsAway, queryFrom, walkWith, letterTable, foundNumber, roomNumber, isOver, followedBy, firstFollowed, awaitsMeaning};
+ghost use Rattle.resolution.specs.Asked.{Prepared, LiveAt, WorthAt, AwayAt, barred, IsAway, queryFrom, walkWith, letterTable, foundNumber, roomNumber, isOver, followedBy, firstFollowed, awaitsMeaning};
 
 // The walk over the table's declarations, edges and count of scopes, with the other tables given.
 fn walk_with(
@@ -39,18 +40,20 @@ fn walk_with(
     mode: u64,
     letters: &[u8],
     delta: &[u64],
-    goal: &[u8],
+    hint: &[u64],
+    goal: &[u64],
     order: &[u8],
     start: u64,
     high: u64,
     low: u64,
-    seek: &[u8],
+    seek: &[u64],
     e: u64,
-    live: &[u8],
-    worth: &[u8],
+    live: &[u64],
+    worth: &[u64],
     out: &mut [u8],
     tally: Tally,
 ) -> Tally
+    requires { ⌜ Sorted (partOf edgeSection (now table)) ⌝ }
     requires { ⌜ LiveAt (now table) (now delta) (now goal) start (now live) ⌝ }
     requires { ⌜ WorthAt (now table) (now delta) (now goal) (now order) (now seek) start (now worth) ⌝ }
     ensures { λ r. ⌜ _≡_ {A = State} (now (out .exit), r) (walkWith (now (table .entry)) mode (now (letters .entry)) (now (delta .entry)) (now (goal .entry)) (now (order .entry)) start high low (now (seek .entry)) e (now (out .entry), tally)) ⌝ }
@@ -67,6 +70,7 @@ fn walk_with(
         start,
         edges,
         delta,
+        hint,
         goal,
         order,
         seek,
@@ -83,6 +87,7 @@ fn walk_with(
 fn walk_entries(
     table: &[u64],
     t: Tables,
+    hint: &[u64],
     mode: u64,
     start: u64,
     high: u64,
@@ -90,7 +95,7 @@ fn walk_entries(
     out: &mut [u8],
     tally: Tally,
 ) -> Tally
-    requires { ⌜ Ready (now table) start high low t ⌝ }
+    requires { ⌜ Prepared (now table) start high low t ⌝ }
     ensures { λ r. ⌜ _≡_ {A = State} (now (out .exit), r) (walkWith (now (table .entry)) mode (letterTable (now (table .entry))) (transitionTable (now (table .entry))) (goalTable (now (table .entry)) (record { high = high; low = low })) (orderTable (now (table .entry))) start high low (goalTable (now (table .entry)) (record { high = high; low = low })) 0 (now (out .entry), tally)) ⌝ }
 {
     let letters = t.letters;
@@ -103,6 +108,7 @@ fn walk_entries(
         mode,
         &letters,
         &delta,
+        hint,
         &goal,
         &order,
         start,
@@ -137,7 +143,7 @@ fn is_over(b: Budget) -> bool
 }
 
 // `found`, by the query's entries; two are enough to tell.
-pub fn found_of(table: &[u64], t: Tables, start: u64, high: u64, low: u64) -> u64
+pub fn found_of(table: &[u64], t: Tables, hint: &[u64], start: u64, high: u64, low: u64) -> u64
     requires { ⌜ Prepared (now table) start high low t ⌝ }
     ensures { λ r. ⌜ r ≡ foundNumber (foundFor (now (table .entry)) (queryFrom (now (table .entry)) start high low)) ⌝ }
 {
@@ -146,6 +152,7 @@ pub fn found_of(table: &[u64], t: Tables, start: u64, high: u64, low: u64) -> u6
     let end = walk_entries(
         table,
         t,
+        hint,
         2,
         start,
         high,
@@ -161,7 +168,15 @@ pub fn found_of(table: &[u64], t: Tables, start: u64, high: u64, low: u64) -> u6
 }
 
 // What the query's rows leave of a room; more than it holds makes it Over.
-pub fn rows_room(table: &[u64], t: Tables, start: u64, high: u64, low: u64, room: usize) -> Budget
+pub fn rows_room(
+    table: &[u64],
+    t: Tables,
+    hint: &[u64],
+    start: u64,
+    high: u64,
+    low: u64,
+    room: usize,
+) -> Budget
     requires { ⌜ Prepared (now table) start high low t ⌝ }
     ensures { λ r. ⌜ r ≡ spend (Left room) (length (entriesText (now (table .entry)) (queryFrom (now (table .entry)) start high low))) ⌝ }
 {
@@ -170,6 +185,7 @@ pub fn rows_room(table: &[u64], t: Tables, start: u64, high: u64, low: u64, room
     let end = walk_entries(
         table,
         t,
+        hint,
         1,
         start,
         high,
@@ -184,6 +200,7 @@ pub fn rows_room(table: &[u64], t: Tables, start: u64, high: u64, low: u64, room
 pub fn put_rows(
     table: &[u64],
     t: Tables,
+    hint: &[u64],
     start: u64,
     high: u64,
     low: u64,
@@ -197,6 +214,7 @@ pub fn put_rows(
     let end = walk_entries(
         table,
         t,
+        hint,
         0,
         start,
         high,
@@ -208,7 +226,7 @@ pub fn put_rows(
 }
 
 // Does the place not show the pair followed: is it away, or is what is sought there and stopping preferred to the end?
-fn is_barred(goal: &[u8], order: &[u8], away: &[u8], at: u64, end: u64, q: u64) -> bool
+fn is_barred(goal: &[u64], order: &[u8], away: &[u64], at: u64, end: u64, q: u64) -> bool
     ensures { λ r. ⌜ r ≡ barred (now (goal .entry)) (now (order .entry)) (now (away .entry)) at end q ⌝ }
 {
     if place(away, at, q) {
@@ -225,9 +243,9 @@ fn meets(
     delta: &[u64],
     accepts: &[u8],
     hopes: &[u8],
-    goal: &[u8],
+    goal: &[u64],
     order: &[u8],
-    away: &[u8],
+    away: &[u64],
     at: u64,
     end: u64,
     q: u64,
@@ -245,9 +263,9 @@ fn misses(
     delta: &[u64],
     accepts: &[u8],
     hopes: &[u8],
-    goal: &[u8],
+    goal: &[u64],
     order: &[u8],
-    away: &[u8],
+    away: &[u64],
     at: u64,
     end: u64,
 ) -> bool
@@ -268,9 +286,9 @@ fn is_away(
     delta: &[u64],
     accepts: &[u8],
     hopes: &[u8],
-    goal: &[u8],
+    goal: &[u64],
     order: &[u8],
-    away: &[u8],
+    away: &[u64],
     start: u64,
     at: u64,
     end: u64,
@@ -291,20 +309,22 @@ fn is_followed(
     table: &[u64],
     letters: &[u8],
     delta: &[u64],
+    hint: &[u64],
     accepts: &[u8],
     hopes: &[u8],
-    goal: &[u8],
+    goal: &[u64],
     order: &[u8],
-    live: &[u8],
-    away: &[u8],
+    live: &[u64],
+    away: &[u64],
     start: u64,
     high: u64,
     low: u64,
     at: u64,
     end: u64,
 ) -> bool
+    requires { ⌜ Sorted (partOf edgeSection (now table)) ⌝ }
     requires { ⌜ LiveAt (now table) (now delta) (now goal) start (now live) ⌝ }
-    requires { ⌜ WorthAt (now table) (now delta) (now goal) (now order) [] start (now away) ⌝ }
+    requires { ⌜ AwayAt (now table) (now delta) (now goal) (now order) (now away) ⌝ }
     ensures { λ r. ⌜ r ≡ followedBy (now (table .entry)) (now (letters .entry)) (now (delta .entry)) (now (accepts .entry)) (now (hopes .entry)) (now (goal .entry)) (now (order .entry)) start high low at end ⌝ }
 {
     if is_away(delta, accepts, hopes, goal, order, away, start, at, end) {
@@ -313,7 +333,7 @@ fn is_followed(
     let seek = open_goal(delta, accepts, hopes, at, end);
     let edges = section(table, 5);
     let free = start_free(start);
-    let worth = live_table(edges, delta, &seek, goal, order, true, free);
+    let worth = live_table(edges, delta, hint, &seek, goal, order, true, free);
     let mut none = [0u8; 1];
     let budget = Budget::Left(0);
     let t = walk_with(
@@ -321,6 +341,7 @@ fn is_followed(
         3,
         letters,
         delta,
+        hint,
         goal,
         order,
         start,
@@ -343,18 +364,20 @@ fn first_followed(
     table: &[u64],
     letters: &[u8],
     delta: &[u64],
+    hint: &[u64],
     accepts: &[u8],
     hopes: &[u8],
-    goal: &[u8],
+    goal: &[u64],
     order: &[u8],
-    live: &[u8],
-    away: &[u8],
+    live: &[u64],
+    away: &[u64],
     start: u64,
     high: u64,
     low: u64,
 ) -> Awaits
+    requires { ⌜ Sorted (partOf edgeSection (now table)) ⌝ }
     requires { ⌜ LiveAt (now table) (now delta) (now goal) start (now live) ⌝ }
-    requires { ⌜ WorthAt (now table) (now delta) (now goal) (now order) [] start (now away) ⌝ }
+    requires { ⌜ AwayAt (now table) (now delta) (now goal) (now order) (now away) ⌝ }
     ensures { λ r. ⌜ r ≡ firstFollowed (now (table .entry)) (now (letters .entry)) (now (delta .entry)) (now (accepts .entry)) (now (hopes .entry)) (now (goal .entry)) (now (order .entry)) start high low (rowsOf (now (opens .entry))) ⌝ }
 {
     let mut p = 0;
@@ -365,6 +388,7 @@ fn first_followed(
             table,
             letters,
             delta,
+            hint,
             accepts,
             hopes,
             goal,
@@ -390,14 +414,16 @@ fn first_open(
     table: &[u64],
     letters: &[u8],
     delta: &[u64],
+    hint: &[u64],
     accepts: &[u8],
-    goal: &[u8],
+    goal: &[u64],
     order: &[u8],
-    live: &[u8],
+    live: &[u64],
     start: u64,
     high: u64,
     low: u64,
 ) -> Awaits
+    requires { ⌜ Sorted (partOf edgeSection (now table)) ⌝ }
     requires { ⌜ LiveAt (now table) (now delta) (now goal) start (now live) ⌝ }
     ensures { λ r. ⌜ r ≡ firstFollowed (now (table .entry)) (now (letters .entry)) (now (delta .entry)) (now (accepts .entry)) (hopefulFlags (now (delta .entry)) (now (accepts .entry))) (now (goal .entry)) (now (order .entry)) start high low (rowsOf (now (opens .entry))) ⌝ }
 {
@@ -406,13 +432,13 @@ fn first_open(
     }
     let hopes = hopeful(delta, accepts);
     let edges = section(table, 5);
-    let free = start_free(start);
-    let away = away_table(edges, delta, goal, order, free, start, 0);
+    let away = away_table(edges, delta, goal, order, [1; 64], start, 0);
     first_followed(
         opens,
         table,
         letters,
         delta,
+        hint,
         accepts,
         &hopes,
         goal,
@@ -426,7 +452,7 @@ fn first_open(
 }
 
 // `awaits`: the first decisive open pair, in the order of the open rows.
-pub fn awaits_of(table: &[u64], t: Tables, start: u64, high: u64, low: u64) -> Awaits
+pub fn awaits_of(table: &[u64], t: Tables, hint: &[u64], start: u64, high: u64, low: u64) -> Awaits
     requires { ⌜ Prepared (now table) start high low t ⌝ }
     ensures { λ r. ⌜ awaitsMeaning (now (table .entry)) r ≡ awaits (language (rulesOf (now (table .entry)))) (graphOf (now (table .entry))) (queryFrom (now (table .entry)) start high low) (opensOf (now (table .entry))) ⌝ }
 {
@@ -442,6 +468,7 @@ pub fn awaits_of(table: &[u64], t: Tables, start: u64, high: u64, low: u64) -> A
         table,
         &letters,
         &delta,
+        hint,
         &accepts,
         &goal,
         &order,

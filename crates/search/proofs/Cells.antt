@@ -1,5 +1,5 @@
 -- Laws of the tables' flags: what a read inside the table gives, what one outside gives, what a write leaves. Assumes nothing.
-use mathlib.Core.Path.{_≡_, refl, sym, _∙_, fun-ext, subst}
+use mathlib.Core.Path.{_≡_, refl, sym, ap, _∙_, fun-ext, subst}
 use mathlib.Core.Logic.{_⊎_, inl, inr, ⊎-elim}
 use mathlib.Core.Bool.{Bool, true, false, not, _&&_, and-false, and-true, false≢true}
 use mathlib.Core.List.{List, [], _∷_}
@@ -7,16 +7,18 @@ use Prim.Native.Nat.{ℕ, zero, suc, _+_, _-_, _*_, _≤_, _<_}
 use native.Mathlib.Omega.{arith}
 use native.Mathlib.Numerals.{add-one}
 use borrow.Author.Count.{below-more}
-use borrow.Author.Tests.{eq-eqb, lt-ltb, le-ltb, ltb-true, ltb-false, eqb-true, eqb-false}
+use borrow.Author.Tests.{lt-ltb, le-ltb, ltb-true, ltb-false, eqb-true, eqb-false}
+use lib.Bits.{bitOr}
 use lib.Dec.{eqb, ltb}
 use lib.ListN.{length, getD, set, List·getD-eq-default}
 use lib.Seq.{getD-set-same, getD-set-other, set-out}
 use Rattle.scope_graph.specs.Language.{stop, by}
-use Rattle.scope_graph.proofs.Lists.{Two, and-left, and-right}
+use Rattle.scope_graph.proofs.Lists.{Two, not-true, and-left}
 use Rattle.search.specs.Board.{without}
 use Rattle.search.specs.Live.{any-way, open-way}
-use Rattle.search.specs.Tables.{nextCell, placeFlag, pairFlag, freeFlag, tableOrder, endNumber, tableBoard}
-use Rattle.search.specs.Steps.{NoState, Kept, wayOf, lacks, hopTo, wantedHop, worthState}
+use Rattle.search.specs.Tables.{nextCell, hasState, placeFlag, pairFlag, freeFlag, tableOrder, endNumber, tableBoard}
+use Rattle.search.specs.Steps.{NoState, Kept, Covers, wayOf, lacks, hopTo, wantedHop, worthState}
+use Rattle.search.proofs.States.{state-past, state-below, states-none, states-left, states-either}
 
 -- within the list the default does not matter
 pub getD-any : (l : List ℕ) (i d e : ℕ) → i < length l → getD l i d ≡ getD l i e
@@ -40,51 +42,60 @@ when-test : (t x : Bool) → when t x ≡ true → t ≡ true
 when-test true x h = refl
 when-test false x h = h
 
-when-flag : (t x : Bool) → when t x ≡ true → x ≡ true
-when-flag true x h = h
-when-flag false x h = absurd (false≢true h)
-
 module _ (t : List ℕ) (s q : ℕ) where
-  pub place-in : s < 64 → q < 16 → placeFlag t s q ≡ eqb (getD t (s * 16 + q) 0) 1
+  pub place-in : s < 64 → placeFlag t s q ≡ hasState (getD t s 0) q
   unfolding placeFlag
-  place-in h k = rw (lt-ltb s 64 h, lt-ltb q 16 k, placeFlag)
+  place-in h = rw (lt-ltb s 64 h, placeFlag)
 
   pub place-no-scope : 64 ≤ s → placeFlag t s q ≡ false
   unfolding placeFlag
   place-no-scope h = rw (le-ltb s 64 h, placeFlag)
 
   pub place-no-state : 16 ≤ q → placeFlag t s q ≡ false
-  unfolding placeFlag
-  place-no-state h = rw (le-ltb q 16 h, and-false (ltb s 64), placeFlag)
+  place-no-state h = at (Two (ltb s 64))
+    where
+      at : (ltb s 64 ≡ true) ⊎ (ltb s 64 ≡ false) → placeFlag t s q ≡ false
+      at (inl e) = place-in (ltb-true s 64 e) ∙ state-past (getD t s 0) q h
+      at (inr e) = place-no-scope (ltb-false s 64 e)
 
   pub place-scope : placeFlag t s q ≡ true → s < 64
   unfolding placeFlag
-  place-scope h = ltb-true s 64 (and-left (ltb s 64) (ltb q 16) (when-test _ _ h))
+  place-scope h = ltb-true s 64 (when-test _ _ h)
+
+  pub place-held : placeFlag t s q ≡ true → hasState (getD t s 0) q ≡ true
+  place-held h = sym (place-in (place-scope h)) ∙ h
 
   pub place-state : placeFlag t s q ≡ true → q < 16
-  unfolding placeFlag
-  place-state h = ltb-true q 16 (and-right (ltb s 64) (ltb q 16) (when-test _ _ h))
+  place-state h = state-below (getD t s 0) q (place-held h)
 
-  pub place-cell : placeFlag t s q ≡ true → getD t (s * 16 + q) 0 ≡ 1
-  unfolding placeFlag
-  place-cell h = eqb-true (getD t (s * 16 + q) 0) 1 (when-flag (ltb s 64 && ltb q 16) (eqb (getD t (s * 16 + q) 0) 1) h)
+  -- a scope whose set is empty has no place
+  pub place-empty : getD t s 0 ≡ 0 → placeFlag t s q ≡ false
+  place-empty e = at (Two (ltb s 64))
+    where
+      at : (ltb s 64 ≡ true) ⊎ (ltb s 64 ≡ false) → placeFlag t s q ≡ false
+      at (inl h) = place-in (ltb-true s 64 h) ∙ rw e (states-none q)
+      at (inr h) = place-no-scope (ltb-false s 64 h)
+
+-- only the first 64 cells of a table matter
+pub place-same : (a c : List ℕ) → ((s : ℕ) → s < 64 → getD a s 0 ≡ getD c s 0) → placeFlag a ≡ placeFlag c
+place-same a c h = fun-ext (λ s. fun-ext (λ q. at s q (Two (ltb s 64))))
+  where
+    at : (s q : ℕ) → (ltb s 64 ≡ true) ⊎ (ltb s 64 ≡ false) → placeFlag a s q ≡ placeFlag c s q
+    at s q (inl e) =
+        let inside : s < 64 = ltb-true s 64 e in
+        place-in a s q inside ∙ ap (λ (x : ℕ). hasState x q) (h s inside) ∙ sym (place-in c s q inside)
+    at s q (inr e) = let past : 64 ≤ s = ltb-false s 64 e in place-no-scope a s q past ∙ sym (place-no-scope c s q past)
 
 -- a table of no cells holds no place
 pub place-none : (s q : ℕ) → placeFlag [] s q ≡ false
-unfolding placeFlag
-place-none s q = at (ltb s 64 && ltb q 16)
-  where
-    at : (t : Bool) → (elim t as (λ _. Bool) [ true ↦ eqb (getD {A = ℕ} [] (s * 16 + q) 0) 1 | false ↦ false ]) ≡ false
-    at true = refl
-    at false = refl
+place-none s q = place-empty [] s q refl
 
--- a table is kept by one that holds each of its 1024 set flags
-pub kept-cells : (a c : List ℕ) → ((k : ℕ) → k < 1024 → getD a k 0 ≡ 1 → getD c k 0 ≡ 1) → Kept a c
+-- a table is kept by one whose sets hold what its 64 sets hold
+pub kept-cells : (a c : List ℕ) → ((s q : ℕ) → s < 64 → hasState (getD a s 0) q ≡ true → hasState (getD c s 0) q ≡ true) → Kept a c
 kept-cells a c h = record {
   flags = λ s q f.
       let inside : s < 64 = place-scope a s q f in
-      let below : q < 16 = place-state a s q f in
-      place-in c s q inside below ∙ eq-eqb (getD c (s * 16 + q) 0) 1 (h (s * 16 + q) (omega arith) (place-cell a s q f));
+      place-in c s q inside ∙ h s q inside (place-held a s q f);
 }
 
 pub kept-same : (a : List ℕ) → Kept a a
@@ -93,12 +104,16 @@ kept-same a = record { flags = λ s q f. f }
 pub kept-on : (a c d : List ℕ) → Kept a c → Kept c d → Kept a d
 kept-on a c d h k = record { flags = λ s q f. k .flags s q (h .flags s q f) }
 
-pub kept-mark : (a : List ℕ) (i : ℕ) → i < length a → Kept a (set a i 1)
-kept-mark a i h = kept-cells a (set a i 1) (λ k below f. at k f (Two (eqb k i)))
+-- a set that grows keeps what it held
+pub kept-add : (a : List ℕ) (i x : ℕ) → i < length a → Kept a (set a i (bitOr (getD a i 0) x))
+kept-add a i x h = kept-cells a (set a i (bitOr (getD a i 0) x)) (λ s q below f. at s q f (Two (eqb s i)))
   where
-    at : (k : ℕ) → getD a k 0 ≡ 1 → (eqb k i ≡ true) ⊎ (eqb k i ≡ false) → getD (set a i 1) k 0 ≡ 1
-    at k f (inl e) = rw (eqb-true k i e) (getD-set-same a i 1 0 h)
-    at k f (inr e) = getD-set-other a i k 1 0 (eqb-false k i e) ∙ f
+    at : (s q : ℕ) → hasState (getD a s 0) q ≡ true → (eqb s i ≡ true) ⊎ (eqb s i ≡ false)
+        → hasState (getD (set a i (bitOr (getD a i 0) x)) s 0) q ≡ true
+    at s q f (inl e) =
+        let same : s ≡ i = eqb-true s i e in
+        rw (same, getD-set-same a i (bitOr (getD a i 0) x) 0 h) (states-left (getD a i 0) x q (rw same at f))
+    at s q f (inr e) = rw (getD-set-other a i s (bitOr (getD a i 0) x) 0 (eqb-false s i e)) f
 
 module _ (delta : List ℕ) (q l : ℕ) where
   pub next-in : q < 16 → l < 8 → nextCell delta q l ≡ getD delta (q * 8 + l) 16
@@ -151,14 +166,6 @@ module _ (order : List ℕ) (a c : ℕ) where
   unfolding pairFlag
   pair-first h = ltb-true a 9 (and-left (ltb a 9) (ltb c 9) (when-test _ _ h))
 
--- an end that is preferred to none of nine is preferred to none
-pub pairs-none : (order : List ℕ) (a : ℕ) → ((k : ℕ) → k < 9 → pairFlag order a k ≡ false) → (c : ℕ) → pairFlag order a c ≡ false
-pairs-none order a h c = at (Two (ltb c 9))
-  where
-    at : (ltb c 9 ≡ true) ⊎ (ltb c 9 ≡ false) → pairFlag order a c ≡ false
-    at (inl e) = h c (ltb-true c 9 e)
-    at (inr e) = pair-no-second order a c (ltb-false c 9 e)
-
 pub stop-in : (order : List ℕ) (l : ℕ) → tableOrder order stop (by l) ≡ pairFlag order 0 (l + 1)
 unfolding tableOrder endNumber
 stop-in order l = rw add-one
@@ -194,41 +201,66 @@ free-taken free t = fun-ext (λ k. at k (Two (eqb k t)) (Two (ltb t (length free
         rw (cell, e) (sym (and-false (eqb (getD free k 0) 1)))
     at k (inr e) h = rw (getD-set-other free t k 0 0 (eqb-false k t e), e) (sym (and-true (eqb (getD free k 0) 1)))
 
--- the tests of one row and state
-module _ (delta : List ℕ) (way : ℕ → ℕ → ℕ → Bool) (live : ℕ → ℕ → Bool) (s l t q : ℕ) where
-  pub lacks-held : live s q ≡ true → lacks delta way live s (hopTo l t) q ≡ false
-  unfolding lacks
-  lacks-held h = rw (h, lacks)
-
-  pub lacks-way : live s q ≡ false → live t (nextCell delta q l) ≡ true → lacks delta way live s (hopTo l t) q ≡ way s q l
-  unfolding lacks
-  lacks-way h k = rw (h, k, lacks)
-
-  pub lacks-no : live t (nextCell delta q l) ≡ false → lacks delta way live s (hopTo l t) q ≡ false
-  unfolding lacks
-  lacks-no h = rw (h, and-false (not (live s q)), lacks)
-
--- no state is lacked if none of the first n is
-pub lacks-none : (delta : List ℕ) (way : ℕ → ℕ → ℕ → Bool) (live : List ℕ) (s l t n : ℕ) → NoState delta n
-    → ((k : ℕ) → k < n → lacks delta way (placeFlag live) s (hopTo l t) k ≡ false) → (q : ℕ) → lacks delta way (placeFlag live) s (hopTo l t) q ≡ false
-lacks-none delta way live s l t n past h q = at (Two (ltb q n))
+-- no step by the label leads into the set from a state that is not covered, if that is so of the first n
+pub leads-none : (delta : List ℕ) (have into l n : ℕ) → NoState delta n
+    → ((k : ℕ) → k < n → hasState have k ≡ false → hasState into (nextCell delta k l) ≡ false)
+    → (q : ℕ) → hasState have q ≡ false → hasState into (nextCell delta q l) ≡ false
+leads-none delta have into l n past h q out = at (Two (ltb q n))
   where
-    at : (ltb q n ≡ true) ⊎ (ltb q n ≡ false) → lacks delta way (placeFlag live) s (hopTo l t) q ≡ false
-    at (inl e) = h q (ltb-true q n e)
-    at (inr e) = lacks-no delta way (placeFlag live) s l t q (place-no-state live t (nextCell delta q l) (past q l (ltb-false q n e)))
+    at : (ltb q n ≡ true) ⊎ (ltb q n ≡ false) → hasState into (nextCell delta q l) ≡ false
+    at (inl e) = h q (ltb-true q n e) out
+    at (inr e) = state-past into (nextCell delta q l) (past q l (ltb-false q n e))
 
 module _ (goal order : List ℕ) (s q l : ℕ) where
   pub way-cut : placeFlag goal s q ≡ true → wayOf goal order true s q l ≡ not (tableOrder order stop (by l))
   unfolding wayOf open-way tableBoard
   way-cut h = rw (h, open-way)
 
-  pub way-open : placeFlag goal s q ≡ false → wayOf goal order true s q l ≡ true
-  unfolding wayOf open-way tableBoard
-  way-open h = rw (h, open-way)
+-- what is covered at a scope: the states held, and those whose step stopping cuts
+module _ (goal order live : List ℕ) (s l held : ℕ) (e : held ≡ getD live s 0) where
+  covers-absurd : (q : ℕ) → s < 64 → hasState held q ≡ true → placeFlag live s q ≡ false → ⊥
+  covers-absurd q below h d = false≢true (sym d ∙ place-in live s q below ∙ rw (sym e) h)
 
-  pub way-any : wayOf goal order false s q l ≡ true
-  unfolding wayOf any-way
-  way-any = refl
+  pub covers-held : (way : ℕ → ℕ → ℕ → Bool) → Covers way (placeFlag live) s l held
+  covers-held way q below h d = absurd (covers-absurd q below h d)
+
+  pub covers-cut : (here : ℕ) → here ≡ getD goal s 0 → tableOrder order stop (by l) ≡ true
+      → Covers (wayOf goal order true) (placeFlag live) s l (bitOr held here)
+  covers-cut here f stops q below h d =
+      way-cut goal order s q l (place-in goal s q below ∙ rw (sym f) (states-either held here q h (not-true (hasState held q) (λ k. covers-absurd q below k d))))
+      ∙ rw stops
+
+-- what is not covered is closed if no step leads from there into the places held at the hop's scope
+module _ (delta live : List ℕ) (way : ℕ → ℕ → ℕ → Bool) (s l t q : ℕ) where
+  pub lacks-no : placeFlag live t (nextCell delta q l) ≡ false → lacks delta way (placeFlag live) s (hopTo l t) q ≡ false
+  unfolding lacks
+  lacks-no h = rw (h, and-false (not (placeFlag live s q)), lacks)
+
+  lacks-way : way s q l ≡ false → lacks delta way (placeFlag live) s (hopTo l t) q ≡ false
+  unfolding lacks
+  lacks-way h =
+      rw (h, and-false (placeFlag live t (nextCell delta q l)), and-false (not (placeFlag live s q)), lacks)
+
+  lacks-held : placeFlag live s q ≡ true → lacks delta way (placeFlag live) s (hopTo l t) q ≡ false
+  unfolding lacks
+  lacks-held h = rw (h, lacks)
+
+  pub lacks-covered : (have : ℕ) → Covers way (placeFlag live) s l have → s < 64 → hasState have q ≡ true
+      → lacks delta way (placeFlag live) s (hopTo l t) q ≡ false
+  lacks-covered have c below h = at (Two (placeFlag live s q))
+    where
+      at : (placeFlag live s q ≡ true) ⊎ (placeFlag live s q ≡ false) → lacks delta way (placeFlag live) s (hopTo l t) q ≡ false
+      at (inl e) = lacks-held e
+      at (inr e) = lacks-way (c q below h e)
+
+  pub lacks-into : (have into : ℕ) → Covers way (placeFlag live) s l have → into ≡ getD live t 0 → s < 64 → t < 64
+      → (hasState have q ≡ false → hasState into (nextCell delta q l) ≡ false)
+      → lacks delta way (placeFlag live) s (hopTo l t) q ≡ false
+  lacks-into have into c e below inside h = at (Two (hasState have q))
+    where
+      at : (hasState have q ≡ true) ⊎ (hasState have q ≡ false) → lacks delta way (placeFlag live) s (hopTo l t) q ≡ false
+      at (inl k) = lacks-covered have c below k
+      at (inr k) = lacks-no (place-in live t (nextCell delta q l) inside ∙ rw (sym e) (h k))
 
 -- the ways of a board with this goal
 module _ (edges delta goal order : List ℕ) where
@@ -267,3 +299,16 @@ module _ (delta live free : List ℕ) (q want l t : ℕ) where
   pub worth-dead : placeFlag live t (nextCell delta q l) ≡ false → worthState delta live free q want (hopTo l t) ≡ 16
   unfolding worthState
   worth-dead h = rw (h, and-false (freeFlag free t), and-false (wantedHop want (hopTo l t)), worthState)
+
+  -- what a hop that is worth entering has
+  pub worth-has : worthState delta live free q want (hopTo l t) < 16
+      → (wantedHop want (hopTo l t) ≡ true) × (freeFlag free t ≡ true) × (placeFlag live t (nextCell delta q l) ≡ true)
+  worth-has h = at (Two (wantedHop want (hopTo l t))) (Two (freeFlag free t)) (Two (placeFlag live t (nextCell delta q l)))
+    where
+      at : (wantedHop want (hopTo l t) ≡ true) ⊎ (wantedHop want (hopTo l t) ≡ false) → (freeFlag free t ≡ true) ⊎ (freeFlag free t ≡ false)
+          → (placeFlag live t (nextCell delta q l) ≡ true) ⊎ (placeFlag live t (nextCell delta q l) ≡ false)
+          → (wantedHop want (hopTo l t) ≡ true) × (freeFlag free t ≡ true) × (placeFlag live t (nextCell delta q l) ≡ true)
+      at (inr w) f p = absurd (omega (arith, worth-unwanted w))
+      at (inl w) (inr f) p = absurd (omega (arith, worth-taken f))
+      at (inl w) (inl f) (inr p) = absurd (omega (arith, worth-dead p))
+      at (inl w) (inl f) (inl p) = (w, f, p)

@@ -4,17 +4,18 @@ use mathlib.Core.Logic.{_⊎_, inl, inr, ⊎-elim}
 use mathlib.Core.Bool.{Bool, true, false, not, _&&_, false≢true}
 use mathlib.Core.Option.{Option, some, none}
 use mathlib.Core.List.{List, List·Memᴰ·cases-cons, List·Memᴰ·not-nil}
-use Prim.Native.Nat.{ℕ, _+_, _*_, _≤_, _<_}
+use Prim.Native.Nat.{ℕ, _+_, _≤_, _<_}
 use native.Mathlib.Omega.{arith}
-use borrow.Author.Tests.{eq-eqb, ltb-true, ltb-false, eqb-true, eqb-false}
+use borrow.Author.Tests.{ltb-true, ltb-false, eqb-true, eqb-false}
 use lib.Dec.{eqb, ltb}
 use lib.ListN.{length, getD, drop, replicate, getD-replicate}
 use Rattle.scope_graph.specs.Path.{HopOf}
 use Rattle.scope_graph.proofs.Lists.{Two}
 use Rattle.search.specs.Live.{Closed}
-use Rattle.search.specs.Tables.{stateOf, nextCell, placeFlag, tableBoard}
+use Rattle.search.specs.Tables.{stateOf, nextCell, placeFlag, freeFlag, tableBoard}
 use Rattle.search.specs.Steps.{RowClosed, RowsClosed, lacks, hopTo}
-use Rattle.search.proofs.Cells.{place-in, place-scope, place-state, next-no-state}
+use Rattle.search.proofs.Cells.{place-in, place-scope, place-state, next-no-state, free-below}
+use Rattle.search.proofs.States.{states-all}
 use Rattle.search.proofs.Rows.{rows-none, rows-leave, rows-pass}
 
 -- a state that a cell gives is the cell
@@ -44,13 +45,13 @@ lacks-back false y w h k m = absurd (false≢true (sym h ∙ rw (k, m)))
 
 module _ (edges delta goal : List ℕ) (seek : ℕ → ℕ → Bool) (way : ℕ → ℕ → ℕ → Bool) (free : ℕ → Bool) (live : ℕ → ℕ → Bool) where
   pub rows-closed : ((s q : ℕ) → seek s q ≡ true → live s q ≡ true) → RowsClosed delta way free live edges
-      → Closed (tableBoard edges delta goal) 64 seek way free live
+      → Closed (tableBoard edges delta goal) seek way free live
   unfolding tableBoard lacks
   rows-closed asked rows = record {
     asked = asked;
-    back = λ s q h r below m f e w k.
+    back = λ s q h r own m f e w k.
         lacks-back (live s q) (live (h .to) (nextCell delta q (h .step))) (way s q (h .step))
-        (rows s h m below f q (step-state delta q (h .step) r e)) (rw (state-cell (nextCell delta q (h .step)) r e) k) w;
+        (rows s h m own f q (step-state delta q (h .step) r e)) (rw (state-cell (nextCell delta q (h .step)) r e) k) w;
   }
 
 -- the rows from p on, if those from p + 6 on are closed and the row at p is
@@ -70,13 +71,13 @@ module _ (edges delta : List ℕ) (way : ℕ → ℕ → ℕ → Bool) (free : �
       at (inr e) = rest s k (rw (rows-pass edges s p h (eqb-false (getD edges (p + 1) 0) s e)) at m)
 
 -- the table of all places holds each place of 64 scopes and 16 states
-pub all-places : (s q : ℕ) → s < 64 → q < 16 → placeFlag (replicate 1024 1) s q ≡ true
-all-places s q h k = place-in (replicate 1024 1) s q h k ∙ eq-eqb (getD (replicate 1024 1) (s * 16 + q) 0) 1 (getD-replicate 1024 (s * 16 + q) 1 0 (omega arith))
+pub all-places : (s q : ℕ) → s < 64 → q < 16 → placeFlag (replicate 64 65535) s q ≡ true
+all-places s q h k = place-in (replicate 64 65535) s q h ∙ rw (getD-replicate {A = ℕ} 64 s 65535 0 h) (states-all q k)
 
-pub all-closed : (edges delta goal seek : List ℕ) (way : ℕ → ℕ → ℕ → Bool) (free : ℕ → Bool)
-    → Closed (tableBoard edges delta goal) 64 (placeFlag seek) way free (placeFlag (replicate 1024 1))
+pub all-closed : (edges delta goal seek : List ℕ) (way : ℕ → ℕ → ℕ → Bool) (free : List ℕ) → length free ≡ 64
+    → Closed (tableBoard edges delta goal) (placeFlag seek) way (freeFlag free) (placeFlag (replicate 64 65535))
 unfolding tableBoard
-all-closed edges delta goal seek way free = record {
+all-closed edges delta goal seek way free size = record {
   asked = λ s q h. all-places s q (place-scope seek s q h) (place-state seek s q h);
-  back = λ s q h r below m f e w k. all-places s q below (step-state delta q (h .step) r e);
+  back = λ s q h r own m f e w k. all-places s q (rw size at (free-below free s own)) (step-state delta q (h .step) r e);
 }

@@ -6,8 +6,11 @@ pub mod RulesHits
 pub mod RulesReached
 pub mod Rules
 pub mod Closed
+pub mod States
 pub mod Cells
 pub mod Rows
 pub mod Closing
 pub mod Leads
+pub mod Near
 pub mod CutEnds
+pub mod Promises

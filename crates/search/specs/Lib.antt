@@ -1,6 +1,7 @@
--- What the search computes, in reading order: the board it looks at, the questions asked of it, the places worth entering, and the
--- tables that the code keeps. Assumes nothing.
+-- What the search computes, in reading order: the board it looks at with the questions asked of it, the places worth entering, the
+-- tables that the code keeps, what its steps answer, and all that is promised. Assumes nothing.
 pub mod Board
 pub mod Live
 pub mod Tables
 pub mod Steps
+pub mod Promises

@@ -1,6 +1,6 @@
--- What the steps of the search's code answer: the next row, one row's share in a closed table, which hops a question asks for, which ends lead on. Assumes
+-- What the steps of the search's code answer: the next row, one row's share in a closed table, which hops a question asks for, which ends lead on and what is known of that. Assumes
 -- nothing: these are definitions.
-use Prim.Native.Nat.{ℕ, zero, suc, _+_, _<_, _≤_}
+use Prim.Native.Nat.{ℕ, zero, suc, _+_, _*_, _<_, _≤_}
 use mathlib.Core.Path.{_≡_}
 use mathlib.Core.Bool.{Bool, true, false, not, _&&_}
 use mathlib.Core.List.{List, []}
@@ -11,7 +11,7 @@ use Rattle.scope_graph.specs.Path.{HopOf}
 use Rattle.scope_graph.specs.Rows.{anyOf}
 use Rattle.search.specs.Board.{Board, leadsOn}
 use Rattle.search.specs.Live.{any-way, open-way}
-use Rattle.search.specs.Tables.{rowHops, nextCell, placeFlag, pairFlag, freeFlag, tableOrder, tableBoard}
+use Rattle.search.specs.Tables.{rowHops, nextCell, hasState, placeFlag, pairFlag, freeFlag, tableOrder, tableBoard}
 
 -- r is where the next row that leaves s stands, from cell p on: the rows before it leave other scopes, and it is whole; or no row is left
 pub record NextRow (edges : List ℕ) (s p r : ℕ) : Type 0 where
@@ -19,6 +19,17 @@ pub record NextRow (edges : List ℕ) (s p r : ℕ) : Type 0 where
   pub on : p ≤ r
   pub whole : r < length edges → r + 6 ≤ length edges
   pub leaves : r < length edges → getD edges (r + 1) 0 ≡ s
+
+-- rows stand by ascending scope (01, "The gym file")
+abbrev pub Sorted : List ℕ → Type 0
+Sorted edges = (i j : ℕ) → i ≤ j → j * 6 + 6 ≤ length edges → getD edges (i * 6 + 1) 0 ≤ getD edges (j * 6 + 1) 0
+
+-- r is the number of the first row from number `from` on whose scope is s or above
+pub record FirstFrom (edges : List ℕ) (s from r : ℕ) : Type 0 where
+  pub on : from ≤ r
+  pub inside : from * 6 ≤ length edges → r * 6 ≤ length edges
+  pub before : (i : ℕ) → from ≤ i → i < r → getD edges (i * 6 + 1) 0 < s
+  pub behind : (i : ℕ) → r ≤ i → i * 6 + 6 ≤ length edges → s ≤ getD edges (i * 6 + 1) 0
 
 -- the hop of a label's number and a scope
 abbrev pub hopTo : ℕ → ℕ → HopOf ℕ
@@ -36,6 +47,10 @@ wayOf goal order cutting s q t =
 unfoldable pub lacks : List ℕ → (ℕ → ℕ → ℕ → Bool) → (ℕ → ℕ → Bool) → ℕ → HopOf ℕ → ℕ → Bool
 lacks delta way live s h q = not (live s q) && (live (h .to) (nextCell delta q (h .step)) && way s q (h .step))
 
+-- of the states of the set at scope s, each that the table lacks is one from which no step by the label counts
+abbrev pub Covers : (ℕ → ℕ → ℕ → Bool) → (ℕ → ℕ → Bool) → ℕ → ℕ → ℕ → Type 0
+Covers way live s label states = (q : ℕ) → s < 64 → hasState states q ≡ true → live s q ≡ false → way s q label ≡ false
+
 -- no label leads on from the states from n on
 abbrev pub NoState : List ℕ → ℕ → Type 0
 NoState delta n = (q l : ℕ) → n ≤ q → 16 ≤ nextCell delta q l
@@ -44,9 +59,9 @@ NoState delta n = (q l : ℕ) → n ≤ q → 16 ≤ nextCell delta q l
 pub record Kept (a c : List ℕ) : Type 0 where
   pub flags : (s q : ℕ) → placeFlag a s q ≡ true → placeFlag c s q ≡ true
 
--- if the hop goes to a free scope, the table lacks no place that it leads from
+-- if the hop goes from a free scope to a free scope, the table lacks no place that it leads from
 abbrev pub RowClosed : List ℕ → (ℕ → ℕ → ℕ → Bool) → (ℕ → Bool) → (ℕ → ℕ → Bool) → ℕ → HopOf ℕ → Type 0
-RowClosed delta way free live s h = s < 64 → free (h .to) ≡ true → (q : ℕ) → q < 16 → lacks delta way live s h q ≡ false
+RowClosed delta way free live s h = free s ≡ true → free (h .to) ≡ true → (q : ℕ) → q < 16 → lacks delta way live s h q ≡ false
 
 -- the same of each hop along the rows
 abbrev pub RowsClosed : List ℕ → (ℕ → ℕ → ℕ → Bool) → (ℕ → Bool) → (ℕ → ℕ → Bool) → List ℕ → Type 0
@@ -64,16 +79,30 @@ worthState delta live free q want h =
       | false ↦ 16
     ]
 
+-- the row at cell r is whole, and its hop leaves scope s, is asked for and worth entering
+pub record HopAt (edges delta live free : List ℕ) (s q want r : ℕ) : Type 0 where
+  pub whole : r + 6 ≤ length edges
+  pub leaves : hopTo (getD edges (r + 2) 0) (getD edges (r + 3) 0) ∈ rowHops edges s
+  pub worth : worthState delta live free q want (hopTo (getD edges (r + 2) 0) (getD edges (r + 3) 0)) < 16
+
 -- does what is sought lie at the end with this number: here, or behind a hop with its label?
 unfoldable pub behindEnd : Board ℕ → ℕ → (ℕ → Bool) → ℕ → ℕ → ℕ → Bool
 behindEnd b fuel free s q zero = b .here s q
 behindEnd b fuel free s q (suc l) = anyOf (λ h. wantedHop l h && leadsOn b fuel free q h) (b .hops s)
 
--- the answer is right as far as the order asks: where the end is preferred to some other
-abbrev pub AsOrdered : List ℕ → ℕ → Bool → Bool → Type 0
-AsOrdered order a right answer = (c : ℕ) → pairFlag order a c ≡ true → answer ≡ right
+-- What is known of nine ends at a scope and state: a byte of 1 says that what is sought lies at the end, 2 that it does not, any other says nothing.
+pub record Known (b : Board ℕ) (fuel : ℕ) (free : ℕ → Bool) (s q : ℕ) (known : List ℕ) : Type 0 where
+  pub leads : (a : ℕ) → a < 9 → getD known a 0 ≡ 1 → behindEnd b fuel free s q a ≡ true
+  pub leads-not : (a : ℕ) → a < 9 → getD known a 0 ≡ 2 → behindEnd b fuel free s q a ≡ false
 
--- r says whether some end that leads on is preferred to the end with number c
-pub record CutBy (order leads : List ℕ) (c : ℕ) (r : Bool) : Type 0 where
-  pub some-end : r ≡ true → (a : ℕ) × (a < 9) × (pairFlag order a c ≡ true) × (freeFlag leads a ≡ true)
-  pub no-end : r ≡ false → (a : ℕ) → a < 9 → pairFlag order a c ≡ true → freeFlag leads a ≡ false
+-- such a byte
+unfoldable pub verdictOf : Bool → ℕ
+verdictOf true = 1
+verdictOf false = 2
+
+-- some end at which what is sought is known to lie is preferred to the end with number c
+pub record KnownCut (order known : List ℕ) (c : ℕ) : Type 0 where
+  pub end : ℕ
+  pub below : end < 9
+  pub preferred : pairFlag order end c ≡ true
+  pub leads : getD known end 0 ≡ 1

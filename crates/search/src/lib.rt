@@ -1,21 +1,22 @@
 // The search over a query's tables: places worth entering, whether what is sought lies behind a place, and which ends are cut there.
 mod grow;
 
+use grow::distances;
 use grow::grown;
+pub use grow::put_hints;
 use grow::unreached;
 ghost use mathlib.Core.Path.{_≡_};
 ghost use mathlib.Core.Bool.{true, false, _&&_};
 ghost use mathlib.Core.List.{List, []};
 ghost use Prim.Native.Nat.{ℕ, _<_};
-ghost use lib.ListN.{getD, set, drop, replicate};
-ghost use lib.Dec.{eqb};
+ghost use lib.ListN.{length, getD, set, drop, replicate};
 ghost use Rattle.scope_graph.specs.Language.{stop, by};
 ghost use Rattle.scope_graph.specs.Order.{endOf};
 ghost use Rattle.scope_graph.specs.Rows.{anyOf};
 ghost use Rattle.search.specs.Board.{existsFrom, leadsOn, cutHere};
 ghost use Rattle.search.specs.Live.{Closed, any-way};
-ghost use Rattle.search.specs.Tables.{rowHops, nextCell, placeFlag, pairFlag, freeFlag, tableOrder, tableBoard};
-ghost use Rattle.search.specs.Steps.{NextRow, wayOf, hopTo, lacks, NoState, RowClosed, RowsClosed, wantedHop, worthState, behindEnd, AsOrdered, CutBy};
+ghost use Rattle.search.specs.Tables.{rowHops, nextCell, hasState, placeFlag, pairFlag, freeFlag, tableOrder, tableBoard};
+ghost use Rattle.search.specs.Steps.{NextRow, HopAt, Sorted, FirstFrom, wayOf, hopTo, NoState, Covers, RowClosed, RowsClosed, wantedHop, worthState, behindEnd, Known, KnownCut, verdictOf};
 
 // The cell at i, or d past the end.
 fn cell(cells: &[u64], i: u64, d: u64) -> u64
@@ -33,14 +34,19 @@ fn byte(flags: &[u8], i: u64) -> u8
     if k < flags.len() { flags[k] } else { 0 }
 }
 
+// Is state q in the set?
+fn has(set: u64, q: u64) -> bool
+    ensures { λ r. ⌜ r ≡ hasState set q ⌝ }
+{
+    if q < 16 { (set >> q) % 2 == 1 } else { false }
+}
+
 // Is the place of scope s and state q in the table?
-pub fn place(t: &[u8], s: u64, q: u64) -> bool
+pub fn place(t: &[u64], s: u64, q: u64) -> bool
     ensures { λ r. ⌜ r ≡ placeFlag (now (t .entry)) s q ⌝ }
 {
     if s < 64 {
-        if q < 16 {
-            return byte(t, s * 16 + q) == 1;
-        }
+        return has(cell(t, s, 0), q);
     }
     false
 }
@@ -89,8 +95,8 @@ pub fn taken(free: [u8; 64], t: u64) -> [u8; 64]
     out
 }
 
-// From cell p on, the next row that leaves s; the number of cells, or above it, if there is none. A row has six cells, its scope in the second.
-pub fn next_row(edges: &[u64], s: u64, p: usize) -> usize
+// From cell p on, the next row that leaves s; the number of cells, or above it, if there is none. A row has six cells, its scope in the second. Looks at row after row.
+fn scan_row(edges: &[u64], s: u64, p: usize) -> usize
     ensures { λ r. ⌜ NextRow (now (edges .entry)) s p r ⌝ }
 {
     let n = edges.len();
@@ -107,6 +113,57 @@ pub fn next_row(edges: &[u64], s: u64, p: usize) -> usize
     i
 }
 
+// The first row from number `from` on whose scope is s or above; the number of rows if there is none. Halves the rows that are left.
+fn first_from(edges: &[u64], s: u64, from: usize) -> usize
+    requires { ⌜ Sorted (now edges) ⌝ }
+    ensures { λ r. ⌜ FirstFrom (now (edges .entry)) s from r ⌝ }
+{
+    let n = edges.len() / 6;
+    let mut low = from;
+    let mut high = n;
+    while low < high {
+        let middle = low + (high - low) / 2;
+        if edges[middle * 6 + 1] < s {
+            low = middle + 1;
+            continue;
+        }
+        high = middle;
+    }
+    low
+}
+
+// The same as `scan_row`, of rows that stand by ascending scope: no row between p and the first one of s is looked at, and none behind the last.
+pub fn next_row(edges: &[u64], s: u64, p: usize) -> usize
+    requires { ⌜ Sorted (now edges) ⌝ }
+    ensures { λ r. ⌜ NextRow (now (edges .entry)) s p r ⌝ }
+{
+    if p % 6 != 0 {
+        return scan_row(edges, s, p);
+    }
+    let n = edges.len();
+    if n <= p {
+        return p;
+    }
+    if n - p < 6 {
+        return n;
+    }
+    let here = edges[p + 1];
+    if here == s {
+        return p;
+    }
+    if s < here {
+        return n;
+    }
+    let at = first_from(edges, s, p / 6) * 6;
+    if n - at < 6 {
+        return n;
+    }
+    if edges[at + 1] == s {
+        return at;
+    }
+    n
+}
+
 // Is stopping preferred to going on by the label?
 fn stop_first(order: &[u8], label: u64) -> bool
     ensures { λ r. ⌜ r ≡ tableOrder (now (order .entry)) stop (by label) ⌝ }
@@ -117,42 +174,7 @@ fn stop_first(order: &[u8], label: u64) -> bool
     false
 }
 
-// Does a step by the label count: every one does, or, if cut ones do not, one that is not cut by what is sought here itself?
-fn on_way(goal: &[u8], order: &[u8], cutting: bool, s: u64, q: u64, label: u64) -> bool
-    ensures { λ r. ⌜ r ≡ wayOf (now (goal .entry)) (now (order .entry)) cutting s q label ⌝ }
-{
-    if cutting {
-        if place(goal, s, q) {
-            return !stop_first(order, label);
-        }
-    }
-    true
-}
-
-// Does the table lack the place (from, q), though the row leads from it to a place that it holds?
-fn lacks_place(
-    delta: &[u64],
-    goal: &[u8],
-    order: &[u8],
-    cutting: bool,
-    live: &[u8],
-    from: u64,
-    label: u64,
-    to: u64,
-    q: u64,
-) -> bool
-    ensures { λ r. ⌜ r ≡ lacks (now (delta .entry)) (wayOf (now (goal .entry)) (now (order .entry)) cutting) (placeFlag (now (live .entry))) from (hopTo label to) q ⌝ }
-{
-    if place(live, from, q) {
-        return false;
-    }
-    if place(live, to, next_state(delta, q, label)) {
-        return on_way(goal, order, cutting, from, q, label);
-    }
-    false
-}
-
-// How many states there are: no label leads on from any other.
+// One past the last state from which a label leads on.
 fn states_of(delta: &[u64]) -> u64
     ensures { λ r. ⌜ NoState (now (delta .entry)) r ⌝ }
 {
@@ -166,31 +188,31 @@ fn states_of(delta: &[u64]) -> u64
     0
 }
 
-// Does the table lack a place that the row leads from? Rows to a scope that is not free lead nowhere.
-fn row_lacks(
-    delta: &[u64],
-    states: u64,
-    goal: &[u8],
-    order: &[u8],
-    cutting: bool,
-    free: [u8; 64],
-    live: &[u8],
-    from: u64,
-    label: u64,
-    to: u64,
-) -> bool
-    requires { ⌜ NoState (now delta) states ⌝ }
-    ensures { λ r. ⌜ (r ≡ false → RowClosed (now (delta .entry)) (wayOf (now (goal .entry)) (now (order .entry)) cutting) (freeFlag free) (placeFlag (now (live .entry))) from (hopTo label to)) ⌝ }
+// The states of a scope from which a step by the label asks for nothing: the table holds them, or, if cut steps do not count, stopping is preferred to the label and what is sought is there itself.
+fn covered(goal: &[u64], order: &[u8], cutting: bool, live: &[u64], from: u64, label: u64) -> u64
+    ensures { λ r. ⌜ Covers (wayOf (now (goal .entry)) (now (order .entry)) cutting) (placeFlag (now (live .entry))) from label r ⌝ }
 {
-    if 63 < from {
-        return false;
+    let held = cell(live, from, 0);
+    if cutting {
+        if stop_first(order, label) {
+            return held | cell(goal, from, 0);
+        }
     }
-    if !is_free(free, to) {
-        return false;
-    }
+    held
+}
+
+// Does the table lack a place of the scope `from` that is not covered and from which the label leads to a state of the set?
+fn state_lacks(delta: &[u64], states: u64, have: u64, set: u64, label: u64) -> bool
+    requires { ⌜ NoState (now delta) states ⌝ }
+    ensures { λ r. ⌜ (r ≡ false → (q : ℕ) → hasState have q ≡ false → hasState set (nextCell (now (delta .entry)) q label) ≡ false) ⌝ }
+{
     let mut q: u64 = 0;
     while q < states {
-        if lacks_place(delta, goal, order, cutting, live, from, label, to, q) {
+        if has(have, q) {
+            q += 1;
+            continue;
+        }
+        if has(set, next_state(delta, q, label)) {
             return true;
         }
         q += 1;
@@ -198,16 +220,49 @@ fn row_lacks(
     false
 }
 
+// Does the table lack a place that the row leads from? Rows from or to a scope that is not free do not matter.
+fn row_lacks(
+    delta: &[u64],
+    states: u64,
+    goal: &[u64],
+    order: &[u8],
+    cutting: bool,
+    free: [u8; 64],
+    live: &[u64],
+    from: u64,
+    label: u64,
+    to: u64,
+) -> bool
+    requires { ⌜ NoState (now delta) states ⌝ }
+    ensures { λ r. ⌜ (r ≡ false → RowClosed (now (delta .entry)) (wayOf (now (goal .entry)) (now (order .entry)) cutting) (freeFlag free) (placeFlag (now (live .entry))) from (hopTo label to)) ⌝ }
+{
+    let set = cell(live, to, 0);
+    if set == 0 {
+        return false;
+    }
+    if !is_free(free, to) {
+        return false;
+    }
+    if !is_free(free, from) {
+        return false;
+    }
+    let have = covered(goal, order, cutting, live, from, label);
+    if have == 65535 {
+        return false;
+    }
+    state_lacks(delta, states, have, set, label)
+}
+
 // Does the table lack nothing that a row leads from?
 fn is_closed(
     edges: &[u64],
     delta: &[u64],
     states: u64,
-    goal: &[u8],
+    goal: &[u64],
     order: &[u8],
     cutting: bool,
     free: [u8; 64],
-    live: &[u8],
+    live: &[u64],
 ) -> bool
     requires { ⌜ NoState (now delta) states ⌝ }
     ensures { λ r. ⌜ (r ≡ true → RowsClosed (now (delta .entry)) (wayOf (now (goal .entry)) (now (order .entry)) cutting) (freeFlag free) (placeFlag (now (live .entry))) (now (edges .entry))) ⌝ }
@@ -237,11 +292,11 @@ fn is_closed(
     true
 }
 
-// A table whose flags are all the same.
-fn filled(flag: u8) -> [u8; 1024]
-    ensures { λ r. ⌜ r ≡ replicate 1024 flag ⌝ }
+// The table of all places.
+fn all_places() -> [u64; 64]
+    ensures { λ r. ⌜ r ≡ replicate 64 65535 ⌝ }
 {
-    [flag; 1024]
+    [65535; 64]
 }
 
 // The places worth entering on the way to `seek` by free scopes: a table is grown and then tested. Only one that is closed is taken; the table of all
@@ -249,20 +304,21 @@ fn filled(flag: u8) -> [u8; 1024]
 pub fn live_table(
     edges: &[u64],
     delta: &[u64],
-    seek: &[u8],
-    goal: &[u8],
+    hint: &[u64],
+    seek: &[u64],
+    goal: &[u64],
     order: &[u8],
     cutting: bool,
     free: [u8; 64],
-) -> [u8; 1024]
-    ensures { λ r. ⌜ Closed (tableBoard (now (edges .entry)) (now (delta .entry)) (now (goal .entry))) 64 (placeFlag (now (seek .entry))) (wayOf (now (goal .entry)) (now (order .entry)) cutting) (freeFlag free) (placeFlag r) ⌝ }
+) -> [u64; 64]
+    ensures { λ r. ⌜ Closed (tableBoard (now (edges .entry)) (now (delta .entry)) (now (goal .entry))) (placeFlag (now (seek .entry))) (wayOf (now (goal .entry)) (now (order .entry)) cutting) (freeFlag free) (placeFlag r) ⌝ }
 {
     let states = states_of(delta);
-    let out = grown(true, edges, delta, states, seek, goal, order, cutting, free);
+    let out = grown(edges, hint, seek, goal, order, cutting, free);
     if is_closed(edges, delta, states, goal, order, cutting, free, &out) {
         return out;
     }
-    filled(1)
+    all_places()
 }
 
 // Places that steps which are not cut, by free scopes, do not lead to from (s, q): nothing that is asked for only there is followed from (s, q). The table is
@@ -270,28 +326,73 @@ pub fn live_table(
 pub fn away_table(
     edges: &[u64],
     delta: &[u64],
-    goal: &[u8],
+    goal: &[u64],
     order: &[u8],
     free: [u8; 64],
     s: u64,
     q: u64,
-) -> [u8; 1024]
-    ensures { λ r. ⌜ Closed (tableBoard (now (edges .entry)) (now (delta .entry)) (now (goal .entry))) 64 (placeFlag []) (wayOf (now (goal .entry)) (now (order .entry)) true) (freeFlag free) (placeFlag r) ⌝ }
+) -> [u64; 64]
+    ensures { λ r. ⌜ Closed (tableBoard (now (edges .entry)) (now (delta .entry)) (now (goal .entry))) (placeFlag []) (wayOf (now (goal .entry)) (now (order .entry)) true) (freeFlag free) (placeFlag r) ⌝ }
 {
     let states = states_of(delta);
-    let out = unreached(edges, delta, states, goal, order, true, free, s, q);
+    let out = unreached(edges, delta, goal, order, free, s, q);
     if is_closed(edges, delta, states, goal, order, true, free, &out) {
         return out;
     }
-    filled(1)
+    all_places()
 }
 
 // The places worth entering on the way to what is sought, by any step; any closed table will do.
-pub fn goal_table(edges: &[u64], delta: &[u64], goal: &[u8], free: [u8; 64]) -> [u8; 1024]
-    ensures { λ r. ⌜ Closed (tableBoard (now (edges .entry)) (now (delta .entry)) (now (goal .entry))) 64 (placeFlag (now (goal .entry))) (any-way (tableBoard (now (edges .entry)) (now (delta .entry)) (now (goal .entry)))) (freeFlag free) (placeFlag r) ⌝ }
+fn sought_table(
+    edges: &[u64],
+    delta: &[u64],
+    hint: &[u64],
+    goal: &[u64],
+    free: [u8; 64],
+) -> [u64; 64]
+    ensures { λ r. ⌜ Closed (tableBoard (now (edges .entry)) (now (delta .entry)) (now (goal .entry))) (placeFlag (now (goal .entry))) (any-way (tableBoard (now (edges .entry)) (now (delta .entry)) (now (goal .entry)))) (freeFlag free) (placeFlag r) ⌝ }
 {
     let none = [0u8; 81];
-    live_table(edges, delta, goal, goal, &none, false, free)
+    live_table(edges, delta, hint, goal, goal, &none, false, free)
+}
+
+// The cell i of a table with distances behind its 64 sets.
+fn joined_cell(table: &[u64], near: &[u64], i: u64) -> u64
+    ensures { λ r. ⌜ (i < 64 → r ≡ getD (now (table .entry)) i 0) ⌝ }
+{
+    if i < 64 {
+        return cell(table, i, 0);
+    }
+    cell(near, i - 64, 0)
+}
+
+// The table with distances behind its 64 sets.
+fn joined(table: &[u64], near: &[u64]) -> [u64; 192]
+    ensures { λ r. ⌜ ((s : ℕ) → s < 64 → getD r s 0 ≡ getD (now (table .entry)) s 0) ⌝ }
+{
+    let mut out = [0u64; 192];
+    let mut i: u64 = 0;
+    while i < 192 {
+        out[i as usize] = joined_cell(table, near, i);
+        i += 1;
+    }
+    out
+}
+
+// The table of places worth entering on the way to what is sought, and behind its 64 sets how far what is sought is from each place: a byte for each state, two cells for each scope, 0 where that was not found out. No answer depends on the distances,
+// only which way is tried first.
+pub fn goal_table(
+    edges: &[u64],
+    delta: &[u64],
+    hint: &[u64],
+    goal: &[u64],
+    free: [u8; 64],
+) -> [u64; 192]
+    ensures { λ r. ⌜ Closed (tableBoard (now (edges .entry)) (now (delta .entry)) (now (goal .entry))) (placeFlag (now (goal .entry))) (any-way (tableBoard (now (edges .entry)) (now (delta .entry)) (now (goal .entry)))) (freeFlag free) (placeFlag r) ⌝ }
+{
+    let table = sought_table(edges, delta, hint, goal, free);
+    let near = distances(edges, hint, goal);
+    joined(&table, &near)
 }
 
 // Does the question ask for hops with this label? From 8 on it asks for every label.
@@ -302,7 +403,7 @@ fn wanted(want: u64, label: u64) -> bool
 }
 
 // The state after a hop that is asked for and worth entering, or 16.
-fn worth(delta: &[u64], live: &[u8], free: [u8; 64], q: u64, want: u64, label: u64, to: u64) -> u64
+fn worth(delta: &[u64], live: &[u64], free: [u8; 64], q: u64, want: u64, label: u64, to: u64) -> u64
     ensures { λ r. ⌜ r ≡ worthState (now (delta .entry)) (now (live .entry)) free q want (hopTo label to) ⌝ }
 {
     if wanted(want, label) {
@@ -316,19 +417,159 @@ fn worth(delta: &[u64], live: &[u8], free: [u8; 64], q: u64, want: u64, label: u
     16
 }
 
-// Is what is sought at the end of a path that goes on from the scope and state by free scopes, with fewer than `fuel` hops? `fuel` falls by one with each scope entered:
-// a walk begins with the number of scopes, so it is how many are not yet on the path, this one included. Paired with the rows left it is the falling number of both functions.
-pub fn exists_at(
+// How far what is sought is from the place, by what is noted behind a table's sets; 256 where nothing is noted.
+fn distance(live: &[u64], s: u64, q: u64) -> u64 {
+    if 63 < s {
+        return 256;
+    }
+    if 15 < q {
+        return 256;
+    }
+    let d = (cell(live, 64 + s * 2 + q / 8, 0) >> (q % 8 * 8)) % 256;
+    if d == 0 { 256 } else { d }
+}
+
+// The distance of the place that a hop comes to, if the hop is asked for and worth entering; else 256.
+fn hop_distance(
+    delta: &[u64],
+    live: &[u64],
+    free: [u8; 64],
+    q: u64,
+    want: u64,
+    label: u64,
+    to: u64,
+) -> u64
+    ensures { λ r. ⌜ (r < 256 → worthState (now (delta .entry)) (now (live .entry)) free q want (hopTo label to) < 16) ⌝ }
+{
+    let r = worth(delta, live, free, q, want, label, to);
+    if 15 < r {
+        return 256;
+    }
+    distance(live, to, r)
+}
+
+// The row that leaves the scope for the nearest place, of those whose label is asked for; the number of cells if no row leads to a place with a distance.
+fn nearest_row(
     edges: &[u64],
     delta: &[u64],
-    goal: &[u8],
-    live: &[u8],
+    live: &[u64],
+    free: [u8; 64],
+    s: u64,
+    q: u64,
+    want: u64,
+) -> usize
+    requires { ⌜ Sorted (now edges) ⌝ }
+    ensures { λ r. ⌜ (r < length (now (edges .entry)) → HopAt (now (edges .entry)) (now (delta .entry)) (now (live .entry)) free s q want r) ⌝ }
+{
+    let n = edges.len();
+    let mut best = n;
+    let mut least: u64 = 256;
+    let mut p = next_row(edges, s, 0);
+    while p < n {
+        let d = hop_distance(delta, live, free, q, want, edges[p + 2], edges[p + 3]);
+        let here = p;
+        p = next_row(edges, s, here + 6);
+        if least <= d {
+            continue;
+        }
+        least = d;
+        best = here;
+    }
+    best
+}
+
+// Does the way that goes from place to nearest place come to what is sought? If so it is there; if not, nothing is known. A place without a distance is not gone from. Most searches end here, where a search through the paths
+// would try many in vain.
+fn straight(
+    edges: &[u64],
+    delta: &[u64],
+    goal: &[u64],
+    live: &[u64],
     fuel: usize,
     free: [u8; 64],
     s: u64,
     q: u64,
 ) -> bool
-    requires { ⌜ Closed (tableBoard (now edges) (now delta) (now goal)) 64 (placeFlag (now goal)) (any-way (tableBoard (now edges) (now delta) (now goal))) (freeFlag free) (placeFlag (now live)) ⌝ }
+    requires { ⌜ Sorted (now edges) ⌝ }
+    ensures { λ r. ⌜ (r ≡ true → existsFrom (tableBoard (now (edges .entry)) (now (delta .entry)) (now (goal .entry))) fuel (freeFlag free) s q ≡ true) ⌝ }
+{
+    let mut left = fuel;
+    let mut on = free;
+    let mut at = s;
+    let mut state = q;
+    while 0 < left {
+        if place(goal, at, state) {
+            return true;
+        }
+        let p = nearest_row(edges, delta, live, on, at, state, 8);
+        if edges.len() <= p {
+            return false;
+        }
+        let to = edges[p + 3];
+        state = next_state(delta, state, edges[p + 2]);
+        let fewer = taken(on, to);
+        on = fewer;
+        at = to;
+        left -= 1;
+    }
+    false
+}
+
+// The same, with the first hop by a label that is asked for.
+fn straight_by(
+    edges: &[u64],
+    delta: &[u64],
+    goal: &[u64],
+    live: &[u64],
+    fuel: usize,
+    free: [u8; 64],
+    s: u64,
+    q: u64,
+    want: u64,
+) -> bool
+    requires { ⌜ Sorted (now edges) ⌝ }
+    ensures { λ r. ⌜ (r ≡ true → anyOf (λ h. wantedHop want h && leadsOn (tableBoard (now (edges .entry)) (now (delta .entry)) (now (goal .entry))) fuel (freeFlag free) q h) (rowHops (now (edges .entry)) s) ≡ true) ⌝ }
+{
+    let p = nearest_row(edges, delta, live, free, s, q, want);
+    if edges.len() <= p {
+        return false;
+    }
+    let to = edges[p + 3];
+    straight(
+        edges,
+        delta,
+        goal,
+        live,
+        fuel,
+        taken(free, to),
+        to,
+        next_state(delta, q, edges[p + 2]),
+    )
+}
+
+// Is the table to be made anew? Only after a hop was met in vain, and not if it was made anew already.
+fn stale(fresh: bool, vain: bool) -> bool {
+    if fresh {
+        return false;
+    }
+    vain
+}
+
+// Is what is sought at the end of a path that goes on from the scope and state by free scopes, with fewer than `fuel` hops? `fuel` falls by one with each scope entered:
+// a walk begins with the number of scopes, so it is how many are not yet on the path, this one included. Paired with the rows left it is the falling number of both functions.
+pub fn exists_at(
+    edges: &[u64],
+    delta: &[u64],
+    hint: &[u64],
+    goal: &[u64],
+    live: &[u64],
+    fuel: usize,
+    free: [u8; 64],
+    s: u64,
+    q: u64,
+) -> bool
+    requires { ⌜ Sorted (now edges) ⌝ }
+    requires { ⌜ Closed (tableBoard (now edges) (now delta) (now goal)) (placeFlag (now goal)) (any-way (tableBoard (now edges) (now delta) (now goal))) (freeFlag free) (placeFlag (now live)) ⌝ }
     ensures { λ r. ⌜ r ≡ existsFrom (tableBoard (now (edges .entry)) (now (delta .entry)) (now (goal .entry))) fuel (freeFlag free) s q ⌝ }
 {
     if fuel == 0 {
@@ -337,25 +578,42 @@ pub fn exists_at(
     if place(goal, s, q) {
         return true;
     }
-    exists_from(edges, delta, goal, live, fuel - 1, free, s, q, 8, false, 0)
+    exists_from(
+        edges,
+        delta,
+        hint,
+        goal,
+        live,
+        fuel - 1,
+        free,
+        s,
+        q,
+        8,
+        false,
+        false,
+        0,
+    )
 }
 
-// The same by the rows from cell p on whose label is asked for. A hop that leads nowhere although its place was worth entering shows that the table
-// hopes too much: it is made anew for the scopes that are free now, at most once in this look through a scope's rows.
+// The same by the rows from cell p on whose label is asked for. A hop that leads nowhere although its place was worth entering shows that the table hopes too much: before the next hop is entered
+// it is made anew for the scopes that are free now, once in this look through a scope's rows (`vain`: such a hop was met; `fresh`: it was made anew), and that hop is entered only if the new table holds its place too.
 pub fn exists_from(
     edges: &[u64],
     delta: &[u64],
-    goal: &[u8],
-    live: &[u8],
+    hint: &[u64],
+    goal: &[u64],
+    live: &[u64],
     fuel: usize,
     free: [u8; 64],
     s: u64,
     q: u64,
     want: u64,
     fresh: bool,
+    vain: bool,
     p: usize,
 ) -> bool
-    requires { ⌜ Closed (tableBoard (now edges) (now delta) (now goal)) 64 (placeFlag (now goal)) (any-way (tableBoard (now edges) (now delta) (now goal))) (freeFlag free) (placeFlag (now live)) ⌝ }
+    requires { ⌜ Sorted (now edges) ⌝ }
+    requires { ⌜ Closed (tableBoard (now edges) (now delta) (now goal)) (placeFlag (now goal)) (any-way (tableBoard (now edges) (now delta) (now goal))) (freeFlag free) (placeFlag (now live)) ⌝ }
     ensures { λ r. ⌜ r ≡ anyOf (λ h. wantedHop want h && leadsOn (tableBoard (now (edges .entry)) (now (delta .entry)) (now (goal .entry))) fuel (freeFlag free) q h) (rowHops (drop p (now (edges .entry))) s) ⌝ }
 {
     let at = next_row(edges, s, p);
@@ -363,143 +621,221 @@ pub fn exists_from(
         return false;
     }
     let on = at + 6;
+    let label = edges[at + 2];
     let to = edges[at + 3];
-    let r = worth(delta, live, free, q, want, edges[at + 2], to);
+    let r = worth(delta, live, free, q, want, label, to);
     if 15 < r {
-        return exists_from(edges, delta, goal, live, fuel, free, s, q, want, fresh, on);
+        return exists_from(
+            edges,
+            delta,
+            hint,
+            goal,
+            live,
+            fuel,
+            free,
+            s,
+            q,
+            want,
+            fresh,
+            vain,
+            on,
+        );
     }
     let inner = taken(free, to);
-    if exists_at(edges, delta, goal, live, fuel, inner, to, r) {
+    if stale(fresh, vain) {
+        let new = sought_table(edges, delta, hint, goal, free);
+        let again = worth(delta, &new, free, q, want, label, to);
+        if again < 16 {
+            if exists_at(edges, delta, hint, goal, &new, fuel, inner, to, again) {
+                return true;
+            }
+        }
+        return exists_from(
+            edges,
+            delta,
+            hint,
+            goal,
+            &new,
+            fuel,
+            free,
+            s,
+            q,
+            want,
+            true,
+            false,
+            on,
+        );
+    }
+    if exists_at(edges, delta, hint, goal, live, fuel, inner, to, r) {
         return true;
     }
-    if fresh {
-        return exists_from(edges, delta, goal, live, fuel, free, s, q, want, true, on);
-    }
-    let new = goal_table(edges, delta, goal, free);
-    exists_from(edges, delta, goal, &new, fuel, free, s, q, want, true, on)
+    exists_from(
+        edges,
+        delta,
+        hint,
+        goal,
+        live,
+        fuel,
+        free,
+        s,
+        q,
+        want,
+        fresh,
+        true,
+        on,
+    )
 }
 
-// Is the end with number a preferred to some end?
-fn asks(order: &[u8], a: u64) -> bool
-    ensures { λ r. ⌜ (r ≡ false → (c : ℕ) → pairFlag (now (order .entry)) a c ≡ false) ⌝ }
-{
-    let mut c: u64 = 0;
-    while c < 9 {
-        if pair(order, a, c) {
-            return true;
-        }
-        c += 1;
-    }
-    false
-}
-
-// Does what is sought lie at the end with number a: here, or behind a hop with its label? Asked only if the end is preferred to some other.
+// Does what is sought lie at the end with number a: here, or behind a hop with its label? The nearest way is tried first.
 fn end_leads(
     edges: &[u64],
     delta: &[u64],
-    goal: &[u8],
-    order: &[u8],
-    live: &[u8],
+    hint: &[u64],
+    goal: &[u64],
+    live: &[u64],
     fuel: usize,
     free: [u8; 64],
     s: u64,
     q: u64,
     a: u64,
 ) -> bool
-    requires { ⌜ Closed (tableBoard (now edges) (now delta) (now goal)) 64 (placeFlag (now goal)) (any-way (tableBoard (now edges) (now delta) (now goal))) (freeFlag free) (placeFlag (now live)) ⌝ }
-    ensures { λ r. ⌜ AsOrdered (now (order .entry)) a (behindEnd (tableBoard (now (edges .entry)) (now (delta .entry)) (now (goal .entry))) fuel (freeFlag free) s q a) r ⌝ }
+    requires { ⌜ a < 9 ⌝ }
+    requires { ⌜ Sorted (now edges) ⌝ }
+    requires { ⌜ Closed (tableBoard (now edges) (now delta) (now goal)) (placeFlag (now goal)) (any-way (tableBoard (now edges) (now delta) (now goal))) (freeFlag free) (placeFlag (now live)) ⌝ }
+    ensures { λ r. ⌜ r ≡ behindEnd (tableBoard (now (edges .entry)) (now (delta .entry)) (now (goal .entry))) fuel (freeFlag free) s q a ⌝ }
 {
-    if !asks(order, a) {
-        return false;
-    }
     if a == 0 {
         return place(goal, s, q);
     }
-    if 8 < a {
-        return false;
+    if straight_by(edges, delta, goal, live, fuel, free, s, q, a - 1) {
+        return true;
     }
-    exists_from(edges, delta, goal, live, fuel, free, s, q, a - 1, false, 0)
+    exists_from(
+        edges,
+        delta,
+        hint,
+        goal,
+        live,
+        fuel,
+        free,
+        s,
+        q,
+        a - 1,
+        false,
+        false,
+        0,
+    )
 }
 
-// A flag's byte.
-fn flag(b: bool) -> u8
-    ensures { λ r. ⌜ eqb r 1 ≡ b ⌝ }
-{
-    if b { 1 } else { 0 }
+// What is known of the nine ends at a scope and state, and whether the end that was asked about is cut there. An end's byte: 1 if what is sought lies there, 2 if it does not, 0 if that was not asked yet.
+pub struct Learnt {
+    pub known: [u8; 9],
+    pub cut: bool,
 }
 
-// For each of nine ends, does what is sought lie there?
-fn ways(
-    edges: &[u64],
-    delta: &[u64],
-    goal: &[u8],
-    order: &[u8],
-    live: &[u8],
-    fuel: usize,
-    free: [u8; 64],
-    s: u64,
-    q: u64,
-) -> [u8; 9]
-    requires { ⌜ Closed (tableBoard (now edges) (now delta) (now goal)) 64 (placeFlag (now goal)) (any-way (tableBoard (now edges) (now delta) (now goal))) (freeFlag free) (placeFlag (now live)) ⌝ }
-    ensures { λ r. ⌜ ((a : ℕ) → a < 9 → AsOrdered (now (order .entry)) a (behindEnd (tableBoard (now (edges .entry)) (now (delta .entry)) (now (goal .entry))) fuel (freeFlag free) s q a) (freeFlag r a)) ⌝ }
-{
-    let mut out = [0u8; 9];
-    let mut a: u64 = 0;
-    while a < 9 {
-        out[a as usize] = flag(end_leads(edges, delta, goal, order, live, fuel, free, s, q, a));
-        a += 1;
-    }
-    out
-}
-
-// Does the end with number a lead on, and is it preferred to the one with number c?
-fn end_cuts(order: &[u8], leads: [u8; 9], a: u64, c: u64) -> bool
-    ensures { λ r. ⌜ r ≡ (pairFlag (now (order .entry)) a c && freeFlag leads a) ⌝ }
-{
-    if pair(order, a, c) {
-        let k = a as usize;
-        if k < 9 {
-            return leads[k] == 1;
-        }
-    }
-    false
-}
-
-// Is the end with number c cut: does what is sought lie at an end that is preferred to it?
-fn cut_by(order: &[u8], leads: [u8; 9], c: u64) -> bool
-    ensures { λ r. ⌜ CutBy (now (order .entry)) leads c r ⌝ }
+// Is it known already that the end with number c is cut: that what is sought lies at an end preferred to it?
+fn known_cut(order: &[u8], known: [u8; 9], c: u64) -> bool
+    ensures { λ r. ⌜ (r ≡ true → KnownCut (now (order .entry)) known c) ⌝ }
 {
     let mut a: u64 = 0;
     while a < 9 {
-        if end_cuts(order, leads, a, c) {
-            return true;
+        if known[a as usize] == 1 {
+            if pair(order, a, c) {
+                return true;
+            }
         }
         a += 1;
     }
     false
 }
 
-// For each of nine ends, is it cut at the scope and state?
-pub fn cuts(
+// The byte of an end at which what is sought lies, or does not.
+fn verdict(leads: bool) -> u8
+    ensures { λ r. ⌜ r ≡ verdictOf leads ⌝ }
+{
+    if leads { 1 } else { 2 }
+}
+
+// The byte of the end with number a: the one known, if it says something, else by asking. Nothing is asked about an end that is known.
+fn end_byte(
     edges: &[u64],
     delta: &[u64],
-    goal: &[u8],
-    order: &[u8],
-    live: &[u8],
+    hint: &[u64],
+    goal: &[u64],
+    live: &[u64],
     fuel: usize,
     free: [u8; 64],
     s: u64,
     q: u64,
-) -> [u8; 9]
-    requires { ⌜ Closed (tableBoard (now edges) (now delta) (now goal)) 64 (placeFlag (now goal)) (any-way (tableBoard (now edges) (now delta) (now goal))) (freeFlag free) (placeFlag (now live)) ⌝ }
-    ensures { λ r. ⌜ ((c : ℕ) → c < 9 → freeFlag r c ≡ cutHere (tableBoard (now (edges .entry)) (now (delta .entry)) (now (goal .entry))) (tableOrder (now (order .entry))) fuel (freeFlag free) s q (endOf c)) ⌝ }
+    known: [u8; 9],
+    a: u64,
+) -> u8
+    requires { ⌜ a < 9 ⌝ }
+    requires { ⌜ Sorted (now edges) ⌝ }
+    requires { ⌜ Closed (tableBoard (now edges) (now delta) (now goal)) (placeFlag (now goal)) (any-way (tableBoard (now edges) (now delta) (now goal))) (freeFlag free) (placeFlag (now live)) ⌝ }
+    requires { ⌜ Known (tableBoard (now edges) (now delta) (now goal)) fuel (freeFlag free) s q known ⌝ }
+    ensures { λ r. ⌜ r ≡ verdictOf (behindEnd (tableBoard (now (edges .entry)) (now (delta .entry)) (now (goal .entry))) fuel (freeFlag free) s q a) ⌝ }
 {
-    let leads = ways(edges, delta, goal, order, live, fuel, free, s, q);
-    let mut out = [0u8; 9];
-    let mut c: u64 = 0;
-    while c < 9 {
-        out[c as usize] = flag(cut_by(order, leads, c));
-        c += 1;
+    let byte = known[a as usize];
+    if byte == 1 {
+        return 1;
     }
-    out
+    if byte == 2 {
+        return 2;
+    }
+    verdict(end_leads(edges, delta, hint, goal, live, fuel, free, s, q, a))
+}
+
+// Is the end with number c cut at the scope and state? Only ends that are preferred to it are asked about, each once for all questions at this scope and state: what was learnt is handed on. Which ends that tells of is left open: any others are asked about when they are needed.
+pub fn learn(
+    edges: &[u64],
+    delta: &[u64],
+    hint: &[u64],
+    goal: &[u64],
+    order: &[u8],
+    live: &[u64],
+    fuel: usize,
+    free: [u8; 64],
+    s: u64,
+    q: u64,
+    known: [u8; 9],
+    c: u64,
+) -> Learnt
+    requires { ⌜ Sorted (now edges) ⌝ }
+    requires { ⌜ Closed (tableBoard (now edges) (now delta) (now goal)) (placeFlag (now goal)) (any-way (tableBoard (now edges) (now delta) (now goal))) (freeFlag free) (placeFlag (now live)) ⌝ }
+    requires { ⌜ Known (tableBoard (now edges) (now delta) (now goal)) fuel (freeFlag free) s q known ⌝ }
+    ensures { λ r. ⌜ Known (tableBoard (now (edges .entry)) (now (delta .entry)) (now (goal .entry))) fuel (freeFlag free) s q (r .known) ⌝ }
+    ensures { λ r. ⌜ r .cut ≡ cutHere (tableBoard (now (edges .entry)) (now (delta .entry)) (now (goal .entry))) (tableOrder (now (order .entry))) fuel (freeFlag free) s q (endOf c) ⌝ }
+{
+    if known_cut(order, known, c) {
+        return Learnt { known, cut: true };
+    }
+    let mut out = known;
+    let mut a: u64 = 0;
+    while a < 9 {
+        if !pair(order, a, c) {
+            a += 1;
+            continue;
+        }
+        let byte = end_byte(edges, delta, hint, goal, live, fuel, free, s, q, out, a);
+        out[a as usize] = byte;
+        if byte == 1 {
+            return Learnt {
+                known: out,
+                cut: true,
+            };
+        }
+        a += 1;
+    }
+    Learnt {
+        known: out,
+        cut: false,
+    }
+}
+
+// Nothing is known of any end yet.
+pub fn nothing_known() -> [u8; 9]
+    ensures { λ r. ⌜ r ≡ replicate 9 0 ⌝ }
+{
+    [0; 9]
 }

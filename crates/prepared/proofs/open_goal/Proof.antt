@@ -1,50 +1,27 @@
-use Prim.Native.Nat.{ℕ, _-_}
-use native.Mathlib.Omega.{arith}
+use mathlib.Core.Path.{sym, ap}
 use borrow.Author.Needs.{needs}
-use lib.ListN.{length-replicate}
-use Rattle.prepared.specs.Tables.{openFlag, openFlags}
-use Rattle.prepared.proofs.Fill.{Filled, filled-none, filled-next, filled-all}
+use lib.ListN.{set, replicate}
+use lib.Seq.{set-out}
+use Rattle.prepared.specs.Tables.{openSets}
 use Rattle.prepared.proofs.open_goal.Statement.{statement}
 use Rattle.prepared.proofs.open_goal.Tie as tie
 
-abbrev Inv-loop : tie.InvT-loop
-Inv-loop delta accepting hopeful at end t₀ i₀ t i = Filled (openFlag delta accepting hopeful at end) 1024 i t
+usable-set-requires : tie.Need-usable-set-requires
+usable-set-requires c κs = search needs
 
-abbrev μ-loop : tie.MeasureT-loop
-μ-loop delta accepting hopeful at end t₀ i₀ t i = 1024 - i
+mul-t : tie.Need-mul-t
+mul-t c = search needs
 
-loop-holds : tie.Need-loop-holds Inv-loop μ-loop
-loop-holds c = filled-none _ 1024 _ (length-replicate {A = ℕ} 1024 0)
+array-write-t : tie.Need-array-write-t
+array-write-t c = search needs
 
-open-cell-requires : tie.Need-open-cell-requires Inv-loop μ-loop
-open-cell-requires c κs = search needs
+returns : tie.Need-returns
+unfolding openSets
+returns c = ap (set (replicate 64 0) (c .before .before .before .before .before .args .at)) (c .usable-set .ensures)
 
-array-write-t : tie.Need-array-write-t Inv-loop μ-loop
-array-write-t c = omega arith
-
-add-i : tie.Need-add-i Inv-loop μ-loop
-add-i c = omega arith
-
-loop-less : tie.Need-loop-less Inv-loop μ-loop
-loop-less c = omega arith
-
-loop-again : tie.Need-loop-again Inv-loop μ-loop
-loop-again c = filled-next _ _ _ _ _ (c .before .before .loop .inv) (c .before .loop-test .taken) (c .open-cell .ensures)
-
-returns : tie.Need-returns Inv-loop μ-loop
-unfolding openFlags
-returns c = filled-all _ _ _ _ (c .before .loop .inv) (c .loop-test .left)
+returns-2 : tie.Need-returns-2
+unfolding openSets
+returns-2 c = sym (set-out (replicate 64 0) (c .before .before .before .before .args .at) _ (c .if1 .left))
 
 pub open-goal-spec : {M : Type 1} → statement M
-open-goal-spec =
-    tie.close
-    (tie.spec
-    Inv-loop
-    μ-loop
-    loop-holds
-    open-cell-requires
-    array-write-t
-    add-i
-    loop-less
-    loop-again
-    returns)
+open-goal-spec = tie.close (tie.spec usable-set-requires mul-t array-write-t returns returns-2)

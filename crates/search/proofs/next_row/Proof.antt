@@ -1,66 +1,87 @@
--- `next_row` meets its contract: the rows passed leave other scopes. Assumes nothing.
-use Prim.Native.Nat.{_≤_, _-_}
-use mathlib.Core.Path.{_≡_, refl, sym, _∙_}
+-- `next_row` meets its contract: rows whose scope is not s are skipped, many at once (proofs/Rows). Assumes nothing.
 use native.Mathlib.Omega.{arith}
-use lib.ListN.{length, drop}
-use Rattle.search.specs.Tables.{rowHops}
-use Rattle.search.proofs.Rows.{rows-none, rows-pass}
+use Rattle.search.proofs.Rows.{next-short, next-past, first-inside, first-short, first-found, first-missed}
+use borrow.Author.Needs.{needs}
 use Rattle.search.proofs.next_row.Statement.{statement}
 use Rattle.search.proofs.next_row.Tie as tie
 
-abbrev Inv-loop : tie.InvT-loop
-Inv-loop edges s p n i₀ i = (n ≡ length edges) × (p ≤ i) × (rowHops (drop p edges) s ≡ rowHops (drop i edges) s)
+scan-row-requires : tie.Need-scan-row-requires
+scan-row-requires c κs = search needs
 
-abbrev μ-loop : tie.MeasureT-loop
-μ-loop edges s p n i₀ i = n - i
+returns : tie.Need-returns
+returns c = search needs
 
-loop-holds : tie.Need-loop-holds Inv-loop μ-loop
-loop-holds c = (refl, omega arith, refl)
+returns-2 : tie.Need-returns-2
+returns-2 c = search needs
 
-sub-if1 : tie.Need-sub-if1 Inv-loop μ-loop
-sub-if1 c = omega arith
+sub-if3 : tie.Need-sub-if3
+sub-if3 c = search needs
 
-returns : tie.Need-returns Inv-loop μ-loop
-returns c = let l = c .before .before .before .args .edges .now in let s = c .before .before .before .args .s in record { same = c .before .before .loop .inv .2 ∙ rows-none l s (c .before .before .loop .i) (omega arith) ∙ sym (rows-none l s (length l) (omega arith)); on = omega arith; whole = λ h. absurd (omega arith); leaves = λ h. absurd (omega arith) }
+returns-3 : tie.Need-returns-3
+returns-3 c = let s = c .before .before .before .before .args in next-short (s .edges .now) (s .s) (s .p) (omega arith) (omega arith) (omega arith)
 
-add-if2 : tie.Need-add-if2 Inv-loop μ-loop
-add-if2 c = omega arith
+add-here : tie.Need-add-here
+add-here c = search needs
 
-mul-if2 : tie.Need-mul-if2 Inv-loop μ-loop
-mul-if2 c = omega arith
+mul-here : tie.Need-mul-here
+mul-here c = search needs
 
-shared-slice-read-if2 : tie.Need-shared-slice-read-if2 Inv-loop μ-loop
-shared-slice-read-if2 c = omega arith
+shared-slice-read-here : tie.Need-shared-slice-read-here
+shared-slice-read-here c = search needs
 
-returns-2 : tie.Need-returns-2 Inv-loop μ-loop
-returns-2 c = record { same = c .before .before .before .before .loop .inv .2; on = c .before .before .before .before .loop .inv .1; whole = λ h. omega arith; leaves = λ h. c .if2 .taken }
+returns-4 : tie.Need-returns-4
+returns-4 c = search needs
 
-add-i : tie.Need-add-i Inv-loop μ-loop
-add-i c = omega arith
+returns-5 : tie.Need-returns-5
+returns-5 c = let s = c .before .before .before .before .before .before .before .args in next-past (s .edges .now) (s .s) (s .p) (omega arith) (omega arith) (c .before .before .before .before .before .before .before .pre) (omega arith)
 
-loop-less : tie.Need-loop-less Inv-loop μ-loop
-loop-less c = omega arith
+first-from-requires : tie.Need-first-from-requires
+first-from-requires c κs = search needs
 
-loop-again : tie.Need-loop-again Inv-loop μ-loop
-loop-again c = (refl, omega arith, c .before .before .before .before .loop .inv .2 ∙ rows-pass (c .before .before .before .before .before .args .edges .now) (c .before .before .before .before .before .args .s) (c .before .before .before .before .loop .i) (omega arith) (c .if2 .left))
+mul-at : tie.Need-mul-at
+mul-at c = let s = c .before .before .before .before .before .before .before .before .args in omega (arith, first-inside (s .edges .now) (s .s) (s .p) (omega arith) (omega arith) (c .first-from .result) (c .first-from .ensures))
 
-returns-3 : tie.Need-returns-3 Inv-loop μ-loop
-returns-3 c = record { same = c .before .loop .inv .2; on = c .before .loop .inv .1; whole = λ h. absurd (omega arith); leaves = λ h. absurd (omega arith) }
+sub-if6 : tie.Need-sub-if6
+sub-if6 c = let s = c .before .before .before .before .before .before .before .before .args in first-inside (s .edges .now) (s .s) (s .p) (omega arith) (omega arith) (c .first-from .result) (c .first-from .ensures)
+
+returns-6 : tie.Need-returns-6
+returns-6 c = let s = c .before .before .before .before .before .before .before .before .before .args in first-short (s .edges .now) (s .s) (s .p) (omega arith) (omega arith) (c .before .first-from .result) (c .before .first-from .ensures) (omega arith)
+
+add-if7 : tie.Need-add-if7
+add-if7 c = search needs
+
+mul-if7 : tie.Need-mul-if7
+mul-if7 c = search needs
+
+shared-slice-read-if7 : tie.Need-shared-slice-read-if7
+shared-slice-read-if7 c = search needs
+
+returns-7 : tie.Need-returns-7
+returns-7 c = let s = c .before .before .before .before .before .before .before .before .before .before .before .args in first-found (s .edges .now) (s .s) (s .p) (omega arith) (omega arith) (c .before .before .before .first-from .result) (c .before .before .before .first-from .ensures) (omega arith) (c .if7 .taken)
+
+returns-8 : tie.Need-returns-8
+returns-8 c = let s = c .before .before .before .before .before .before .before .before .before .before .before .args in first-missed (s .edges .now) (s .s) (s .p) (omega arith) (omega arith) (c .before .before .before .first-from .result) (c .before .before .before .first-from .ensures) (c .before .before .before .before .before .before .before .before .before .before .before .pre) (omega arith) (c .if7 .left)
 
 pub next-row-spec : {M : Type 1} → statement M
 next-row-spec =
     tie.close
     (tie.spec
-    Inv-loop
-    μ-loop
-    loop-holds
-    sub-if1
+    scan-row-requires
     returns
-    add-if2
-    mul-if2
-    shared-slice-read-if2
     returns-2
-    add-i
-    loop-less
-    loop-again
-    returns-3)
+    sub-if3
+    returns-3
+    add-here
+    mul-here
+    shared-slice-read-here
+    returns-4
+    returns-5
+    first-from-requires
+    mul-at
+    sub-if6
+    returns-6
+    add-if7
+    mul-if7
+    shared-slice-read-if7
+    returns-7
+    returns-8)

@@ -1,66 +1,55 @@
--- `row_lacks` meets its contract: no state passed is one that the table lacks. Assumes nothing.
-use Prim.Native.Nat.{ℕ, _<_, _-_}
-use mathlib.Core.Bool.{false, true≢false}
-use mathlib.Core.Path.{_≡_, sym, _∙_}
+-- `row_lacks` meets its contract: no place leads on to an empty set, what is covered is not lacked, and the rest is tested state by state. Assumes nothing.
+use mathlib.Core.Bool.{true≢false}
+use mathlib.Core.Path.{sym, _∙_}
 use native.Mathlib.Omega.{arith}
 use borrow.Author.Tests.{not-true}
 use borrow.Author.Needs.{needs}
-use borrow.Author.Count.{below-more}
-use Rattle.search.specs.Steps.{lacks, wayOf, hopTo}
-use Rattle.search.specs.Tables.{placeFlag}
-use Rattle.search.proofs.Cells.{lacks-none}
+use Rattle.search.proofs.States.{states-all}
+use Rattle.search.proofs.Cells.{place-empty, lacks-no, lacks-covered, lacks-into, free-below}
 use Rattle.search.proofs.row_lacks.Statement.{statement}
 use Rattle.search.proofs.row_lacks.Tie as tie
 
-abbrev Inv-loop : tie.InvT-loop
-Inv-loop delta states goal order cutting live from label to q₀ q = (k : ℕ) → k < q → lacks delta (wayOf goal order cutting) (placeFlag live) from (hopTo label to) k ≡ false
+cell-requires : tie.Need-cell-requires
+cell-requires c κs = search needs
 
-abbrev μ-loop : tie.MeasureT-loop
-μ-loop delta states goal order cutting live from label to q₀ q = states - q
+returns : tie.Need-returns
+returns c = λ e f g q h. lacks-no _ _ _ _ _ _ q (place-empty (c .before .before .before .before .before .before .args .live .now) (c .before .before .before .before .before .before .args .to) _ (sym (c .before .cell .ensures) ∙ c .if1 .taken))
 
-returns : tie.Need-returns Inv-loop μ-loop
-returns c = λ e below f. absurd (omega arith)
-
-is-free-requires : tie.Need-is-free-requires Inv-loop μ-loop
+is-free-requires : tie.Need-is-free-requires
 is-free-requires c κs = search needs
 
-returns-2 : tie.Need-returns-2 Inv-loop μ-loop
-returns-2 c = λ e below f. absurd (true≢false (sym f ∙ sym (c .before .is-free .ensures) ∙ not-true _ (c .if2 .taken)))
+returns-2 : tie.Need-returns-2
+returns-2 c = λ e f g. absurd (true≢false (sym g ∙ sym (c .before .is-free .ensures) ∙ not-true _ (c .if2 .taken)))
 
-loop-holds : tie.Need-loop-holds Inv-loop μ-loop
-loop-holds c = λ k h. absurd (omega arith)
+is-free-requires-2 : tie.Need-is-free-requires-2
+is-free-requires-2 c κs = search needs
 
-lacks-place-requires : tie.Need-lacks-place-requires Inv-loop μ-loop
-lacks-place-requires c κs = search needs
+returns-3 : tie.Need-returns-3
+returns-3 c = λ e f. absurd (true≢false (sym f ∙ sym (c .before .is-free2 .ensures) ∙ not-true _ (c .if3 .taken)))
 
-returns-3 : tie.Need-returns-3 Inv-loop μ-loop
-returns-3 c = λ e. absurd (true≢false e)
+covered-requires : tie.Need-covered-requires
+covered-requires c κs = search needs
 
-add-q : tie.Need-add-q Inv-loop μ-loop
-add-q c = omega arith
+returns-4 : tie.Need-returns-4
+returns-4 c = λ e f g q h. lacks-covered _ _ _ _ _ _ q (c .before .covered .result) (c .before .covered .ensures) (omega (arith, free-below (c .before .before .before .before .before .before .before .before .before .before .before .before .args .free) (c .before .before .before .before .before .before .before .before .before .before .before .before .args .from) f)) (rw (c .if4 .taken) (states-all q h))
 
-loop-less : tie.Need-loop-less Inv-loop μ-loop
-loop-less c = omega arith
+state-lacks-requires : tie.Need-state-lacks-requires
+state-lacks-requires c κs = search needs
 
-loop-again : tie.Need-loop-again Inv-loop μ-loop
-loop-again c = below-more _ _ (c .before .before .before .loop .inv) (sym (c .before .lacks-place .ensures) ∙ c .if3 .left)
-
-returns-4 : tie.Need-returns-4 Inv-loop μ-loop
-returns-4 c = λ e below f k h. lacks-none _ _ _ _ _ _ (c .before .before .before .before .before .before .before .before .before .args .states) (c .before .before .before .before .before .before .before .before .before .pre) (λ j m. c .before .loop .inv j (omega arith)) k
+returns-5 : tie.Need-returns-5
+returns-5 c = λ e f g q h. lacks-into _ _ _ _ _ _ q (c .before .before .covered .result) (c .before .before .before .before .before .before .before .before .cell .result) (c .before .before .covered .ensures) (c .before .before .before .before .before .before .before .before .cell .ensures) (omega (arith, free-below (c .before .before .before .before .before .before .before .before .before .before .before .before .before .args .free) (c .before .before .before .before .before .before .before .before .before .before .before .before .before .args .from) f)) (omega (arith, free-below (c .before .before .before .before .before .before .before .before .before .before .before .before .before .args .free) (c .before .before .before .before .before .before .before .before .before .before .before .before .before .args .to) g)) (c .state-lacks .ensures e q)
 
 pub row-lacks-spec : {M : Type 1} → statement M
 row-lacks-spec =
     tie.close
     (tie.spec
-    Inv-loop
-    μ-loop
+    cell-requires
     returns
     is-free-requires
     returns-2
-    loop-holds
-    lacks-place-requires
+    is-free-requires-2
     returns-3
-    add-q
-    loop-less
-    loop-again
-    returns-4)
+    covered-requires
+    returns-4
+    state-lacks-requires
+    returns-5)

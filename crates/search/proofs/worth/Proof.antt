@@ -1,6 +1,7 @@
 -- `worth` meets its contract. Assumes nothing.
-use mathlib.Core.Path.{sym, _∙_}
+use mathlib.Core.Path.{sym, ap, _∙_}
 use borrow.Author.Needs.{needs}
+use Rattle.search.specs.Tables.{placeFlag}
 use Rattle.search.specs.Steps.{wantedHop}
 use Rattle.search.proofs.Cells.{worth-yes, worth-unwanted, worth-taken, worth-dead}
 use Rattle.search.proofs.worth.Statement.{statement}
@@ -20,10 +21,10 @@ place-requires c κs = search needs
 
 returns : tie.Need-returns
 unfolding wantedHop
-returns c = c .before .before .next-state .ensures ∙ sym (worth-yes _ _ _ _ _ _ _ (sym (c .before .before .before .before .before .before .wanted .ensures) ∙ c .before .before .before .before .before .if1 .taken) (sym (c .before .before .before .before .is-free .ensures) ∙ c .before .before .before .if2 .taken) (rw (c .before .before .next-state .ensures) at (sym (c .before .place .ensures) ∙ c .if3 .taken)))
+returns c = let s = c .before .before .before .before .before .before .before .before .before .args in c .before .before .next-state .ensures ∙ sym (worth-yes _ _ _ _ _ _ _ (sym (c .before .before .before .before .before .before .wanted .ensures) ∙ c .before .before .before .before .before .if1 .taken) (sym (c .before .before .before .before .is-free .ensures) ∙ c .before .before .before .if2 .taken) (sym (ap (placeFlag (s .live .now) (s .to)) (c .before .before .next-state .ensures)) ∙ sym (c .before .place .ensures) ∙ c .if3 .taken))
 
 returns-2 : tie.Need-returns-2
-returns-2 c = sym (worth-dead _ _ _ _ _ _ _ (rw (c .before .before .next-state .ensures) at (sym (c .before .place .ensures) ∙ c .if3 .left)))
+returns-2 c = let s = c .before .before .before .before .before .before .before .before .before .args in sym (worth-dead _ _ _ _ _ _ _ (sym (ap (placeFlag (s .live .now) (s .to)) (c .before .before .next-state .ensures)) ∙ sym (c .before .place .ensures) ∙ c .if3 .left))
 
 returns-3 : tie.Need-returns-3
 returns-3 c = sym (worth-taken _ _ _ _ _ _ _ (sym (c .before .is-free .ensures) ∙ c .if2 .left))

@@ -10,100 +10,72 @@ use Rattle.judge.proofs.WalkLaws.{hops, cuts-none, cuts-end, cuts-here,
 use borrow.Author.Needs.{needs}
 use Rattle.judge.proofs.standing.is_cut.Statement.{statement}
 use Rattle.judge.proofs.standing.is_cut.Tie as tie
-use Rattle.judge.proofs.standing.is_cut.Reads as reads
-use Rattle.judge.proofs.standing.is_cut.Lts as lts
-use Rattle.path_row.proofs.compare.label_number.Reads as label-number-reads
-use Rattle.judge.proofs.hops.state_on.Reads as state-on-reads
-use Rattle.judge.proofs.standing.end_cut.Reads as end-cut-reads
-use Rattle.judge.proofs.standing.label_cut.Reads as label-cut-reads
-use Rattle.path_row.proofs.form.next_step.Reads as next-step-reads
-use Rattle.search.proofs.taken.Reads as taken-reads
 
 abbrev Inv-loop : tie.InvT-loop
-Inv-loop table edges delta goal order live scopes start row at left₀ i₀ fuel₀ s₀ q₀ on₀ left i fuel s q on = (cutAlong (tableBoard edges delta goal) (tableOrder order) fuel (freeFlag on) s q (hops table row left i) stop ≡ cutAlong (tableBoard edges delta goal) (tableOrder order) scopes (freeFlag on₀) start 0 (hops table row 63 at) stop) × Closed (tableBoard edges delta goal) 64 (placeFlag goal) (any-way (tableBoard edges delta goal)) (freeFlag on) (placeFlag live)
+Inv-loop table edges delta hint goal order live scopes start row at left₀ i₀ fuel₀ s₀ q₀ on₀ left i fuel s q on = (cutAlong (tableBoard edges delta goal) (tableOrder order) fuel (freeFlag on) s q (hops table row left i) stop ≡ cutAlong (tableBoard edges delta goal) (tableOrder order) scopes (freeFlag on₀) start 0 (hops table row 63 at) stop) × Closed (tableBoard edges delta goal) (placeFlag goal) (any-way (tableBoard edges delta goal)) (freeFlag on) (placeFlag live)
 
 abbrev μ-loop : tie.MeasureT-loop
-μ-loop table edges delta goal order live scopes start row at left₀ i₀ fuel₀ s₀ q₀ on₀ left i fuel s q on = left
+μ-loop table edges delta hint goal order live scopes start row at left₀ i₀ fuel₀ s₀ q₀ on₀ left i fuel s q on = left
 
--- src/standing.rt:168:5
 loop-holds : tie.Need-loop-holds Inv-loop μ-loop
-loop-holds c = (refl, c .before .before .before .before .before .before .before .pre)
+loop-holds c = (refl, c .before .before .before .before .before .before .before .before .pre .1)
 
--- src/standing.rt:170:13
 returns : tie.Need-returns Inv-loop μ-loop
-returns c = let a = c .before .before .before .before .before .before .before .before .before .before .args in let l = c .before .before .loop in cuts-none (a .table .now) (a .edges .now) (a .delta .now) (a .goal .now) (a .order .now) (a .row .now) (l .on) (l .s) (l .q) (l .i) (l .left) (l .fuel) (c .if1 .taken) ∙ l .inv .0
+returns c = let a = c .before .before .before .before .before .before .before .before .before .before .before .args in let l = c .before .before .loop in cuts-none (a .table .now) (a .edges .now) (a .delta .now) (a .goal .now) (a .order .now) (a .row .now) (l .on) (l .s) (l .q) (l .i) (l .left) (l .fuel) (c .if1 .taken) ∙ l .inv .0
 
--- src/standing.rt:172:43
 next-step-requires : tie.Need-next-step-requires Inv-loop μ-loop
 next-step-requires c κs = search needs
 
--- src/standing.rt:172:29
 enum-known-x : tie.Need-enum-known-x Inv-loop μ-loop
 enum-known-x c = search needs
 
--- src/standing.rt:173:13
 enum-told : tie.Need-enum-told Inv-loop μ-loop
 enum-told c = search needs
 
--- src/standing.rt:173:13
 end-cut-requires : tie.Need-end-cut-requires Inv-loop μ-loop
-end-cut-requires c κs = c .before .before .before .before .before .loop .inv .1
+end-cut-requires c κs = (c .before .before .before .before .before .before .before .before .before .before .before .before .before .before .pre .0, c .before .before .before .before .before .loop .inv .1)
 
--- src/standing.rt:173:13
 returns-2 : tie.Need-returns-2 Inv-loop μ-loop
-returns-2 c = let a = c .before .before .before .before .before .before .before .before .before .before .before .before .before .before .args in let l = c .before .before .before .before .before .before .loop in cuts-end (a .table .now) (a .edges .now) (a .delta .now) (a .goal .now) (a .order .now) (a .row .now) (l .on) (l .s) (l .q) (l .i) (l .left) (l .fuel) (c .before .before .before .next-step .result) (c .before .before .before .next-step .ensures) (c .end-cut .result) (c .end-cut .ensures) (c .before .enum-told .given .1) ∙ l .inv .0
+returns-2 c = let a = c .before .before .before .before .before .before .before .before .before .before .before .before .before .before .before .args in let l = c .before .before .before .before .before .before .loop in cuts-end (a .table .now) (a .edges .now) (a .delta .now) (a .goal .now) (a .order .now) (a .row .now) (l .on) (l .s) (l .q) (l .i) (l .left) (l .fuel) (c .before .before .before .next-step .result) (c .before .before .before .next-step .ensures) (c .end-cut .result) (c .end-cut .ensures) (c .before .enum-told .given .1) ∙ l .inv .0
 
--- src/standing.rt:175:18
 cast-to : tie.Need-cast-to Inv-loop μ-loop
 cast-to c = search needs
 
--- src/standing.rt:176:13
 label-number-requires : tie.Need-label-number-requires Inv-loop μ-loop
 label-number-requires c κs = search needs
 
--- src/standing.rt:177:12
 label-cut-requires : tie.Need-label-cut-requires Inv-loop μ-loop
-label-cut-requires c κs = c .before .before .before .before .before .before .before .loop .inv .1
+label-cut-requires c κs = (c .before .before .before .before .before .before .before .before .before .before .before .before .before .before .before .before .pre .0, c .before .before .before .before .before .before .before .loop .inv .1)
 
--- src/standing.rt:178:13
 returns-3 : tie.Need-returns-3 Inv-loop μ-loop
-returns-3 c = let a = c .before .before .before .before .before .before .before .before .before .before .before .before .before .before .before .before .before .args in let l = c .before .before .before .before .before .before .before .before .before .loop in sym (sym (l .inv .0) ∙ cuts-here (a .table .now) (a .edges .now) (a .delta .now) (a .goal .now) (a .order .now) (a .row .now) (l .on) (l .s) (l .q) (l .i) (l .left) (l .fuel) (c .before .before .before .before .before .before .next-step .result) (c .before .before .before .before .before .before .next-step .ensures) (c .before .before .before .before .x .given .0 .0) (c .before .before .before .before .x .given .0 .1 .0) (c .before .before .before .before .x .given .0 .1 .1 .0) (c .before .before .before .before .x .given .1) (c .before .before .before .before .before .before .before .before .loop-test .taken) (c .before .before .before .before .before .before .before .if1 .left) (c .before .before .label-number .result) (c .before .before .label-number .ensures) (c .before .label-cut .result) (c .before .label-cut .ensures) (c .if2 .taken))
+returns-3 c = let a = c .before .before .before .before .before .before .before .before .before .before .before .before .before .before .before .before .before .before .args in let l = c .before .before .before .before .before .before .before .before .before .loop in sym (sym (l .inv .0) ∙ cuts-here (a .table .now) (a .edges .now) (a .delta .now) (a .goal .now) (a .order .now) (a .row .now) (l .on) (l .s) (l .q) (l .i) (l .left) (l .fuel) (c .before .before .before .before .before .before .next-step .result) (c .before .before .before .before .before .before .next-step .ensures) (c .before .before .before .before .x .given .0 .0) (c .before .before .before .before .x .given .0 .1 .0) (c .before .before .before .before .x .given .0 .1 .1 .0) (c .before .before .before .before .x .given .1) (c .before .before .before .before .before .before .before .before .loop-test .taken) (c .before .before .before .before .before .before .before .if1 .left) (c .before .before .label-number .result) (c .before .before .label-number .ensures) (c .before .label-cut .result) (c .before .label-cut .ensures) (c .if2 .taken))
 
--- src/standing.rt:180:13
 state-on-requires : tie.Need-state-on-requires Inv-loop μ-loop
 state-on-requires c κs = search needs
 
--- src/standing.rt:182:13
 returns-4 : tie.Need-returns-4 Inv-loop μ-loop
-returns-4 c = let a = c .before .before .before .before .before .before .before .before .before .before .before .before .before .before .before .before .before .before .before .args in let l = c .before .before .before .before .before .before .before .before .before .before .before .loop in sym (sym (l .inv .0) ∙ cuts-no (a .table .now) (a .edges .now) (a .delta .now) (a .goal .now) (a .order .now) (a .row .now) (l .on) (l .s) (l .q) (l .i) (l .left) (l .fuel) (c .before .before .before .before .before .before .before .before .next-step .result) (c .before .before .before .before .before .before .before .before .next-step .ensures) (c .before .before .before .before .before .before .x .given .0 .0) (c .before .before .before .before .before .before .x .given .0 .1 .0) (c .before .before .before .before .before .before .x .given .0 .1 .1 .0) (c .before .before .before .before .before .before .x .given .1) (c .before .before .before .before .before .before .before .before .before .before .loop-test .taken) (c .before .before .before .before .before .before .before .before .before .if1 .left) (c .before .before .before .before .label-number .result) (c .before .before .before .before .label-number .ensures) (c .before .before .before .label-cut .result) (c .before .before .before .label-cut .ensures) (c .before .before .if2 .left) (c .before .state-on .result) (c .before .state-on .ensures) (c .if3 .taken))
+returns-4 c = let a = c .before .before .before .before .before .before .before .before .before .before .before .before .before .before .before .before .before .before .before .before .args in let l = c .before .before .before .before .before .before .before .before .before .before .before .loop in sym (sym (l .inv .0) ∙ cuts-no (a .table .now) (a .edges .now) (a .delta .now) (a .goal .now) (a .order .now) (a .row .now) (l .on) (l .s) (l .q) (l .i) (l .left) (l .fuel) (c .before .before .before .before .before .before .before .before .next-step .result) (c .before .before .before .before .before .before .before .before .next-step .ensures) (c .before .before .before .before .before .before .x .given .0 .0) (c .before .before .before .before .before .before .x .given .0 .1 .0) (c .before .before .before .before .before .before .x .given .0 .1 .1 .0) (c .before .before .before .before .before .before .x .given .1) (c .before .before .before .before .before .before .before .before .before .before .loop-test .taken) (c .before .before .before .before .before .before .before .before .before .if1 .left) (c .before .before .before .before .label-number .result) (c .before .before .before .before .label-number .ensures) (c .before .before .before .label-cut .result) (c .before .before .before .label-cut .ensures) (c .before .before .if2 .left) (c .before .state-on .result) (c .before .state-on .ensures) (c .if3 .taken))
 
--- src/standing.rt:184:13
 taken-requires : tie.Need-taken-requires Inv-loop μ-loop
 taken-requires c κs = search needs
 
--- src/standing.rt:189:9
 sub-fuel : tie.Need-sub-fuel Inv-loop μ-loop
 sub-fuel c = omega arith
 
--- src/standing.rt:190:9
 sub-left : tie.Need-sub-left Inv-loop μ-loop
 sub-left c = omega arith
 
--- src/standing.rt:168:5
 loop-less : tie.Need-loop-less Inv-loop μ-loop
 loop-less c = omega arith
 
--- src/standing.rt:168:5
 loop-again : tie.Need-loop-again Inv-loop μ-loop
-loop-again c = let a = c .before .before .before .before .before .before .before .before .before .before .before .before .before .before .before .before .before .before .before .before .args in let l = c .before .before .before .before .before .before .before .before .before .before .before .before .loop in (sym (cuts-on (a .table .now) (a .edges .now) (a .delta .now) (a .goal .now) (a .order .now) (a .row .now) (l .on) (l .s) (l .q) (l .i) (l .left) (l .fuel) (c .before .before .before .before .before .before .before .before .before .next-step .result) (c .before .before .before .before .before .before .before .before .before .next-step .ensures) (c .before .before .before .before .before .before .before .x .given .0 .0) (c .before .before .before .before .before .before .before .x .given .0 .1 .0) (c .before .before .before .before .before .before .before .x .given .0 .1 .1 .0) (c .before .before .before .before .before .before .before .x .given .1) (c .before .before .before .before .before .before .before .before .before .before .before .loop-test .taken) (c .before .before .before .before .before .before .before .before .before .before .if1 .left) (c .before .before .before .before .before .label-number .result) (c .before .before .before .before .before .label-number .ensures) (c .before .before .before .before .label-cut .result) (c .before .before .before .before .label-cut .ensures) (c .before .before .before .if2 .left) (c .before .before .state-on .result) (c .before .before .state-on .ensures) (c .before .if3 .left) (c .taken .result) (c .taken .ensures)) ∙ l .inv .0, rw (c .taken .ensures) (taken-closed (a .edges .now) (a .delta .now) (a .goal .now) (l .on) (a .live .now) _ (l .inv .1)))
+loop-again c = let a = c .before .before .before .before .before .before .before .before .before .before .before .before .before .before .before .before .before .before .before .before .before .args in let l = c .before .before .before .before .before .before .before .before .before .before .before .before .loop in (sym (cuts-on (a .table .now) (a .edges .now) (a .delta .now) (a .goal .now) (a .order .now) (a .row .now) (l .on) (l .s) (l .q) (l .i) (l .left) (l .fuel) (c .before .before .before .before .before .before .before .before .before .next-step .result) (c .before .before .before .before .before .before .before .before .before .next-step .ensures) (c .before .before .before .before .before .before .before .x .given .0 .0) (c .before .before .before .before .before .before .before .x .given .0 .1 .0) (c .before .before .before .before .before .before .before .x .given .0 .1 .1 .0) (c .before .before .before .before .before .before .before .x .given .1) (c .before .before .before .before .before .before .before .before .before .before .before .loop-test .taken) (c .before .before .before .before .before .before .before .before .before .before .if1 .left) (c .before .before .before .before .before .label-number .result) (c .before .before .before .before .before .label-number .ensures) (c .before .before .before .before .label-cut .result) (c .before .before .before .before .label-cut .ensures) (c .before .before .before .if2 .left) (c .before .before .state-on .result) (c .before .before .state-on .ensures) (c .before .if3 .left) (c .taken .result) (c .taken .ensures)) ∙ l .inv .0, rw (c .taken .ensures) (taken-closed (a .edges .now) (a .delta .now) (a .goal .now) (l .on) (a .live .now) _ (l .inv .1)))
 
--- src/standing.rt:192:5
 end-cut-requires-2 : tie.Need-end-cut-requires-2 Inv-loop μ-loop
-end-cut-requires-2 c κs = c .before .loop .inv .1
+end-cut-requires-2 c κs = (c .before .before .before .before .before .before .before .before .before .before .pre .0, c .before .loop .inv .1)
 
--- src/standing.rt:146:1
 returns-5 : tie.Need-returns-5 Inv-loop μ-loop
-returns-5 c = let a = c .before .before .before .before .before .before .before .before .before .before .args in let l = c .before .before .loop in cuts-full (a .table .now) (a .edges .now) (a .delta .now) (a .goal .now) (a .order .now) (a .row .now) (l .on) (l .s) (l .q) (l .i) (l .left) (l .fuel) (c .end-cut2 .result) (c .end-cut2 .ensures) (c .before .loop-test .left) ∙ l .inv .0
+returns-5 c = let a = c .before .before .before .before .before .before .before .before .before .before .before .args in let l = c .before .before .loop in cuts-full (a .table .now) (a .edges .now) (a .delta .now) (a .goal .now) (a .order .now) (a .row .now) (l .on) (l .s) (l .q) (l .i) (l .left) (l .fuel) (c .end-cut2 .result) (c .end-cut2 .ensures) (c .before .loop-test .left) ∙ l .inv .0
 
 pub is-cut-spec : {M : Type 1} → statement M
 is-cut-spec =

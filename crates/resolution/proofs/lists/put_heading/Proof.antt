@@ -20,7 +20,7 @@ same-length : tie.Need-same-length
 same-length c = search needs
 
 returns : tie.Need-returns
-returns c = let a = c .before .before .before .before .before .before .before .before .before .before .args in let p = c .before .before .before .before .before .before .before .before .before .before .pre in head-is (a .table .now) (p .asked .read) _ (a .start) (a .high) (a .low) _ _ _ _ (p .ready .letters) (c .before .before .before .before .before .before .before .found-of .ensures) (c .before .before .before .before .before .before .awaits-of .ensures) (c .before .before .put-head .ensures)
+returns c = let a = c .before .before .before .before .before .before .before .before .before .before .before .args in let p = c .before .before .before .before .before .before .before .before .before .before .before .pre in head-is (a .table .now) (p .asked .read) _ (a .start) (a .high) (a .low) _ _ _ _ (p .ready .letters) (c .before .before .before .before .before .before .before .found-of .ensures) (c .before .before .before .before .before .before .awaits-of .ensures) (c .before .before .put-head .ensures)
 
 pub put-heading-spec : {M : Type 1} → statement M
 put-heading-spec =

@@ -39,7 +39,7 @@ goal-table-requires : tie.Need-goal-table-requires
 goal-table-requires c κs = search needs
 
 returns : tie.Need-returns
-returns c = let a = c .before .before .before .before .before .before .before .before .before .before .before .before .args in let e = c .before .before .before .before .section .ensures in let f = c .before .before .before .start-free .ensures in record { letters = c .before .before .before .before .before .before .before .before .before .before .letters .ensures; delta = c .before .before .before .before .before .before .before .before .before .transitions .ensures; goal = goal-ready (a .table .now) (a .high) (a .low) _ _ (c .before .before .before .before .before .before .before .before .accepting .ensures) (c .before .before .before .before .before .before .goal .ensures); order = c .before .before .before .before .before .order .ensures; live = live-at (a .table .now) _ _ [] [] _ _ (a .start) e f _ (c .goal-table .ensures) }
+returns c = let a = c .before .before .before .before .before .before .before .before .before .before .before .before .before .args in let e = c .before .before .before .before .section .ensures in let f = c .before .before .before .start-free .ensures in record { letters = c .before .before .before .before .before .before .before .before .before .before .letters .ensures; delta = c .before .before .before .before .before .before .before .before .before .transitions .ensures; goal = goal-ready (a .table .now) (a .high) (a .low) _ _ (c .before .before .before .before .before .before .before .before .accepting .ensures) (c .before .before .before .before .before .before .goal .ensures); order = c .before .before .before .before .before .order .ensures; live = live-at (a .table .now) _ _ [] [] _ _ (a .start) e f _ (c .goal-table .ensures) }
 
 pub tables-of-spec : {M : Type 1} → statement M
 tables-of-spec =

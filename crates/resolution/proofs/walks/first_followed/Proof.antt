@@ -14,10 +14,10 @@ use Rattle.resolution.proofs.walks.is_followed.Reads as is-followed-rea
 use Rattle.text_field.proofs.cell.Reads as cell-reads
 
 abbrev Inv-loop : tie.InvT-loop
-Inv-loop opens table letters delta accepts hopes goal order live away start high low p₀ p = (p ≤ length opens) × (firstFollowed table letters delta accepts hopes goal order start high low (rowsOf (drop p opens)) ≡ firstFollowed table letters delta accepts hopes goal order start high low (rowsOf opens))
+Inv-loop opens table letters delta hint accepts hopes goal order live away start high low p₀ p = (p ≤ length opens) × (firstFollowed table letters delta accepts hopes goal order start high low (rowsOf (drop p opens)) ≡ firstFollowed table letters delta accepts hopes goal order start high low (rowsOf opens))
 
 abbrev μ-loop : tie.MeasureT-loop
-μ-loop opens table letters delta accepts hopes goal order live away start high low p₀ p = length opens - p
+μ-loop opens table letters delta hint accepts hopes goal order live away start high low p₀ p = length opens - p
 
 -- src/walks.rt:166:5
 loop-holds : tie.Need-loop-holds Inv-loop μ-loop
@@ -45,11 +45,11 @@ cell-requires-2 c κs = search needs
 
 -- src/walks.rt:169:12
 is-followed-requires : tie.Need-is-followed-requires Inv-loop μ-loop
-is-followed-requires c κs = c .before .before .before .before .before .before .before .before .before .before .before .before .before .before .pre
+is-followed-requires c κs = c .before .before .before .before .before .before .before .before .before .before .before .before .before .before .before .pre
 
 -- src/walks.rt:172:13
 returns : tie.Need-returns Inv-loop μ-loop
-returns c = let a = c .before .before .before .before .before .before .before .before .before .before .before .before .before .before .before .before .args in let at = c .before .before .before .before .before .loop in first-hit (a .table .now) (a .letters .now) (a .delta .now) (a .accepts .now) (a .hopes .now) (a .goal .now) (a .order .now) (a .start) (a .high) (a .low) (a .opens .now) (at .p) _ _ (c .before .before .before .before .loop-test .taken) (c .before .before .before .cell .ensures) (c .before .before .cell2 .ensures) (sym (c .before .is-followed .ensures) ∙ c .if1 .taken) ∙ at .inv .1
+returns c = let a = c .before .before .before .before .before .before .before .before .before .before .before .before .before .before .before .before .before .args in let at = c .before .before .before .before .before .loop in first-hit (a .table .now) (a .letters .now) (a .delta .now) (a .accepts .now) (a .hopes .now) (a .goal .now) (a .order .now) (a .start) (a .high) (a .low) (a .opens .now) (at .p) _ _ (c .before .before .before .before .loop-test .taken) (c .before .before .before .cell .ensures) (c .before .before .cell2 .ensures) (sym (c .before .is-followed .ensures) ∙ c .if1 .taken) ∙ at .inv .1
 
 -- src/walks.rt:174:9
 add-p : tie.Need-add-p Inv-loop μ-loop
@@ -61,11 +61,11 @@ loop-less c = omega arith
 
 -- src/walks.rt:166:5
 loop-again : tie.Need-loop-again Inv-loop μ-loop
-loop-again c = let a = c .before .before .before .before .before .before .before .before .before .before .before .before .before .before .before .before .args in let at = c .before .before .before .before .before .loop in (omega arith, first-miss (a .table .now) (a .letters .now) (a .delta .now) (a .accepts .now) (a .hopes .now) (a .goal .now) (a .order .now) (a .start) (a .high) (a .low) (a .opens .now) (at .p) _ _ (c .before .before .before .before .loop-test .taken) (c .before .before .before .cell .ensures) (c .before .before .cell2 .ensures) (sym (c .before .is-followed .ensures) ∙ c .if1 .left) ∙ at .inv .1)
+loop-again c = let a = c .before .before .before .before .before .before .before .before .before .before .before .before .before .before .before .before .before .args in let at = c .before .before .before .before .before .loop in (omega arith, first-miss (a .table .now) (a .letters .now) (a .delta .now) (a .accepts .now) (a .hopes .now) (a .goal .now) (a .order .now) (a .start) (a .high) (a .low) (a .opens .now) (at .p) _ _ (c .before .before .before .before .loop-test .taken) (c .before .before .before .cell .ensures) (c .before .before .cell2 .ensures) (sym (c .before .is-followed .ensures) ∙ c .if1 .left) ∙ at .inv .1)
 
 -- src/walks.rt:150:1
 returns-2 : tie.Need-returns-2 Inv-loop μ-loop
-returns-2 c = let a = c .before .before .before .before .before .before .before .before .before .before .before .before .args in let at = c .before .loop in first-end (a .table .now) (a .letters .now) (a .delta .now) (a .accepts .now) (a .hopes .now) (a .goal .now) (a .order .now) (a .start) (a .high) (a .low) (a .opens .now) (at .p) (c .loop-test .left) ∙ at .inv .1
+returns-2 c = let a = c .before .before .before .before .before .before .before .before .before .before .before .before .before .args in let at = c .before .loop in first-end (a .table .now) (a .letters .now) (a .delta .now) (a .accepts .now) (a .hopes .now) (a .goal .now) (a .order .now) (a .start) (a .high) (a .low) (a .opens .now) (at .p) (c .loop-test .left) ∙ at .inv .1
 
 pub first-followed-spec : {M : Type 1} → statement M
 first-followed-spec =

@@ -22,7 +22,7 @@ room-number-requires c κs = search needs
 
 -- src/walks.rt:87:1
 returns : tie.Need-returns
-returns c = let a = c .before .before .before .before .before .args in c .room-number .ensures ∙ found-walk (a .table .now) (a .start) (a .high) (a .low) (c .before .before .before .before .before .pre .asked) _ _ (c .before .before .walk-entries .ensures)
+returns c = let a = c .before .before .before .before .before .before .args in c .room-number .ensures ∙ found-walk (a .table .now) (a .start) (a .high) (a .low) (c .before .before .before .before .before .before .pre .asked) _ _ (c .before .before .walk-entries .ensures)
 
 pub found-of-spec : {M : Type 1} → statement M
 found-of-spec =

@@ -16,7 +16,7 @@ same-length c = search needs
 
 -- src/walks.rt:111:1
 returns : tie.Need-returns
-returns c = let a = c .before .before .before .before .before .before .args in rows-walk (a .table .now) (a .start) (a .high) (a .low) (c .before .before .before .before .before .before .pre .asked) _ _ _ _ (c .before .before .walk-entries .ensures)
+returns c = let a = c .before .before .before .before .before .before .before .args in rows-walk (a .table .now) (a .start) (a .high) (a .low) (c .before .before .before .before .before .before .before .pre .asked) _ _ _ _ (c .before .before .walk-entries .ensures)
 
 pub put-rows-spec : {M : Type 1} → statement M
 put-rows-spec = tie.close (tie.spec walk-entries-requires same-length returns)

@@ -11,7 +11,7 @@ walk-entries-requires : tie.Need-walk-entries-requires
 walk-entries-requires c κs = search needs
 
 returns : tie.Need-returns
-returns c = let a = c .before .before .before .before .args in room-walk (a .table .now) (a .start) (a .high) (a .low) (c .before .before .before .before .pre .asked) (a .room) _ _ (c .before .walk-entries .ensures)
+returns c = let a = c .before .before .before .before .before .args in room-walk (a .table .now) (a .start) (a .high) (a .low) (c .before .before .before .before .before .pre .asked) (a .room) _ _ (c .before .walk-entries .ensures)
 
 pub rows-room-spec : {M : Type 1} → statement M
 rows-room-spec = tie.close (tie.spec slice-aggregate-walk-entries walk-entries-requires returns)

@@ -26,7 +26,7 @@ section-requires-3 c κs = search needs
 
 -- src/walks.rt:40:5
 walk-requires : tie.Need-walk-requires
-walk-requires c κs = (rw (c .before .before .section2 .ensures) (c .before .before .before .before .before .before .before .before .before .before .before .before .before .before .pre .0), rw (c .before .before .section2 .ensures) (c .before .before .before .before .before .before .before .before .before .before .before .before .before .before .pre .1))
+walk-requires c κs = let pre = c .before .before .before .before .before .before .before .before .before .before .before .before .before .before .before .pre in let e = c .before .before .section2 .ensures in (rw e (pre .0), (rw e (pre .1 .0), rw e (pre .1 .1)))
 
 -- src/walks.rt:20:1
 same-length : tie.Need-same-length
@@ -34,7 +34,7 @@ same-length c = search needs
 
 -- src/walks.rt:20:1
 returns : tie.Need-returns
-returns c = walk-asked (c .before .before .before .before .before .before .before .before .before .before .before .before .before .before .before .before .before .args .table .now) _ _ _ _ _ _ _ _ _ _ _ _ _ _ _ _ (c .before .before .before .before .before .before .before .section .ensures) (c .before .before .before .before .before .before .row-value .ensures) (c .before .before .before .before .before .section2 .ensures) (c .before .before .before .before .section3 .ensures) (c .before .before .walk .ensures)
+returns c = walk-asked (c .before .before .before .before .before .before .before .before .before .before .before .before .before .before .before .before .before .before .args .table .now) _ _ _ _ _ _ _ _ _ _ _ _ _ _ _ _ (c .before .before .before .before .before .before .before .section .ensures) (c .before .before .before .before .before .before .row-value .ensures) (c .before .before .before .before .before .section2 .ensures) (c .before .before .before .before .section3 .ensures) (c .before .before .walk .ensures)
 
 pub walk-with-spec : {M : Type 1} → statement M
 walk-with-spec =

@@ -3,6 +3,7 @@ use Prim.Native.Nat.{_-_}
 use mathlib.Core.Path.{_≡_}
 use native.Mathlib.Omega.{arith}
 use lib.ListN.{length}
+use lib.Count.{trailing-le}
 use borrow.Author.Needs.{needs}
 use Rattle.search.specs.Steps.{Kept}
 use Rattle.search.proofs.Cells.{kept-on}
@@ -10,10 +11,10 @@ use Rattle.search.proofs.grow.grown.Statement.{statement}
 use Rattle.search.proofs.grow.grown.Tie as tie
 
 abbrev Inv-loop : tie.InvT-loop
-Inv-loop back edges delta states seek goal order cutting out₀ «open» hot₀ round₀ out hot round = (length out ≡ 1024) × Kept seek out
+Inv-loop edges hint seek goal order cutting out₀ «open» hot₀ turn₀ out hot turn = (length out ≡ 64) × Kept seek out
 
 abbrev μ-loop : tie.MeasureT-loop
-μ-loop back edges delta states seek goal order cutting out₀ «open» hot₀ round₀ out hot round = 1024 - round
+μ-loop edges hint seek goal order cutting out₀ «open» hot₀ turn₀ out hot turn = 65536 - turn
 
 start-table-requires : tie.Need-start-table-requires Inv-loop μ-loop
 start-table-requires c κs = search needs
@@ -21,29 +22,35 @@ start-table-requires c κs = search needs
 free-bits-requires : tie.Need-free-bits-requires Inv-loop μ-loop
 free-bits-requires c κs = search needs
 
-first-hot-requires : tie.Need-first-hot-requires Inv-loop μ-loop
-first-hot-requires c κs = search needs
+placed-bits-requires : tie.Need-placed-bits-requires Inv-loop μ-loop
+placed-bits-requires c κs = search needs
 
 loop-holds : tie.Need-loop-holds Inv-loop μ-loop
 loop-holds c = (omega arith, c .before .before .start-table .ensures)
 
-slice-aggregate-sweep : tie.Need-slice-aggregate-sweep Inv-loop μ-loop
-slice-aggregate-sweep c = omega arith
-
-sweep-requires : tie.Need-sweep-requires Inv-loop μ-loop
-sweep-requires c κs = search needs
-
 returns : tie.Need-returns Inv-loop μ-loop
-returns c = kept-on _ _ _ (c .before .before .before .before .before .loop .inv .1) (c .before .before .sweep .ensures)
+returns c = c .before .before .loop .inv .1
 
-add-round : tie.Need-add-round Inv-loop μ-loop
-add-round c = omega arith
+cast-t : tie.Need-cast-t Inv-loop μ-loop
+cast-t c = omega (arith, trailing-le 64 (c .before .before .loop .hot))
+
+sub-rest : tie.Need-sub-rest Inv-loop μ-loop
+sub-rest c = omega arith
+
+slice-aggregate-grow-into : tie.Need-slice-aggregate-grow-into Inv-loop μ-loop
+slice-aggregate-grow-into c = omega arith
+
+grow-into-requires : tie.Need-grow-into-requires Inv-loop μ-loop
+grow-into-requires c κs = search needs
+
+add-turn : tie.Need-add-turn Inv-loop μ-loop
+add-turn c = omega arith
 
 loop-less : tie.Need-loop-less Inv-loop μ-loop
 loop-less c = omega arith
 
 loop-again : tie.Need-loop-again Inv-loop μ-loop
-loop-again c = (omega arith, kept-on _ _ _ (c .before .before .before .before .before .loop .inv .1) (c .before .before .sweep .ensures))
+loop-again c = (omega arith, kept-on _ _ _ (c .before .before .before .before .before .loop .inv .1) (c .before .grow-into .ensures))
 
 returns-2 : tie.Need-returns-2 Inv-loop μ-loop
 returns-2 c = c .before .loop .inv .1
@@ -56,12 +63,14 @@ grown-spec =
     μ-loop
     start-table-requires
     free-bits-requires
-    first-hot-requires
+    placed-bits-requires
     loop-holds
-    slice-aggregate-sweep
-    sweep-requires
     returns
-    add-round
+    cast-t
+    sub-rest
+    slice-aggregate-grow-into
+    grow-into-requires
+    add-turn
     loop-less
     loop-again
     returns-2)

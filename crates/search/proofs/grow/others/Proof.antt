@@ -8,19 +8,19 @@ use Rattle.search.proofs.grow.others.Statement.{statement}
 use Rattle.search.proofs.grow.others.Tie as tie
 
 abbrev Inv-loop : tie.InvT-loop
-Inv-loop table out₀ i₀ out i = length out ≡ 1024
+Inv-loop table out₀ i₀ out i = length out ≡ 64
 
 abbrev μ-loop : tie.MeasureT-loop
-μ-loop table out₀ i₀ out i = 1024 - i
+μ-loop table out₀ i₀ out i = 64 - i
 
 loop-holds : tie.Need-loop-holds Inv-loop μ-loop
 loop-holds c = omega arith
 
-byte-requires : tie.Need-byte-requires Inv-loop μ-loop
-byte-requires c κs = search needs
+cell-requires : tie.Need-cell-requires Inv-loop μ-loop
+cell-requires c κs = search needs
 
-other-requires : tie.Need-other-requires Inv-loop μ-loop
-other-requires c κs = search needs
+mul-out : tie.Need-mul-out Inv-loop μ-loop
+mul-out c = omega arith
 
 array-write-out : tie.Need-array-write-out Inv-loop μ-loop
 array-write-out c = omega arith
@@ -32,7 +32,7 @@ loop-less : tie.Need-loop-less Inv-loop μ-loop
 loop-less c = omega arith
 
 loop-again : tie.Need-loop-again Inv-loop μ-loop
-loop-again c = simp length-set (c .before .before .before .loop .inv)
+loop-again c = simp length-set (c .before .before .loop .inv)
 
 returns : tie.Need-returns Inv-loop μ-loop
 returns c = tt
@@ -44,8 +44,8 @@ others-spec =
     Inv-loop
     μ-loop
     loop-holds
-    byte-requires
-    other-requires
+    cell-requires
+    mul-out
     array-write-out
     add-i
     loop-less

@@ -14,8 +14,11 @@ abbrev μ-loop : tie.MeasureT-loop
 loop-holds : tie.Need-loop-holds Inv-loop μ-loop
 loop-holds c = tt
 
-placed-requires : tie.Need-placed-requires Inv-loop μ-loop
-placed-requires c κs = search needs
+cell-requires : tie.Need-cell-requires Inv-loop μ-loop
+cell-requires c κs = search needs
+
+bit-requires : tie.Need-bit-requires Inv-loop μ-loop
+bit-requires c κs = search needs
 
 add-s : tie.Need-add-s Inv-loop μ-loop
 add-s c = omega arith
@@ -32,4 +35,13 @@ returns c = tt
 pub placed-bits-spec : {M : Type 1} → statement M
 placed-bits-spec =
     tie.close
-    (tie.spec Inv-loop μ-loop loop-holds placed-requires add-s loop-less loop-again returns)
+    (tie.spec
+    Inv-loop
+    μ-loop
+    loop-holds
+    cell-requires
+    bit-requires
+    add-s
+    loop-less
+    loop-again
+    returns)

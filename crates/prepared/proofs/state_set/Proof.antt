@@ -1,0 +1,47 @@
+use Prim.Native.Nat.{_-_}
+use native.Mathlib.Omega.{arith}
+use Rattle.prepared.specs.Tables.{stateFlag}
+use Rattle.prepared.proofs.Sets.{Gathered, gathered-none, gathered-next, gathered-few, gathered-all}
+use Rattle.prepared.proofs.state_set.Statement.{statement}
+use Rattle.prepared.proofs.state_set.Tie as tie
+
+abbrev Inv-loop : tie.InvT-loop
+Inv-loop flags out₀ q₀ out q = Gathered (stateFlag flags) q out
+
+abbrev μ-loop : tie.MeasureT-loop
+μ-loop flags out₀ q₀ out q = 16 - q
+
+loop-holds : tie.Need-loop-holds Inv-loop μ-loop
+loop-holds c = gathered-none _
+
+state-bit-requires : tie.Need-state-bit-requires Inv-loop μ-loop
+state-bit-requires c κs = c .loop-test .taken
+
+add-out : tie.Need-add-out Inv-loop μ-loop
+add-out c = let l = gathered-few _ _ _ _ (c .before .before .loop .inv) (c .before .loop-test .taken) (c .state-bit .ensures) in omega arith
+
+add-q : tie.Need-add-q Inv-loop μ-loop
+add-q c = omega arith
+
+loop-less : tie.Need-loop-less Inv-loop μ-loop
+loop-less c = omega arith
+
+loop-again : tie.Need-loop-again Inv-loop μ-loop
+loop-again c = gathered-next _ _ _ _ (c .before .before .loop .inv) (c .before .loop-test .taken) (c .state-bit .ensures)
+
+returns : tie.Need-returns Inv-loop μ-loop
+returns c = gathered-all _ _ _ (c .before .loop .inv) (c .loop-test .left)
+
+pub state-set-spec : {M : Type 1} → statement M
+state-set-spec =
+    tie.close
+    (tie.spec
+    Inv-loop
+    μ-loop
+    loop-holds
+    state-bit-requires
+    add-out
+    add-q
+    loop-less
+    loop-again
+    returns)
