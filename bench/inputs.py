@@ -319,6 +319,8 @@ FILES = [
     ('hard/largest_none_rare_closed', 'the same, nothing open', lambda: largest(3, False, False, **RARE)),
     ('hard/largest_all_rare', 'all pairs, one accepting state, each name once', lambda: largest(3, True, True, **RARE)),
     ('hard/largest_all_rare_closed', 'the same, nothing open', lambda: largest(3, True, False, **RARE)),
+    ('hard/largest_none_some', 'no pair, four accepting states, each name in eight scopes', lambda: largest(11, False, True, accepts=4, holders=8)),
+    ('hard/largest_all_some', 'all pairs, four accepting states, each name in eight scopes', lambda: largest(11, True, True, accepts=4, holders=8)),
     ('hard/endless_8', 'paths of 15 steps or more among 8 scopes', lambda: endless(8)),
     ('hard/endless_10', 'the same among 10 scopes', lambda: endless(10)),
     ('hard/endless_14', 'the same among 14 scopes', lambda: endless(14)),

@@ -63,10 +63,11 @@ extern "C" {
 #define TEWHORANU_SUMMARY 64
 #define TEWHORANU_LISTING 65536
 
-/* Stack that serves every call, in bytes. A search is at most 64 + 512 calls deep, of about 2,000 bytes each, above some
- * 250,000 bytes of tables: counted from the library as it is built, not proved. The host test runs small and middling
- * files on a thread with this much, none that goes as deep. */
-#define TEWHORANU_STACK (2 * 1024 * 1024)
+/* Stack that serves every call, in bytes. The walk is at most 64 + 512 calls deep, of about 2,000 bytes each, and a search
+ * that it asks for at some row goes once more through the rows of that row's scope, 512 at most, of about 1,200 bytes each,
+ * above some 250,000 bytes of tables: counted from the library as it is built, not proved. The host test runs the file that
+ * goes deepest on a thread with this much. */
+#define TEWHORANU_STACK (3 * 1024 * 1024)
 
 /* A step of a path: the label's letter (A to Z) and the scope that it comes to (0 to 63). */
 typedef struct {

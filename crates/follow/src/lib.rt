@@ -486,7 +486,7 @@ fn follow_at(
 }
 
 // The same by the rows from cell p on. A hop entered in vain shows that the table of places worth entering hopes too much: before the next hop is entered it is made anew for the scopes that
-// are free now, once at each scope (`vain`: such a hop was met; `fresh`: it was made anew), and that hop is entered only if the new table holds its place too. Which closed table is used changes no answer.
+// are free now, once in this look through a scope's rows (`vain`: such a hop was met; `fresh`: it was made anew), and that hop is entered only if the new table holds its place too. Which closed table is used changes no answer.
 fn follow_from(
     mode: u64,
     letters: &[u8],

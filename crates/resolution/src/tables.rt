@@ -12,7 +12,7 @@ ghost use mathlib.Core.Path.{_≡_};
 ghost use lib.ListN.{length};
 ghost use Rattle.resolution.specs.Asked.{Ready};
 
-// The labels' letters, the automaton, where a path may end, the order, and the places worth entering on the way there. Those serve where cut steps do not count too: up to the
+// The labels' letters, the automaton, where a path may end, the order, and the places worth entering on the way there, with distances behind them (`search::goal_table`). The places serve where cut steps do not count too: up to the
 // first place where a path may end no step is cut by stopping.
 pub struct Tables {
     pub letters: [u8; 8],

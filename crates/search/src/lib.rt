@@ -113,7 +113,7 @@ fn scan_row(edges: &[u64], s: u64, p: usize) -> usize
     i
 }
 
-// The first row from number `from` on whose scope is s or above; the number of rows if there is none. Halves the rows that are left.
+// The first row from number `from` on whose scope is s or above; the number of rows, or `from` if that is greater, if there is none. Halves the rows that are left.
 fn first_from(edges: &[u64], s: u64, from: usize) -> usize
     requires { ⌜ Sorted (now edges) ⌝ }
     ensures { λ r. ⌜ FirstFrom (now (edges .entry)) s from r ⌝ }
@@ -132,7 +132,7 @@ fn first_from(edges: &[u64], s: u64, from: usize) -> usize
     low
 }
 
-// The same as `scan_row`, of rows that stand by ascending scope: no row between p and the first one of s is looked at, and none behind the last.
+// The same as `scan_row`, of rows that stand by ascending scope: of the rows between, only those that halving meets are looked at, and that no row of s is left is known by the next one.
 pub fn next_row(edges: &[u64], s: u64, p: usize) -> usize
     requires { ⌜ Sorted (now edges) ⌝ }
     ensures { λ r. ⌜ NextRow (now (edges .entry)) s p r ⌝ }
@@ -201,7 +201,7 @@ fn covered(goal: &[u64], order: &[u8], cutting: bool, live: &[u64], from: u64, l
     held
 }
 
-// Does the table lack a place of the scope `from` that is not covered and from which the label leads to a state of the set?
+// Is there a state outside `have` from which the label leads to a state of the set?
 fn state_lacks(delta: &[u64], states: u64, have: u64, set: u64, label: u64) -> bool
     requires { ⌜ NoState (now delta) states ⌝ }
     ensures { λ r. ⌜ (r ≡ false → (q : ℕ) → hasState have q ≡ false → hasState set (nextCell (now (delta .entry)) q label) ≡ false) ⌝ }
@@ -478,8 +478,8 @@ fn nearest_row(
     best
 }
 
-// Does the way that goes from place to nearest place come to what is sought? If so it is there; if not, nothing is known. A place without a distance is not gone from. Most searches end here, where a search through the paths
-// would try many in vain.
+// Does the way that goes from place to nearest place come to what is sought? If so it is there; if not, nothing is known, and the walk over scopes and rows below decides. A place without a distance is not
+// gone to. In a dense graph most searches end here, where going through the paths would try many in vain.
 fn straight(
     edges: &[u64],
     delta: &[u64],

@@ -345,11 +345,27 @@ fn file(rng: &mut Rng) -> Vec<u8> {
     }
 }
 
-/// Files at the limits: empty, the longest, one byte more.
+/// The file whose search goes deepest: all 512 edges leave one scope, and only the last one leads to the name, so that the walk is at
+/// that row when it asks about the labels that are preferred to its own, and each question goes through all the rows again.
+fn deepest() -> Vec<u8> {
+    let mut text = String::from("label\n");
+    let labels = "ABCDEFGH";
+    let lines = |section: &str, rows: Vec<String>| format!("{section}\n{}", rows.concat());
+    text += &labels.chars().map(|l| format!("{l}\n")).collect::<String>();
+    let pairs = labels.chars().flat_map(|a| format!("${labels}").chars().filter(move |&b| b == '$' || a < b).map(move |b| format!("{a} {b}\n")).collect::<Vec<_>>());
+    text += &lines("less more", pairs.collect());
+    text += &lines("state label next", labels.chars().enumerate().map(|(next, l)| format!("0 {l} {next}\n")).collect());
+    text += "accept\n7\nscopes\n64\n";
+    text += &lines("from label to", labels.chars().flat_map(|l| (0..64).map(move |to| format!("0 {l} {to}\n"))).collect());
+    text += "at name mark\n63 service 1\nat open\n63 $\nstart seek\n0 service\n";
+    text.into_bytes()
+}
+
+/// Files at the limits: empty, the longest, one byte more, the one that goes deepest.
 fn limits() -> Vec<Vec<u8>> {
     let longest = vec![b'0'; tewhoranu::TEXT];
     let longer = vec![b'0'; tewhoranu::TEXT + 1];
-    vec![Vec::new(), b"\n".to_vec(), b"label".to_vec(), longest, longer, vec![0xff; 100]]
+    vec![Vec::new(), b"\n".to_vec(), b"label".to_vec(), longest, longer, vec![0xff; 100], deepest()]
 }
 
 fn printed(program: &str, text: &[u8]) -> Vec<u8> {
