@@ -557,7 +557,7 @@ fn stale(fresh: bool, vain: bool) -> bool {
 
 // Is what is sought at the end of a path that goes on from the scope and state by free scopes, with fewer than `fuel` hops? `fuel` falls by one with each scope entered:
 // a walk begins with the number of scopes, so it is how many are not yet on the path, this one included. Paired with the rows left it is the falling number of both functions.
-pub fn exists_at(
+fn exists_at(
     edges: &[u64],
     delta: &[u64],
     hint: &[u64],
@@ -597,7 +597,7 @@ pub fn exists_at(
 
 // The same by the rows from cell p on whose label is asked for. A hop that leads nowhere although its place was worth entering shows that the table hopes too much: before the next hop is entered
 // it is made anew for the scopes that are free now, once in this look through a scope's rows (`vain`: such a hop was met; `fresh`: it was made anew), and that hop is entered only if the new table holds its place too.
-pub fn exists_from(
+fn exists_from(
     edges: &[u64],
     delta: &[u64],
     hint: &[u64],
