@@ -11,11 +11,11 @@ use Rattle.graph_file.specs.declared.sought.NamePlace.{NamePlace}
 use Rattle.graph_file.specs.Outcome.{Outcome, refused, done, andThen, refuseIf}
 use Rattle.graph_file.specs.File.{answer}
 use Rattle.graph_file.specs.NameSought.{fromSought, nameFront, nameSought, placeFrom, placeSought}
-use Rattle.host.specs.Numbers.{Sized, placeLeft}
+use Rattle.host.specs.Numbers.{amountNumber, Sized, placeLeft}
 
 -- what was written fits its room, and a room its 63 bits
 pub answer-sized : (o : Outcome (List ℕ)) (room : ℕ) → room < 9223372036854775808 → Sized (answer o room)
-unfolding answer andThen refuseIf Sized
+unfolding answer andThen refuseIf Sized amountNumber
 answer-sized (refused n) room h = tt
 answer-sized (done out) room h = by-room (ltb room (length out)) refl
   where
