@@ -1,114 +1,9 @@
-"""Cases of listings and summaries, and the output that is due for them, by a reference written from document 01: all simple paths of a query are
-enumerated, kept where they are lawful and end at the name, and compared with each other, two by two."""
-from case_file import Dice, bytes_of, case, sum_of
-from gym_cases import ACCEPT, DECLARED, EDGE, EXAMPLE, OPEN, ORDER, QUERY, SCOPES, SMALLEST, STEP, TOP, Refused, changed, graph, read, refused_files, text_of
-from row_cases import more_specific
-
-# ---------------------------------------------------------------------------------------------------------------- reference
-
-
-class Gym:
-    def __init__(self, text):
-        g = read(text)
-        self.labels = g.labels()
-        self.order = set(g.rows[ORDER])
-        self.next = {(state, label): after for state, label, after in g.rows[STEP]}
-        self.accept = {row[0] for row in g.rows[ACCEPT]}
-        self.states = {0} | self.accept | {s for s, _ in self.next} | set(self.next.values())
-        self.scopes = g.rows[SCOPES][0][0]
-        self.edges = list(g.rows[EDGE])
-        self.declared = list(g.rows[DECLARED])
-        self.opens = sorted(g.rows[OPEN], key=lambda row: (row[0], g.end_number(row[1])))
-        self.queries = list(g.rows[QUERY])
-
-    def paths(self, start):
-        """The steps of each path from a scope: along edges, no scope twice."""
-        out = {}
-        for at, label, to in self.edges:
-            out.setdefault(at, []).append((label, to))
-        found = []
-
-        def go(at, seen, steps):
-            found.append(steps)
-            for label, to in out.get(at, []):
-                if to not in seen:
-                    go(to, seen | {to}, steps + [(label, to)])
-
-        go(start, {start}, [])
-        return found
-
-    def lawful(self, steps):
-        state = 0
-        for label, _ in steps:
-            state = self.next.get((state, label))
-        return state in self.accept
-
-    def reached(self, start, name):
-        here = {at for at, n, _ in self.declared if n == name}
-        return [p for p in self.paths(start) if self.lawful(p) and (p[-1][1] if p else start) in here]
-
-    def entries(self, start, name):
-        """The entries of a query, sorted as the listing has them."""
-        reached = self.reached(start, name)
-        visible = [p for p in reached if not any(more_specific(self.order, (start, q), (start, p)) for q in reached)]
-        last = lambda p: p[-1][1] if p else start
-        entries = [(p, mark) for p in visible for at, n, mark in self.declared if n == name and at == last(p)]
-        number = {label: i for i, label in enumerate(self.labels)}
-        return sorted(entries, key=lambda e: ([(number[label], to) for label, to in e[0]], e[1]))
-
-    def completed(self, at, end, name):
-        """The completion that decides whether an open pair is decisive. For `$` it has one declaration more, with an unused mark. For a label it has one
-        edge more, to the first of a chain of new scopes that each declare the name; the chain is as long as the automaton has states, and each scope in it
-        leads to the next by every label.
-
-        Why this one is enough: let some completion H that adds at this pair only see other entries. Then H sees an entry that is new, since one that is
-        lost is shadowed by a new path, and below that stands a visible new path. The new path p goes along old edges to `at` and there ends by a new
-        declaration, or takes a new edge of this label; no reached path of the graph is more specific than p. Here stands a path p' that shares that
-        beginning and that end: with the new mark, or into the chain, along a shortest word that leads the automaton from there to acceptance, which is
-        shorter than the number of states. So p' is reached. A reached path of the graph that is more specific than p' differs from it no later than at this
-        end, so it would be more specific than p too, and there is none. So whatever is visible at or below p' here is new, and the entries change."""
-        more = Gym.__new__(Gym)
-        more.__dict__.update(self.__dict__)
-        more.declared, more.edges = list(self.declared), list(self.edges)
-        unused = 1 + max([mark for _, _, mark in self.declared], default=0)
-        if end == b"$":
-            more.declared.append((at, name, unused))
-            return more
-        new = range(self.scopes, self.scopes + len(self.states))
-        more.edges.append((at, end, new[0]))
-        more.edges += [(s, label, s + 1) for s in new[:-1] for label in self.labels]
-        more.declared += [(s, name, unused) for s in new]
-        return more
-
-    def awaits(self, start, name):
-        entries = self.entries(start, name)
-        for at, end in self.opens:
-            if self.completed(at, end, name).entries(start, name) != entries:
-                return b"%d%s" % (at, end)
-        return b"-"
-
-    def listing(self, query):
-        if query >= len(self.queries):
-            raise Refused(7)
-        start, name = self.queries[query]
-        entries = self.entries(start, name)
-        lines = [b"start seek found awaits", b"%d %s %s %s" % (start, name, found(entries), self.awaits(start, name)), b"mark path"]
-        for steps, mark in entries:
-            lines.append(b"%d %d" % (mark, start) + b"".join(b"%s%d" % step for step in steps))
-        return b"".join(line + b"\n" for line in lines)
-
-    def summary(self):
-        words = [found(self.entries(start, name)) for start, name in self.queries]
-        one, several, none = (words.count(w) for w in (b"one", b"several", b"none"))
-        share = b"%d" % (one * 100 // len(words)) if words else b"-"
-        return b"queries one several none share\n%d %d %d %d %s\n" % (len(words), one, several, none, share)
-
-
-def found(entries):
-    return b"none" if not entries else b"one" if len(entries) == 1 else b"several"
-
-
-# -------------------------------------------------------------------------------------------------------------------- cases
+"""Cases of listings and summaries."""
+from cases.case_file import Dice, bytes_of, case, sum_of
+from cases.file_calls import TOP
+from cases.gyms import EXAMPLE, SMALLEST, changed, random_gym, realistic, refused_files, text_of, with_rows
+from reference.gym_file import DECLARED, EDGE, Refused
+from reference.query import Gym
 
 
 def asked(text, query):
@@ -165,13 +60,6 @@ FIRST = b"start seek found awaits\n2 service one -\nmark path\n21 2\n"
 SECOND = b"start seek found awaits\n3 service one 3$\nmark path\n10 3P1\n"
 THIRD = b"start seek found awaits\n2 hours one -\nmark path\n40 2I4\n"
 SUMMARY = b"queries one several none share\n3 3 0 0 100\n"
-
-
-def with_rows(k, *rows):
-    """The example with more rows in a section, put where they belong."""
-    number = lambda x: int(x) if x.isdigit() else "$IP".find(x.decode()) if x.decode() in "$IP" else x
-    new = sorted(EXAMPLE[k] + [bytes_of(r) for r in rows], key=lambda r: [number(x) for x in r.split()])
-    return changed(EXAMPLE, **{"s%d" % k: new})
 
 
 def marked_cases():
@@ -336,61 +224,6 @@ def long_cases():
         marks = list(range(100, 100 + rows - fours)) + list(range(1000, 1000 + fours))
         assert len(asked(text(marks), 0)) == total
         listed("a listing of %d bytes, a buffer of 65536" % total, text(marks), 0, due, 65536)
-
-
-def realistic():
-    """A site, four walls, sixteen lanes, six profiles."""
-    walls, lanes, profiles = range(1, 5), range(5, 21), range(21, 27)
-    edges = [(w, "P", 0) for w in walls] + [(l, "P", 1 + (l - 5) // 4) for l in lanes] + [(l, "I", 21 + l % 6) for l in lanes if l % 3]
-    edges += [(3, "I", 21), (0, "I", 26)] + [(p, "I", p + 1) for p in profiles if p < 26] + [(26, "I", 22)]
-    edges.sort(key=lambda e: (e[0], "IP".index(e[1]), e[2]))
-    declared = [(0, "hours", 5), (0, "limit", 1), (2, "limit", 2), (3, "limit", 3)] + [(l, "service", 100 + l) for l in lanes if l % 2] + [(p, "limit", 200 + p) for p in profiles if p % 2]
-    declared += [(22, "hours", 7), (22, "hours", 8), (24, "cable", 9), (1, "service", 50)]
-    declared.sort()
-    opens = ["0 $", "2 I", "6 $", "9 I", "17 P", "22 $", "24 $", "24 I"]
-    queries = ["%d %s" % (l, n) for l in lanes for n in ("service", "hours", "limit", "cable", "belay")]
-    return text_of(changed(EXAMPLE, s4=["27"], s5=["%d %s %d" % e for e in edges], s6=["%d %s %d" % d for d in declared], s7=opens, s8=queries))
-
-
-def closed(pairs):
-    while True:
-        more = {(a, d) for a, b in pairs for c, d in pairs if b == c} - pairs
-        if not more:
-            return pairs
-        pairs |= more
-
-
-def shuffled(dice, items):
-    items = list(items)
-    return [items.pop(dice.below(len(items))) for _ in range(len(items))]
-
-
-def random_gym(dice, scopes, most_edges):
-    letters = shuffled(dice, "IPDX")[: 1 + dice.below(4)]
-    ends = ["$"] + letters
-    rank = shuffled(dice, ends)
-    thick = dice.below(4)
-    pairs = closed({(a, b) for i, a in enumerate(rank) for b in rank[i + 1 :] if dice.below(3) < thick})
-    states = range(1 + dice.below(3))
-    steps = ["%d %s %d" % (s, l, dice.pick(states)) for s in states for l in letters if dice.below(5)]
-    accept = [str(s) for s in states if dice.below(4)]
-    edges = {(dice.below(scopes), dice.below(len(letters)), dice.below(scopes)) for _ in range(scopes // 2 + dice.below(most_edges))}
-    names = ["a", "ab"][: 1 + dice.below(2)]
-    declared = {(dice.below(scopes), dice.pick(names), dice.pick([0, 7, 10, 65535])) for _ in range(2 + dice.below(2 * scopes))}
-    thick = dice.below(5)
-    opens = ["%d %s" % (s, e) for s in range(scopes) for e in ends if dice.below(10) < thick]
-    queries = ["%d %s" % (dice.below(scopes), dice.pick(names)) for _ in range(1 + dice.below(4))]
-    return text_of(graph(
-        letters,
-        ["%s %s" % (a, b) for a in ends for b in ends if (a, b) in pairs],
-        steps,
-        accept,
-        [str(scopes)],
-        ["%d %s %d" % (a, letters[l], b) for a, l, b in sorted(edges)],
-        ["%d %s %d" % d for d in sorted(declared)],
-        opens,
-        queries,
-    ))  # fmt: skip
 
 
 def random_cases():

@@ -1,28 +1,11 @@
-"""Cases of path rows judged for a query, and the output that is due for them, by a reference written from document 01: the row's path is looked up
-among all simple paths of the query that are lawful and end at the name."""
-from case_file import Dice, bytes_of, case
-from gym_cases import EDGE, EXAMPLE, TOP, Refused, changed, refused_files, text_of
-from listing_cases import Gym, random_gym, with_rows
-from row_cases import chain, row_of
-
-# ---------------------------------------------------------------------------------------------------------------- reference
-
-
-def judged(text, query, row, room):
-    gym = Gym(text)
-    if query >= len(gym.queries):
-        raise Refused(7)
-    start, name = gym.queries[query]
-    mark, first, steps = row_of(row)
-    if len(steps) > room:
-        raise Refused(9)
-    last = steps[-1][1] if steps else first
-    if first != start or steps not in gym.reached(start, name) or (last, name, mark) not in gym.declared:
-        return b"unreached"
-    return b"visible" if (steps, mark) in gym.entries(start, name) else b"shadowed"
-
-
-# -------------------------------------------------------------------------------------------------------------------- cases
+"""Cases of path rows that are judged for a query."""
+from cases.case_file import Dice, bytes_of, case
+from cases.file_calls import TOP
+from cases.gyms import EXAMPLE, changed, random_gym, refused_files, text_of, with_rows
+from cases.path_rows import chain
+from reference.gym_file import EDGE, Refused
+from reference.judge import judged
+from reference.query import Gym
 
 
 def judge(title, text, query, row, due=None, room=63):

@@ -1,4 +1,4 @@
-//! Holds the search against the enumerator: `agree [COUNT [SEED]]`, 20,000 random gyms if not said.
+//! Holds the search against the enumerator: `enumerated [COUNT [SEED]]`, 20,000 random gyms if not said.
 //!
 //! Same listing (entries, found, awaits), the same verdict on random path rows, comparison as the
 //! rules have it; a settled listing stays the same in random completions; reading and writing are

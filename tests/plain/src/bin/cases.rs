@@ -1,5 +1,5 @@
 //! Answers the cases of `crates/trials/stdin` on standard output, in the form of the `stdout` beside it: a check of
-//! this implementation against answers made by other code. `tools/trials/case_file.py` says how cases stand.
+//! this implementation against answers made by other code. `tests/trials/cases/case_file.py` says how cases stand.
 
 use plain::path_row::{self, Compared, PathRow, Step};
 use plain::{answers, gym};
