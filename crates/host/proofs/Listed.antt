@@ -1,4 +1,5 @@
--- Every refusal of every call has a number of document 01's list, so it is below 64 and the number of an answer tells it. Assumes nothing.
+-- Every refusal of every call has a number of document 01's list, so it is below 64 and the number
+-- of an answer tells it. Assumes nothing.
 use Prim.Native.Nat.{ℕ, zero, suc, _+_, _-_, _*_, _/_, _%_, _≤_, _<_}
 use mathlib.Core.Path.{_≡_, refl, sym, ap, _∙_}
 use mathlib.Core.List.{List, [], _∷_, map}

@@ -28,7 +28,8 @@ pub sought-long : (text : List ℕ) (q : ℕ) → placeSought text q .to ≡ pla
 unfolding placeSought placeFrom nameSought
 sought-long text q = refl
 
--- no name stands where the place is empty, and the lent number stays; else its length is the place's, and the number is where it starts
+-- no name stands where the place is empty, and the lent number stays; else its length is the
+-- place's, and the number is where it starts
 module _ (text : List ℕ) (q lent : ℕ) (p : NamePlace) (e : p ≡ placeSought text q) where
   long : p .to ≡ p .from + length (nameSought text q)
   long = ap (λ (x : NamePlace). x .to) e ∙ sought-long text q ∙ ap (λ (x : NamePlace). x .from + length (nameSought text q)) (sym e)

@@ -1,5 +1,6 @@
--- That the number of an answer tells it: every refusal is one of document 01's numbers, which are below 64, so no other answer has the same one. The value is
--- in proofs/Listed.antt. Assumes nothing: these are statements.
+-- That the number of an answer tells it: every refusal is one of document 01's numbers, which are
+-- below 64, so no other answer has the same one. The value is in proofs/Listed.antt. Assumes
+-- nothing: these are statements.
 use Prim.Native.Nat.{ℕ, _≤_, _-_, _/_, _%_}
 use mathlib.Core.Path.{_≡_}
 use mathlib.Core.List.{List}

@@ -1,5 +1,5 @@
--- The number that a C or Rust host gets for each answer: below 64 it is a refusal, by its own number; any other answer has 64 or more. Assumes nothing:
--- these are definitions.
+-- The number that a C or Rust host gets for each answer: below 64 it is a refusal, by its own
+-- number; any other answer has 64 or more. Assumes nothing: these are definitions.
 use Prim.Native.Nat.{ℕ, _+_, _*_, _<_}
 use mathlib.Core.List.{List}
 use mathlib.Core.Bool.{Bool, true, false}
@@ -10,7 +10,8 @@ use Rattle.graph_file.specs.Outcome.{Outcome, refused, done}
 use Rattle.graph_file.specs.NameSought.{nameSought, placeSought}
 use Rattle.path_row.specs.Compare.{Comparison, first, second, neither}
 
--- A refusal is told by its number in document 01 ("Who can cause a refusal"), any other answer by the number that is given for it.
+-- A refusal is told by its number in document 01 ("Who can cause a refusal"), any other answer by
+-- the number that is given for it.
 unfoldable pub told : {A : Type 0} → (A → ℕ) → Outcome A → ℕ
 told number (refused n) = n
 told number (done a) = number a
@@ -19,7 +20,8 @@ told number (done a) = number a
 unfoldable pub amountNumber : ℕ → ℕ
 amountNumber n = 64 + n
 
--- A case and a number of steps, which is 63 at most as a path has no more (document 01, "Paths"): the cases are 64 apart.
+-- A case and a number of steps, which is 63 at most as a path has no more (document 01, "Paths"):
+-- the cases are 64 apart.
 unfoldable pub caseNumber : ℕ → ℕ → ℕ
 caseNumber case steps = 64 * (1 + case) + steps
 
@@ -49,8 +51,9 @@ standingCase is-unreached = 2
 unfoldable pub judged : Outcome Standing → ℕ
 judged o = told (λ s. caseNumber (standingCase s) noSteps) o
 
--- What the number lent for the place of the name sought holds afterwards (document 01, "The gym file", its end): the place of the name's first byte in
--- the text; where there is no name, what it held.
+-- What the number lent for the place of the name sought holds afterwards (document 01, "The gym
+-- file", its end): the place of the name's first byte in the text; where there is no name, what it
+-- held.
 unfoldable pub placeLeft : List ℕ → ℕ → ℕ → ℕ
 placeLeft text query lent = elim (eqb (length (nameSought text query)) 0) [ true ↦ lent | false ↦ placeSought text query .from ]
 

@@ -1,5 +1,5 @@
-// What a host written in C or Rust calls. A slice is passed as its address and its length; every answer is one number, and include/tewhoranu.h takes
-// it apart.
+// What a host written in C or Rust calls. A slice is passed as its address and its length; every answer is
+// one number, and include/tewhoranu.h takes it apart.
 mod numbers;
 
 use crate::numbers::compared_number;
@@ -40,7 +40,8 @@ pub extern "C" fn tewhoranu_write(table: &[u64], out: &mut [u8]) -> u64
     written_number(write(table, out))
 }
 
-// The name that a query seeks: its length, 0 where a refusal stands in the way, and the place of its first byte in the text. No copy is made.
+// The name that a query seeks: its length, 0 where a refusal stands in the way, and the place of its first
+// byte in the text. No copy is made.
 #[no_mangle]
 pub extern "C" fn tewhoranu_name_sought(text: &[u8], query: usize, place: &mut u64) -> u64
     ensures answer { λ r. ⌜ r ≡ length (nameSought (now (text .entry)) query) ⌝ }
@@ -73,13 +74,17 @@ pub extern "C" fn tewhoranu_judge<'s, 'o>(
     row: &'s [u8],
     steps: &'o mut [Step],
 ) -> u64
-    ensures answer_and_memory { λ r. ⌜ (r ≡ judged (judgeAnswer (now (text .entry)) query (now (row .entry)) (length (now (steps .entry)))))
-        × (now (steps .exit) ≡ stepsLeft (judgeAnswer (now (text .entry)) query (now (row .entry)) (length (now (steps .entry)))) (now (row .entry)) (now (steps .entry))) ⌝ }
+    ensures answer_and_memory { λ r. ⌜
+        (r ≡ judged (judgeAnswer (now (text .entry)) query (now (row .entry)) (length (now (steps .entry)))))
+        × (now (steps .exit) ≡
+        stepsLeft (judgeAnswer (now (text .entry)) query (now (row .entry)) (length (now (steps .entry))))
+        (now (row .entry)) (now (steps .entry))) ⌝ }
 {
     judged_number(judge(text, query, row, steps))
 }
 
-// Which of two path rows is more specific, by the order of a gym file's text. The steps of each go into the table lent for it.
+// Which of two path rows is more specific, by the order of a gym file's text. The steps of each go into the
+// table lent for it.
 #[no_mangle]
 pub extern "C" fn tewhoranu_compare<'s, 'p, 'q>(
     text: &'s [u8],
@@ -88,9 +93,18 @@ pub extern "C" fn tewhoranu_compare<'s, 'p, 'q>(
     first: &'p mut [Step],
     second: &'q mut [Step],
 ) -> u64
-    ensures answer_and_memory { λ r. ⌜ (r ≡ compared (compareAnswer (now (text .entry)) (now (a .entry)) (now (b .entry)) (length (now (first .entry))) (length (now (second .entry)))))
-        × (now (first .exit) ≡ stepsLeft (compareAnswer (now (text .entry)) (now (a .entry)) (now (b .entry)) (length (now (first .entry))) (length (now (second .entry)))) (now (a .entry)) (now (first .entry)))
-        × (now (second .exit) ≡ stepsLeft (compareAnswer (now (text .entry)) (now (a .entry)) (now (b .entry)) (length (now (first .entry))) (length (now (second .entry)))) (now (b .entry)) (now (second .entry))) ⌝ }
+    ensures answer_and_memory { λ r. ⌜
+        (r ≡ compared
+        (compareAnswer (now (text .entry)) (now (a .entry)) (now (b .entry))
+        (length (now (first .entry))) (length (now (second .entry)))))
+        × (now (first .exit) ≡ stepsLeft
+        (compareAnswer (now (text .entry)) (now (a .entry)) (now (b .entry))
+        (length (now (first .entry))) (length (now (second .entry))))
+        (now (a .entry)) (now (first .entry)))
+        × (now (second .exit) ≡ stepsLeft
+        (compareAnswer (now (text .entry)) (now (a .entry)) (now (b .entry))
+        (length (now (first .entry))) (length (now (second .entry))))
+        (now (b .entry)) (now (second .entry))) ⌝ }
 {
     compared_number(compare(text, a, b, first, second))
 }

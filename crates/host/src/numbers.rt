@@ -9,8 +9,8 @@ ghost use Rattle.path_row.specs.Compare.{meaning};
 ghost use Rattle.judge.specs.Judge.{meaning as standing};
 ghost use Rattle.host.specs.Numbers.{caseNumber, written, compared, judged, Sized};
 
-// The first number that is no refusal. It is also how far apart two cases are, so that the steps of a path, 63 at most, have room
-// behind each.
+// The first number that is no refusal. It is also how far apart two cases are, so that the steps of a path,
+// 63 at most, have room behind each.
 const ANSWERS: u64 = 64;
 
 // The steps that come with a case: none are counted.
@@ -18,7 +18,7 @@ const NO_STEPS: u64 = 0;
 
 // A refusal by its number, what was written by how much it is.
 pub fn written_number(a: Answer) -> u64
-    requires { ⌜ Sized (answerOf a) ⌝ }
+    requires sized { ⌜ Sized (answerOf a) ⌝ }
     ensures answer { λ r. ⌜ r ≡ written (answerOf a) ⌝ }
 {
     match a {
@@ -29,8 +29,8 @@ pub fn written_number(a: Answer) -> u64
 
 // A case and the steps that come with it.
 fn case_number(case: u64, steps: u64) -> u64
-    requires { ⌜ case < 64 ⌝ }
-    requires { ⌜ steps < 64 ⌝ }
+    requires few_cases { ⌜ case < 64 ⌝ }
+    requires few_steps { ⌜ steps < 64 ⌝ }
     ensures answer { λ r. ⌜ r ≡ caseNumber case steps ⌝ }
 {
     ANSWERS * (1 + case) + steps
