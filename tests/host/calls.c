@@ -1,5 +1,6 @@
 /* Calls every function of the header from C, on document 01's example given as the one argument, and compares the answers
- * with what the document says. It is the test of the header's declarations: the Rust wrapper has its own. */
+ * with what the document says. It is the test of the header's declarations: the Rust wrapper has its own. With the word
+ * `words` as its argument it prints what the header says of each refusal. */
 #include "tewhoranu.h"
 
 #include <stdio.h>
@@ -57,6 +58,15 @@ static int refused_with(size_t length, const char *old, const char *new, uint64_
         && tewhoranu_name_sought(changed, length, 0, &place) == 0 && place == 7 && out[0] == 'x';
 }
 
+static int print_words(void)
+{
+    uint64_t number;
+
+    for (number = TEWHORANU_TOO_LONG; number <= TEWHORANU_NO_ROOM; number++)
+        printf("refused %d: %s\n", (int)number, tewhoranu_refusal_text(number));
+    return 0;
+}
+
 int main(int argc, char **argv)
 {
     static const char listing[] = "start seek found awaits\n3 service one 3$\nmark path\n10 3P1\n";
@@ -66,6 +76,8 @@ int main(int argc, char **argv)
     size_t length, cells;
     uint64_t answer, place = 7;
 
+    if (argc == 2 && strcmp(argv[1], "words") == 0)
+        return print_words();
     expect(file != NULL, "the example's file is the one argument");
     length = fread(text, 1, sizeof text, file);
 
@@ -122,7 +134,6 @@ int main(int argc, char **argv)
     answer = tewhoranu_compare(text, length, bytes(visible), strlen(visible), bytes(visible), strlen(visible), steps, 0,
                                others, 0);
     EXPECT(is_case(answer, TEWHORANU_NEITHER));
-    EXPECT(strcmp(tewhoranu_refusal_text(TEWHORANU_NOT_ASCENDING), "a row repeats or does not ascend") == 0);
     puts("calls: ok");
     return 0;
 }

@@ -3,7 +3,7 @@
 //! program against the plain implementation.
 //!
 //! host_test FILES EXAMPLE PROGRAM RUNS [GYM..]: so many random files in process, so many runs of each of the two programs, and
-//! both programs on the gym files named.
+//! both programs on the gym files named. `host_test words` prints what the wrapper says of each refusal.
 
 mod calls;
 mod files;
@@ -12,7 +12,7 @@ mod programs;
 use calls::{Tally, Test};
 use files::{file, limits};
 use plain::random::Rng;
-use programs::{print_the_same, Program};
+use programs::{print_the_same, words, Program};
 use std::env;
 use std::fs;
 use std::process::exit;
@@ -35,6 +35,10 @@ const DUE: [(&str, &[&str]); 7] = [
 ];
 
 fn run(args: &[String]) {
+    if args == ["words"] {
+        print!("{}", words());
+        return;
+    }
     let [files, example, program, runs, gyms @ ..] = args else {
         eprintln!("host_test FILES EXAMPLE PROGRAM RUNS [GYM..]");
         exit(2);

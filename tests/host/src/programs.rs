@@ -27,11 +27,20 @@ fn run(program: &str, text: &[u8]) -> Output {
     output
 }
 
-/// The words that are due for an output: those of the Rust wrapper, for each line `refused N`.
+/// A refusal as a program says it in words, those of the Rust wrapper.
+fn said(refusal: Refusal) -> String {
+    format!("refused {}: {refusal}\n", refusal.number())
+}
+
+/// Every refusal in words.
+pub fn words() -> String {
+    Refusal::ALL.into_iter().map(said).collect()
+}
+
+/// The words that are due for an output: for each line `refused N`.
 fn in_words(output: &[u8]) -> Vec<u8> {
     let refusal = |line: &[u8]| Refusal::ALL.into_iter().find(|r| line == format!("refused {}", r.number()).as_bytes());
-    let refusals = output.split(|&b| b == b'\n').filter_map(refusal);
-    refusals.map(|r| format!("refused {}: {r}\n", r.number())).collect::<String>().into_bytes()
+    output.split(|&b| b == b'\n').filter_map(refusal).map(said).collect::<String>().into_bytes()
 }
 
 /// Each program on one text.
