@@ -34,4 +34,5 @@ pub mod DecodeOrder
 pub mod DecodePlaces
 pub mod DecodeAccepted
 pub mod DecodeExample
+pub mod NameOrderLaws
 pub mod Refusals
