@@ -20,7 +20,7 @@ use Rattle.graph_file.specs.Line.{numberTaken, readField, startsWith, re
 use Rattle.graph_file.specs.File.{Stage, readStage}
 use Rattle.graph_file.specs.Decode.{rulesOf, nameAt, queryOf, rowsIn, queriesOf}
 use Rattle.graph_file.specs.NameSought.{afterLines, lineCount, namePart, restOf, isNameField, fromName, queryFrom, fromWithin, fromSought, nameFront, nameSought, placeFrom, placeSought}
-use Rattle.graph_file.specs.Sought.{TableQuery, seekText, queryLines, SoughtIn, SoughtIsQuerys}
+use Rattle.graph_file.specs.Sought.{TableQuery, seekText, queryLines, beforeLine, SoughtIn, SoughtRight}
 use Rattle.graph_file.proofs.SoughtLines.{count-append, Ended, ended-line, ended-append, rowLine, rowLines, Named, AllNamed, named-apart, lines-append, line-then, lines-ended, lines-count}
 use Rattle.graph_file.proofs.SoughtRows.{QueriesRead, queries-read}
 
@@ -118,7 +118,7 @@ module _ (cells : List ℕ) where
   -- the query of a row
   row-sought : (text : List ℕ) → QueriesRead text cells → (q : ℕ) → q < length (rowsIn querySection cells)
       → SoughtIn cells text q (asQuery (getD (rowsIn querySection cells) q blank))
-  unfolding queriesOf queryOf nameAt seekText nameSought placeSought placeFrom
+  unfolding queriesOf queryOf nameAt seekText queryLines beforeLine nameSought placeSought placeFrom
   row-sought text r q h =
       let rows = rowsIn querySection cells in
       let a = take q rows in
@@ -132,27 +132,26 @@ module _ (cells : List ℕ) where
       let whole : text ≡ base ++ rowLines (a ++ (row ∷ b)) = r .whole ∙ sym (append-assoc (r .above) names (rowLines rows)) ∙ ap (λ (l : List Row). base ++ rowLines l) split in
       let ended = names-ended (r .above) in
       let found : fromSought text q ≡ last base ended a row b named =
-          sought-by text q (r .stage) (r .came)
-          ∙ ap (λ (n : ℕ). queryFrom n text q) (r .count ∙ ap length split)
-          ∙ ap (λ (t : List ℕ). queryFrom (length (a ++ (row ∷ b))) t q) whole
-          ∙ ap (queryFrom (length (a ++ (row ∷ b))) (base ++ rowLines (a ++ (row ∷ b)))) (sym long)
-          ∙ query-found base ended a row b named in
+      sought-by text q (r .stage) (r .came)
+      ∙ ap (λ (n : ℕ). queryFrom n text q) (r .count ∙ ap length split)
+      ∙ ap (λ (t : List ℕ). queryFrom (length (a ++ (row ∷ b))) t q) whole
+      ∙ ap (queryFrom (length (a ++ (row ∷ b))) (base ++ rowLines (a ++ (row ∷ b)))) (sym long)
+      ∙ query-found base ended a row b named in
       let name : nameFront (fromSought text q) ≡ nameText (value row 1) (value row 2) = ap nameFront found ∙ front-found base ended a row b named in
       let before : rowLines a ≡ queryLines cells (take q (queriesOf cells)) = sym (ap (queryLines cells) (taken-are q rows) ∙ lines-are a) in
+      let before-is : base ++ rowLines a ≡ beforeLine cells (r .above) q = append-assoc (r .above) names (rowLines a) ∙ ap (λ (s : List ℕ). r .above ++ (names ++ s)) before in
       let after : rowLines b ≡ queryLines cells (drop (suc q) (queriesOf cells)) = sym (ap (queryLines cells) (dropped-are (suc q) rows) ∙ lines-are b) in
       record {
         above = r .above;
-        front = base ++ rowLines a;
-        front-is = append-assoc (r .above) names (rowLines a) ∙ ap (λ (s : List ℕ). r .above ++ (names ++ s)) before;
-        line = whole ∙ line-there base ended a row b named ∙ ap (λ (s : List ℕ). (base ++ rowLines a) ++ (numberText (value row 0) ++ (32 ∷ (nameText (value row 1) (value row 2) ++ (10 ∷ s))))) after;
+        lines = whole ∙ line-there base ended a row b named ∙ ap (λ (s : List ℕ). (base ++ rowLines a) ++ (numberText (value row 0) ++ (32 ∷ (nameText (value row 1) (value row 2) ++ (10 ∷ s))))) after ∙ ap (λ (s : List ℕ). s ++ (numberText (value row 0) ++ (32 ∷ (nameText (value row 1) (value row 2) ++ (10 ∷ queryLines cells (drop (suc q) (queriesOf cells))))))) before-is;
         name = name;
-        from = ap (λ (s : List ℕ). length text - length s) found ∙ ap (λ (t : List ℕ). length t - length (last base ended a row b named)) whole ∙ place-found base ended a row b named;
+        from = ap (λ (s : List ℕ). length text - length s) found ∙ ap (λ (t : List ℕ). length t - length (last base ended a row b named)) whole ∙ place-found base ended a row b named ∙ ap (λ (s : List ℕ). length s + length (numberText (value row 0)) + 1) before-is;
         to = ap (λ (s : List ℕ). length text - length (fromSought text q) + length s) name;
       }
 
-pub sought-is-querys : SoughtIsQuerys
+pub sought-right : SoughtRight
 unfolding queriesOf
-sought-is-querys text cells e q h d =
+sought-right text cells e q h d =
     let rows = rowsIn querySection cells in
     let k : q < length rows = rw (length-map rows (queryOf (rulesOf cells))) at h in
     rw (query-at cells q rows d k) (row-sought cells text (queries-read text cells e) q k)
