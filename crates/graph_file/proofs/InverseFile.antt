@@ -18,11 +18,11 @@ use Rattle.graph_file.proofs.InverseWays.{whole-back}
 use Rattle.graph_file.proofs.InverseReading.{reading-mirrored}
 use Rattle.graph_file.proofs.InverseWriting.{writing-mirrored, written-fits}
 
-pub stage-long : (text : List ℕ) → ltb 32768 (length text) ≡ true → readStage text ≡ refused 1
+stage-long : (text : List ℕ) → ltb 32768 (length text) ≡ true → readStage text ≡ refused 1
 unfolding readStage
 stage-long text h = rw (h, readStage)
 
-pub stage-short : (text : List ℕ) → ltb 32768 (length text) ≡ false → readStage text ≡ whole reading (form ∷ []) text
+stage-short : (text : List ℕ) → ltb 32768 (length text) ≡ false → readStage text ≡ whole reading (form ∷ []) text
 unfolding readStage
 stage-short text h = rw (h, readStage)
 

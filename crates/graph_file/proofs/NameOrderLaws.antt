@@ -1,17 +1,18 @@
--- The key of a declaration row ascends as its scope, name and mark do (specs/NameOrder). Assumes nothing.
+-- The key of a declaration row ascends as its scope, name and mark do (specs/NameOrder).
+-- Assumes nothing.
 use Prim.Native.Nat.{ℕ, _<_}
-use mathlib.Core.Path.{_≡_, refl, sym, ap, _∙_}
+use mathlib.Core.Path.{_≡_, refl, sym, _∙_}
 use mathlib.Core.Bool.{Bool, true, false}
 use mathlib.Core.Logic.{_⊎_, inl, inr}
 use mathlib.Core.List.{List, [], _∷_}
 use native.Mathlib.Omega.{arith}
 use lib.Dec.{eqb, ltb}
-use borrow.Author.Tests.{lt-ltb, ltb-true, eq-eqb, eqb-true, eqb-false, ne-eqb}
-use Rattle.text_field.specs.Name.{nameText, isNameCells, nameBefore, cellsBefore}
+use borrow.Author.Tests.{lt-ltb, ltb-true, eq-eqb, eqb-true, ne-eqb}
+use Rattle.text_field.specs.Name.{isNameCells, nameBefore, cellsBefore}
 use Rattle.text_field.proofs.NameLaws.{cells-equal}
 use Rattle.text_field.proofs.OrderLaws.{cells-ordered}
 use Rattle.scope_graph.proofs.Lists.{and-both, or-left, or-right}
-use Rattle.graph_file.specs.Format.{sections, sectionAt, declarations, declarationSection}
+use Rattle.graph_file.specs.Format.{sections, sectionAt, declarations}
 use Rattle.graph_file.specs.Admission.{Row, value, keyLess}
 use Rattle.graph_file.specs.NameOrder.{nameIn, DeclaredBefore, DeclarationsAscend}
 use Rattle.graph_file.proofs.DecodeRows.{KeyBefore, key-before}

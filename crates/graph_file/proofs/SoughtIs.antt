@@ -1,20 +1,20 @@
--- The name sought is the query's name, at the place of that name in the query's line (specs/Sought). Assumes nothing.
+-- The name sought is the query's name, at the place of that name in the query's line
+-- (specs/Sought). Assumes nothing.
 use Prim.Native.Nat.{ℕ, zero, suc, _+_, _-_, _≤_, _<_}
 use mathlib.Core.Path.{_≡_, refl, sym, ap, _∙_}
-use mathlib.Core.Bool.{true, false}
+use mathlib.Core.Bool.{true}
 use mathlib.Core.List.{List, [], _∷_, _++_, map, append-assoc}
 use native.Mathlib.Omega.{arith}
-use lib.Dec.{ltb}
 use lib.ListN.{length, getD, take, drop, length-append, length-map}
 use lib.Seq.{split-at, take-at, drop-append-seam, length-take-le}
 use borrow.Author.Tests.{lt-ltb}
 use Rattle.text_field.specs.Bytes.{within, isLower, isDigit, isNameByte}
-use Rattle.text_field.specs.Number.{numberText, numberHere}
-use Rattle.text_field.specs.Name.{nameText, nameHere, isNameCells}
+use Rattle.text_field.specs.Number.{numberText}
+use Rattle.text_field.specs.Name.{nameText, isNameCells}
 use Rattle.text_field.proofs.NumberLaws.{number-back}
 use Rattle.text_field.proofs.NameLaws.{name-back}
 use Rattle.graph_file.specs.Format.{valuesOf, queries, sections, sectionAt, querySection}
-use Rattle.graph_file.specs.Outcome.{Outcome, done}
+use Rattle.graph_file.specs.Outcome.{done}
 use Rattle.graph_file.specs.Admission.{Row, value, blank}
 use Rattle.graph_file.specs.Line.{numberTaken, readField, startsWith, readItem}
 use Rattle.graph_file.specs.File.{Stage, readStage}
@@ -41,7 +41,7 @@ names-ended above n t =
     let e : (above ++ begin) ++ (10 ∷ []) ≡ above ++ (begin ++ (10 ∷ [])) = append-assoc above begin (10 ∷ []) in
     ap (λ (s : List ℕ). afterLines (lineCount s + n) (s ++ t)) (sym e) ∙ ended-line (above ++ begin) n t
 
--- rows behind a part that ends with its last line: before them come the rows a, then one row, then the rows b
+-- the lines of rows a, of one row, and of rows b, behind a part that ends with its last line
 module _ (base : List ℕ) (ended : Ended base) (a : List Row) (row : Row) (b : List Row) (named : AllNamed (a ++ (row ∷ b))) where
   abbrev front : List ℕ
   front = base ++ rowLines a
@@ -141,9 +141,12 @@ module _ (cells : List ℕ) where
       let before : rowLines a ≡ queryLines cells (take q (queriesOf cells)) = sym (ap (queryLines cells) (taken-are q rows) ∙ lines-are a) in
       let before-is : base ++ rowLines a ≡ beforeLine cells (r .above) q = append-assoc (r .above) names (rowLines a) ∙ ap (λ (s : List ℕ). r .above ++ (names ++ s)) before in
       let after : rowLines b ≡ queryLines cells (drop (suc q) (queriesOf cells)) = sym (ap (queryLines cells) (dropped-are (suc q) rows) ∙ lines-are b) in
+      let around : List ℕ → List ℕ → List ℕ = λ s t. s ++ (numberText (value row 0) ++ (32 ∷ (nameText (value row 1) (value row 2) ++ (10 ∷ t)))) in
       record {
         above = r .above;
-        lines = whole ∙ line-there base ended a row b named ∙ ap (λ (s : List ℕ). (base ++ rowLines a) ++ (numberText (value row 0) ++ (32 ∷ (nameText (value row 1) (value row 2) ++ (10 ∷ s))))) after ∙ ap (λ (s : List ℕ). s ++ (numberText (value row 0) ++ (32 ∷ (nameText (value row 1) (value row 2) ++ (10 ∷ queryLines cells (drop (suc q) (queriesOf cells))))))) before-is;
+        lines =
+            whole ∙ line-there base ended a row b named ∙ ap (around (base ++ rowLines a)) after
+            ∙ ap (λ (s : List ℕ). around s (queryLines cells (drop (suc q) (queriesOf cells)))) before-is;
         name = name;
         from = ap (λ (s : List ℕ). length text - length s) found ∙ ap (λ (t : List ℕ). length t - length (last base ended a row b named)) whole ∙ place-found base ended a row b named ∙ ap (λ (s : List ℕ). length s + length (numberText (value row 0)) + 1) before-is;
         to = ap (λ (s : List ℕ). length text - length (fromSought text q) + length s) name;

@@ -1,5 +1,6 @@
--- Lines of a text: how many there are in parts put together, and what comes after them; a query's line is one. Assumes nothing.
-use Prim.Native.Nat.{ℕ, zero, suc, _+_, _-_, _/_, _%_, _≤_, _<_}
+-- Lines of a text: how many there are in parts put together, and what comes after them; a query's
+-- line is one. Assumes nothing.
+use Prim.Native.Nat.{ℕ, zero, suc, _+_, _-_, _/_, _%_, _≤_}
 use mathlib.Core.Path.{_≡_, refl, sym, ap, _∙_}
 use mathlib.Core.Bool.{Bool, true, false}
 use mathlib.Core.List.{List, [], _∷_, _++_, append-assoc}
@@ -25,7 +26,8 @@ pub count-append : (s t : List ℕ) → lineCount (s ++ t) ≡ lineCount s + lin
 count-append [] t = omega (arith, count-none)
 count-append (b ∷ s) t = omega (arith, count-step b (s ++ t), count-step b s, count-append s t)
 
--- A part that ends with its last line: what is left after its lines and n more is what is left after n lines behind it.
+-- A part that ends with its last line: what is left after its lines and n more is what is left
+-- after n lines behind it.
 abbrev pub Ended : List ℕ → Type 0
 Ended s = (n : ℕ) (t : List ℕ) → afterLines (lineCount s + n) (s ++ t) ≡ afterLines n t
 

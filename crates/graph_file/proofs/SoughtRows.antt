@@ -11,7 +11,7 @@ use borrow.Author.Tests.{eq-eqb, ne-eqb, leb-true}
 use Rattle.text_field.specs.Name.{isNameCells}
 use Rattle.text_field.proofs.ByteLaws.{both}
 use Rattle.graph_file.specs.Format.{everyItem, queries, sections, sectionAt, form, querySection}
-use Rattle.graph_file.specs.Outcome.{Outcome, refused, done}
+use Rattle.graph_file.specs.Outcome.{done}
 use Rattle.graph_file.specs.Admission.{Row, value, blank, begun, taken}
 use Rattle.graph_file.specs.Line.{lineText, itemText, fieldText, itemFormed, fieldFormed, formed}
 use Rattle.graph_file.specs.File.{Piece, Stage, afterRow, oneRow, throughRows, afterNames, throughSection, throughSections, atStart, whole, reading, writing, writeNames, readStage, madeOf, readCells}
@@ -161,7 +161,8 @@ queries-written (suc left) k g h l e =
       named = r .named;
     }
 
--- A text that is read as cells: the stage that reading ends at, and the queries' lines at the text's end.
+-- A text that is read as cells: the stage that reading ends at, and the queries' lines at the
+-- text's end.
 pub record QueriesRead (text cells : List ℕ) : Type 0 where
   pub stage : Stage
   pub came : readStage text ≡ done stage

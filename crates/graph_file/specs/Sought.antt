@@ -43,8 +43,8 @@ module _ (cells : List ℕ) where
     pub from : placeSought text q .from ≡ length (beforeLine above q) + length (numberText (query .start)) + 1
     pub to : placeSought text q .to ≡ placeSought text q .from + length (seekText query)
 
--- For a text that is read as a table, and q below the number of the table's queries, the name sought
--- is query q's. The default d is not read.
+-- For a text that is read as a table, and q below the number of the table's queries, the name
+-- sought is query q's. The default d is not read.
 abbrev pub SoughtRight : Type 0
 SoughtRight = (text cells : List ℕ) → readCells text ≡ done cells → (q : ℕ) → q < length (queriesOf cells) → (d : TableQuery cells)
     → SoughtIn cells text q (getD (queriesOf cells) q d)
