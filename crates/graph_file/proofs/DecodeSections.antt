@@ -25,7 +25,7 @@ gathered j k [] = []
 gathered j k (rows ∷ rest) = joinedIf (eqb k j) rows (gathered j (suc k) rest)
 
 -- the table's cells hold just these rows
-among-row : (j k : ℕ) (row more : List ℕ) → length row ≡ 5 → rowsAmong j (k ∷ (row ++ more)) ≡ keptIf (eqb k j) row (rowsAmong j more)
+pub among-row : (j k : ℕ) (row more : List ℕ) → length row ≡ 5 → rowsAmong j (k ∷ (row ++ more)) ≡ keptIf (eqb k j) row (rowsAmong j more)
 unfolding rowsAmong
 among-row j k [] more h = absurd (omega arith)
 among-row j k (a ∷ []) more h = absurd (omega arith)
@@ -35,12 +35,12 @@ among-row j k (a ∷ b ∷ c ∷ d ∷ []) more h = absurd (omega arith)
 among-row j k (a ∷ b ∷ c ∷ d ∷ e ∷ []) more h = refl
 among-row j k (a ∷ b ∷ c ∷ d ∷ e ∷ f ∷ l) more h = absurd (omega arith)
 
-kept-joined : (t : Bool) (row : Row) (rows more : List Row) → keptIf t row (joinedIf t rows more) ≡ joinedIf t (row ∷ rows) more
+pub kept-joined : (t : Bool) (row : Row) (rows more : List Row) → keptIf t row (joinedIf t rows more) ≡ joinedIf t (row ∷ rows) more
 unfolding keptIf joinedIf
 kept-joined true row rows more = refl
 kept-joined false row rows more = refl
 
-joined-none : (t : Bool) (more : List Row) → more ≡ joinedIf t [] more
+pub joined-none : (t : Bool) (more : List Row) → more ≡ joinedIf t [] more
 unfolding joinedIf
 joined-none true more = refl
 joined-none false more = refl

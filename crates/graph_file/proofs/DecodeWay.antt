@@ -277,7 +277,7 @@ pub record AdmittedTable (cells : List ℕ) : Type 0 where
   pub admitted : AdmittedSections 0 nothing sections
   pub order : orderFault (sofarAfter 0 nothing sections .pairs) ≡ false
 
-whole-split : (w : Way) (made rest : List ℕ) (h : Stage) → whole w made rest ≡ done h
+pub whole-split : (w : Way) (made rest : List ℕ) (h : Stage) → whole w made rest ≡ done h
     → (throughSections w 9 0 (record { sofar = nothing; made = made; rest = rest }) ≡ done h) × (orderFault (h .sofar .pairs) ≡ false)
 unfolding whole ordered atStart
 whole-split w made rest h e =

@@ -91,10 +91,10 @@ names-start [] t h = absurd (clash h refl)
 names-start (b ∷ bs) t h = rw h
 
 -- what writing a row makes and leaves
-record RowWritten (k : ℕ) (letters s : List ℕ) (p : Piece) : Type 0 where
-  stands : s ≡ (k ∷ rowOf s) ++ drop 6 s
-  proper : formed (sectionAt k .row) (rowOf s) ≡ true
-  piece : p ≡ record { row = rowOf s; made = lineText letters (sectionAt k .row) (rowOf s); rest = drop 6 s }
+pub record RowWritten (k : ℕ) (letters s : List ℕ) (p : Piece) : Type 0 where
+  pub stands : s ≡ (k ∷ rowOf s) ++ drop 6 s
+  pub proper : formed (sectionAt k .row) (rowOf s) ≡ true
+  pub piece : p ≡ record { row = rowOf s; made = lineText letters (sectionAt k .row) (rowOf s); rest = drop 6 s }
 
 six : (k : ℕ) (s : List ℕ) → 6 ≤ length s → cellsFollow k s ≡ true → s ≡ (k ∷ rowOf s) ++ drop 6 s
 unfolding cellsFollow rowOf
@@ -106,7 +106,7 @@ six k (x ∷ a ∷ b ∷ c ∷ []) h e = absurd (omega arith)
 six k (x ∷ a ∷ b ∷ c ∷ d ∷ []) h e = absurd (omega arith)
 six k (x ∷ a ∷ b ∷ c ∷ d ∷ f ∷ s) h e = ap (λ (z : ℕ). z ∷ a ∷ b ∷ c ∷ d ∷ f ∷ s) (eqb-true x k e)
 
-row-written : (k : ℕ) (letters s : List ℕ) (p : Piece) → cellsFollow k s ≡ true → writeRow k letters s ≡ done p → RowWritten k letters s p
+pub row-written : (k : ℕ) (letters s : List ℕ) (p : Piece) → cellsFollow k s ≡ true → writeRow k letters s ≡ done p → RowWritten k letters s p
 unfolding writeRow
 row-written k letters s p h e =
     let made : Piece = record { row = rowOf s; made = lineText letters (sectionAt k .row) (rowOf s); rest = drop 6 s }
@@ -114,7 +114,7 @@ row-written k letters s p h e =
     in let b = passed (not (formed (sectionAt k .row) (rowOf s))) 2 (done made) p (a .1)
     in record { stands = six k s (ltb-false (length s) 6 (a .0)) h; proper = not-false (formed (sectionAt k .row) (rowOf s)) (b .0); piece = sym (done-same made p (b .1)) }
 
-rowOf-five : (s : List ℕ) → length (rowOf s) ≡ 5
+pub rowOf-five : (s : List ℕ) → length (rowOf s) ≡ 5
 unfolding rowOf
 rowOf-five s = refl
 

@@ -7,6 +7,8 @@ pub mod File
 pub mod NameSought
 pub mod Inverse
 pub mod Decode
+pub mod Sought
+pub mod NameOrder
 pub mod Accepted
 pub mod Table
 pub mod Reader
