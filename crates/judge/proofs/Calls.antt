@@ -18,10 +18,11 @@ use Rattle.graph_file.specs.Decode.{rulesOf, graphOf, queriesOf}
 use Rattle.graph_file.specs.declared.reader.Answer.{Answer}
 use Rattle.graph_file.specs.declared.reader.Answer.the-variants.{Refused, Written}
 use Rattle.prepared.specs.Sections.{partOf, rowsOf}
+use Rattle.path_row.specs.declared.form.Step.{Step}
 use Rattle.path_row.specs.declared.form.RowRead.{RowRead}
-use Rattle.path_row.specs.declared.form.RowRead.the-variants.{Row, NoRow}
-use Rattle.path_row.specs.Form.{PathRow, rowHere, rowAnswer, stepsIn}
-use Rattle.path_row.proofs.CompareSteps.{steps-shown, row-is-refused}
+use Rattle.path_row.specs.declared.form.RowRead.the-variants.{Row}
+use Rattle.path_row.specs.Form.{PathRow, rowHere, rowMeaning, rowInLarge, stepsIn}
+use Rattle.path_row.proofs.CompareSteps.{row-is}
 use Rattle.resolution.specs.Listing.{queryAt}
 use Rattle.resolution.specs.Asked.{WasRead, queryFrom}
 use Rattle.resolution.proofs.Heads.{count-is, query-is, refused-any, Made}
@@ -34,19 +35,14 @@ pub record RowRead-is (s : List ℕ) (mark start count : ℕ) : Type 0 where
   pub read : rowHere s ≡ done (record { mark = mark; start = start; steps = stepsIn s })
   pub counts : length (stepsIn s) ≡ count
 
-pub row-read : (s : List ℕ) (a : RowRead) → a ≡ rowAnswer (rowHere s) → (mark start count : ℕ) → a ≡ Row mark start count → RowRead-is s mark start count
-unfolding rowAnswer
-row-read s a e mark start count f = by (rowHere s) refl (sym f ∙ e)
-  where
-    by : (o : Outcome PathRow) → rowHere s ≡ o → Row mark start count ≡ rowAnswer o → RowRead-is s mark start count
-    by (refused n) g h = absurd (let z : _≡_ {A = ℕ} 0 1 = cc in omega arith)
-    by (done p) g h =
-        let m : p .mark ≡ mark = cc in
-        let t : p .start ≡ start = cc in
-        let c : length (p .steps) ≡ count = cc in
-        let k : p .steps ≡ stepsIn s = steps-shown s p g in
-        let w : p ≡ record { mark = mark; start = start; steps = stepsIn s } = rw (← m, ← t, ← k) refl in
-        record { read = g ∙ ap {B = Outcome PathRow} (λ (z : PathRow). done z) w; counts = rw (← k) c }
+by-parts : (p : PathRow) (mark start : ℕ) (steps : List Step) → p .mark ≡ mark → p .start ≡ start → p .steps ≡ steps → p ≡ record { mark = mark; start = start; steps = steps }
+by-parts p mark start steps m t k = rw (← m, ← t, ← k) refl
+
+pub row-read : (s : List ℕ) (a : RowRead) → rowMeaning a ≡ rowInLarge s → (mark start count : ℕ) → a ≡ Row mark start count → RowRead-is s mark start count
+row-read s a e mark start count f =
+    let p = row-is s a e mark start count f in
+    let w = by-parts (p .row) mark start (stepsIn s) (p .marks) (p .starts) (p .steps) in
+    record { read = p .read ∙ ap {B = Outcome PathRow} (λ (z : PathRow). done z) w; counts = ap length (sym (p .steps)) ∙ p .counts }
 
 -- query i of a table that was read
 module _ (cells : List ℕ) (was : WasRead cells) (queries : List ℕ) (i n : ℕ) (part : queries ≡ partOf querySection cells) (counted : n ≡ length (rowsOf queries))

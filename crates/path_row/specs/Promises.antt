@@ -1,25 +1,32 @@
--- What is proved of a row in the large, of labels' numbers, of comparing two rows and of a lent table (document 01, "Paths"). These are the statements; their proofs are in
+-- What is proved of a row's first step, of labels' numbers, of comparing two rows and of a lent table (document 01, "Paths"). These are the statements; their proofs are in
 -- proofs/Promises. Assumes nothing: these are definitions.
-use Prim.Native.Nat.{ℕ, _≤_, _<_}
+use Prim.Native.Nat.{ℕ, _+_, _≤_, _<_}
 use mathlib.Core.Path.{_≡_}
 use mathlib.Core.Bool.{false}
 use mathlib.Core.Logic.{_↔_}
 use mathlib.Core.List.{List, _++_}
 use lib.ListN.{length, getD, take, drop}
-use Rattle.graph_file.specs.Outcome.{Outcome, done, andThen}
+use Rattle.text_field.specs.Number.{numberText}
+use Rattle.graph_file.specs.Outcome.{Outcome, refused, done}
 use Rattle.graph_file.specs.File.{readCells}
 use Rattle.graph_file.specs.Decode.{lettersOf, rulesOf}
 use Rattle.scope_graph.specs.Language.{_∈_, End, by}
 use Rattle.scope_graph.specs.Rows.{language}
 use Rattle.scope_graph.specs.Path.{MoreSpecific}
-use Rattle.path_row.specs.Form.{PathRow, rowHere, rowAnswer, inLarge, rowMeaning}
+use Rattle.path_row.specs.Form.{PathRow, Front, mostSteps, stepsOf, headHere, firstStep, rowHere, stepsIn}
 use Rattle.path_row.specs.Compare.{Comparison, first, second, neither, labelNumber, pathIn, compareAnswer}
 use Rattle.path_row.specs.declared.form.Step.{Step}
 use Rattle.path_row.specs.Lent.{filled}
 
--- what the reader answers of a row means the row's values in the large, or the row's refusal
-abbrev pub RowMeant : Type 0
-RowMeant = (s : List ℕ) → rowMeaning (rowAnswer (rowHere s)) ≡ andThen (rowHere s) (λ r. done (inLarge r))
+-- The place of the first step: behind the bytes of the mark, a space and the bytes of the start; at the end of a text that does not begin so.
+pub record FirstStepIs (s : List ℕ) : Type 0 where
+  pub behind : (h : Front) → headHere s ≡ done h → firstStep s ≡ length (numberText (h .mark)) + 1 + length (numberText (h .start))
+  pub at-end : headHere s ≡ refused 8 → firstStep s ≡ length s
+  -- from there on the steps are read that the text shows
+  pub steps : stepsOf mostSteps (drop (firstStep s) s) ≡ stepsIn s
+
+abbrev pub FirstSteps : Type 0
+FirstSteps = (s : List ℕ) → FirstStepIs s
 
 -- the numbers of letters in a file
 pub record Numbers (cells : List ℕ) : Type 0 where

@@ -19,7 +19,7 @@ ghost use Rattle.graph_file.specs.Line.{startsWith};
 ghost use Rattle.graph_file.specs.Admission.{rowOf};
 ghost use Rattle.scope_graph.specs.Order.{meaning as endMeaning, pairMeaning};
 ghost use Rattle.scope_graph.specs.Rows.{preferredBy};
-ghost use Rattle.path_row.specs.Form.{mostSteps, stepHere, stepsOf, stepsIn};
+ghost use Rattle.path_row.specs.Form.{mostSteps, stepHere, stepsOf, stepsIn, firstStep};
 ghost use Rattle.graph_file.specs.Decode.{orderPairOf};
 ghost use Rattle.path_row.specs.Compare.{labelNumber, meaning, WasRead, compareRows};
 ghost use Rattle.path_row.specs.Lent.{stepsDue};
@@ -169,9 +169,9 @@ fn steps_preferred(cells: &[u64], a: &[u8], p: usize, b: &[u8], q: usize) -> boo
     preferred(cells, End::Stop, End::Stop)
 }
 
-// The place of a row's first step; the end of a text that has no mark and start.
+// The place of a row's first step: behind its mark, its space and its start. A text without these has its end there.
 pub fn first_step(s: &[u8]) -> usize
-    ensures { λ r. ⌜ stepsOf mostSteps (drop r (now (s .entry))) ≡ stepsIn (now (s .entry)) ⌝ }
+    ensures answer { λ r. ⌜ r ≡ firstStep (now (s .entry)) ⌝ }
 {
     let HeadRead::Head(_, _, first) = read_head(s) else {
         return s.len();

@@ -6,7 +6,7 @@ ghost use mathlib.Core.Path.{_≡_};
 ghost use Prim.Native.Nat.{ℕ, _+_};
 ghost use lib.ListN.{length, drop, getD};
 ghost use Rattle.text_field.specs.Number.{numberPlaced};
-ghost use Rattle.path_row.specs.Form.{mostSteps, numberUpTo, stepHere, stepsOf, stepsWidth, stepPlaced, headHere, rowHere, rowAnswer, stepsIn, noStep};
+ghost use Rattle.path_row.specs.Form.{mostSteps, numberUpTo, stepHere, stepsOf, stepsWidth, stepPlaced, headMeaning, headHere, rowMeaning, rowInLarge, stepsIn, noStep};
 
 // A step of a path: the label's letter, and the scope that it comes to.
 #[repr(C)]
@@ -48,7 +48,7 @@ fn number_up_to(s: &[u8], at: usize, most: u64) -> NumberRead
 
 // The mark and the start of a row, and the place of its first step.
 pub fn read_head(s: &[u8]) -> HeadRead
-    ensures { λ r. ⌜ r ≡ headHere (now (s .entry)) ⌝ }
+    ensures answer { λ r. ⌜ headMeaning r ≡ headHere (now (s .entry)) ⌝ }
 {
     let NumberRead::Number(mark, next) = number_up_to(s, 0, 65535) else {
         return HeadRead::NoHead;
@@ -108,7 +108,7 @@ pub fn walk(s: &[u8], at: usize) -> Walked
 
 // A path row in the large, or refusal 8.
 pub fn read_row(s: &[u8]) -> RowRead
-    ensures { λ r. ⌜ r ≡ rowAnswer (rowHere (now (s .entry))) ⌝ }
+    ensures answer { λ r. ⌜ rowMeaning r ≡ rowInLarge (now (s .entry)) ⌝ }
 {
     if 256 < s.len() {
         return RowRead::NoRow;
