@@ -131,13 +131,6 @@ fn end_at(cells: &[u64], s: &[u8], at: usize) -> End
     End::Label(label_number(cells, x))
 }
 
-// Where a's steps have ended, what the order says of the two ends decides, and not that a is the shorter.
-fn ended(said: bool) -> bool
-    ensures { λ r. ⌜ r ≡ said ⌝ }
-{
-    said
-}
-
 // Are the steps of a from place p on preferred to those of b from place q on?
 fn steps_preferred(cells: &[u64], a: &[u8], p: usize, b: &[u8], q: usize) -> bool
     ensures { λ r. ⌜ r ≡ stepsPreferred (now (cells .entry)) (stepsOf mostSteps (drop p (now (a .entry)))) (stepsOf mostSteps (drop q (now (b .entry)))) ⌝ }
@@ -151,7 +144,8 @@ fn steps_preferred(cells: &[u64], a: &[u8], p: usize, b: &[u8], q: usize) -> boo
             return true;
         }
         let StepRead::Taken(x, s, next_i) = next_step(a, i) else {
-            return ended(here);
+            // What the order says of the two ends decides, and not that a is the shorter.
+            return here;
         };
         let StepRead::Taken(y, t, next_j) = next_step(b, j) else {
             return false;
