@@ -25,7 +25,7 @@ gathered j k [] = []
 gathered j k (rows ∷ rest) = joinedIf (eqb k j) rows (gathered j (suc k) rest)
 
 -- the table's cells hold just these rows
-among-row : (j k : ℕ) (row more : List ℕ) → length row ≡ 5 → rowsAmong j (k ∷ (row ++ more)) ≡ keptIf (eqb k j) row (rowsAmong j more)
+pub among-row : (j k : ℕ) (row more : List ℕ) → length row ≡ 5 → rowsAmong j (k ∷ (row ++ more)) ≡ keptIf (eqb k j) row (rowsAmong j more)
 unfolding rowsAmong
 among-row j k [] more h = absurd (omega arith)
 among-row j k (a ∷ []) more h = absurd (omega arith)
