@@ -25,9 +25,9 @@ use Rattle.path_row.specs.declared.form.RowRead.the-variants.{Row, NoRow
 use Rattle.path_row.specs.declared.form.StepRead.{StepRead}
 use Rattle.path_row.specs.declared.form.StepRead.the-variants.{Taken, NoStep}
 use Rattle.path_row.specs.Form.{PathRow, mostSteps, mostBytes, stepHere, stepsOf, afterSteps, stepPlaced, Front, headMeaning, headHere, behindFront, firstStep, rowBy, rowHere, InLarge, inLarge, rowInLarge, rowMeaning, stepsAfter, stepsIn}
-use Rattle.graph_file.specs.Decode.{lettersOf}
+use Rattle.graph_file.specs.Decode.{lettersOf, WasRead}
 use Rattle.scope_graph.specs.Rows.{Rules}
-use Rattle.path_row.specs.Compare.{Comparison, whichOf, first, second, neither, labelNumber, hopOf, pathOf, rowBefore, comparison, WasRead, compareRows}
+use Rattle.path_row.specs.Compare.{Comparison, whichOf, first, second, neither, labelNumber, hopOf, pathOf, rowBefore, comparison, compareRows}
 use Rattle.path_row.specs.Scan.{scannedLetters, scannedOrder, scannedRules, stepsPreferred, stepsCompared, endHere}
 use Rattle.path_row.specs.Compare.{meaning as meaningOf}
 use Rattle.path_row.specs.declared.compare.Compared.{Compared}

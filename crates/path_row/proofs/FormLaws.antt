@@ -345,7 +345,7 @@ written-then-read r h =
     in let k = steps-back mostSteps (r .steps) (u .1) n
     in rw (le-ltb 256 (length (rowText r)) (row-short r h), b .head, b .rest, k .after, k .steps)
 
--- the same with the row in parts
+-- what is written from parts is read back as the row that they make
 pub parts-then-read : PartsThenRead
 unfolding rowWritten
 parts-then-read mark start count letters scopes text e =

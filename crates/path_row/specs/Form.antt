@@ -1,4 +1,5 @@
--- The form of a path row, read and written (document 01, "Paths", the row `mark path`). Assumes nothing: these are definitions.
+-- The form of a path row, read and written (document 01, "Paths", the row `mark path`). Assumes
+-- nothing: these are definitions.
 use Prim.Native.Nat.{ℕ, zero, suc, _+_}
 use mathlib.Core.List.{List, [], _∷_, _++_}
 use mathlib.Core.Bool.{Bool, true, false, not, _&&_}
@@ -72,7 +73,8 @@ unfoldable pub stepsWidth : ℕ → List ℕ → ℕ
 stepsWidth zero s = 0
 stepsWidth (suc n) s = elim (stepHere s) [ Taken x v width ↦ width + stepsWidth n (drop width s) | NoStep ↦ 0 ]
 
--- A row's front: its mark, a space and its start, and how many bytes these take, which is the place of the first step.
+-- A row's front: its mark, a space and its start, and how many bytes these take, which is the place
+-- of the first step.
 pub record Front : Type 0 where
   pub mark : ℕ
   pub start : ℕ
@@ -81,12 +83,14 @@ pub record Front : Type 0 where
 abbrev pub front : ℕ → ℕ → ℕ → Front
 front m v width = record { mark = m; start = v; width = width }
 
--- what the answer of the front's reader means (01, "Where each language form goes"): these values, or refusal 8
+-- what the answer of the front's reader means (01, "Where each language form goes"): these values,
+-- or refusal 8
 unfoldable pub headMeaning : HeadRead → Outcome Front
 headMeaning (Head m v width) = done (front m v width)
 headMeaning NoHead = refused 8
 
--- a row's front, by its mark, the bytes before its start, and what is read there; then by what is read as its mark
+-- a row's front, by its mark, the bytes before its start, and what is read there; then by what is
+-- read as its mark
 unfoldable pub startBy : ℕ → ℕ → NumberRead → Outcome Front
 startBy m before (Number v width) = done (front m v (before + width))
 startBy m before NoNumber = refused 8
@@ -115,7 +119,8 @@ rowBy h s =
     refuseIf (not (isEmpty (afterSteps mostSteps (drop (h .width) s)))) 8
     (done (record { mark = h .mark; start = h .start; steps = stepsOf mostSteps (drop (h .width) s) }))
 
--- A path row, or refusal 8 (01, "Who can cause a refusal"): too many bytes, no mark and start at its front, or something after its steps.
+-- A path row, or refusal 8 (01, "Who can cause a refusal"): too many bytes, no mark and start at
+-- its front, or something after its steps.
 unfoldable pub rowHere : List ℕ → Outcome PathRow
 rowHere s = refuseIf (ltb mostBytes (length s)) 8 (andThen (headHere s) (λ h. rowBy h s))
 
@@ -131,13 +136,14 @@ inLarge r = record { mark = r .mark; start = r .start; count = length (r .steps)
 unfoldable pub rowInLarge : List ℕ → Outcome InLarge
 rowInLarge s = andThen (rowHere s) (λ r. done (inLarge r))
 
--- what the answer of the row's reader means (01, "Where each language form goes"): these values, or refusal 8
+-- what the answer of the row's reader means (01, "Where each language form goes"): these values, or
+-- refusal 8
 unfoldable pub rowMeaning : RowRead → Outcome InLarge
 rowMeaning (Row mark start count) = done (record { mark = mark; start = start; count = count })
 rowMeaning NoRow = refused 8
 
--- The steps that stand behind a text's front, as far as they are of their form. Of a path row these are its steps, all of them; a text without a front
--- has none.
+-- The steps that stand behind a text's front, as far as they are of their form. Of a path row these
+-- are its steps, all of them; a text without a front has none.
 unfoldable pub stepsAfter : Outcome Front → List ℕ → List Step
 stepsAfter (done h) s = stepsOf mostSteps (drop (h .width) s)
 stepsAfter (refused n) s = []
@@ -163,7 +169,8 @@ stepsText (s ∷ ss) = s .label ∷ (numberText (s .scope) ++ stepsText ss)
 unfoldable pub rowText : PathRow → List ℕ
 rowText r = numberText (r .mark) ++ (32 ∷ (numberText (r .start) ++ stepsText (r .steps)))
 
--- a row from its parts: `count` steps, whose letters and scopes stand in two lists; past their ends stands 0
+-- a row from its parts: `count` steps, whose letters and scopes stand in two lists; past their ends
+-- stands 0
 unfoldable pub stepsMade : ℕ → List ℕ → List ℕ → List Step
 stepsMade zero letters scopes = []
 stepsMade (suc count) letters scopes = record { label = getD letters 0 0; scope = getD scopes 0 0 } ∷ stepsMade count (drop 1 letters) (drop 1 scopes)
@@ -180,7 +187,8 @@ areSteps (s ∷ ss) = isCapital (s .label) && (leb (s .scope) mostScope && areSt
 unfoldable pub isRow : PathRow → Bool
 isRow r = leb (r .mark) mostMark && (leb (r .start) mostScope && (leb (length (r .steps)) mostSteps && areSteps (r .steps)))
 
--- The text of a row that is made from its parts, or refusal 8 (01, "Who can cause a refusal"): parts that make no row of the form.
+-- The text of a row that is made from its parts, or refusal 8 (01, "Who can cause a refusal"):
+-- parts that make no row of the form.
 unfoldable pub rowWritten : ℕ → ℕ → ℕ → List ℕ → List ℕ → Outcome (List ℕ)
 rowWritten mark start count letters scopes =
     refuseIf (not (isRow (rowMade mark start count letters scopes))) 8 (done (rowText (rowMade mark start count letters scopes)))

@@ -1,5 +1,6 @@
--- What is proved of a row's first step, of labels' numbers, of comparing two rows and of a lent table (document 01, "Paths"). These are the statements; their proofs are in
--- proofs/Promises. Assumes nothing: these are definitions.
+-- What is proved of a row's first step, of labels' numbers, of comparing two rows and of a lent
+-- table (document 01, "Paths"). These are the statements; their proofs are in proofs/Promises.
+-- Assumes nothing: these are definitions.
 use Prim.Native.Nat.{ℕ, _+_, _≤_, _<_}
 use mathlib.Core.Path.{_≡_}
 use mathlib.Core.Bool.{false}
@@ -18,7 +19,8 @@ use Rattle.path_row.specs.Compare.{Comparison, first, second, neither, l
 use Rattle.path_row.specs.declared.form.Step.{Step}
 use Rattle.path_row.specs.Lent.{filled}
 
--- The place of the first step: behind the bytes of the mark, a space and the bytes of the start; at the end of a text that does not begin so.
+-- The place of the first step: behind the bytes of the mark, a space and the bytes of the start; at
+-- the end of a text that does not begin so.
 pub record FirstStepIs (s : List ℕ) : Type 0 where
   pub behind : (h : Front) → headHere s ≡ done h → firstStep s ≡ length (numberText (h .mark)) + 1 + length (numberText (h .start))
   pub at-end : headHere s ≡ refused 8 → firstStep s ≡ length s
@@ -43,18 +45,21 @@ pub record Numbers (cells : List ℕ) : Type 0 where
 abbrev pub LettersNumbered : Type 0
 LettersNumbered = (text cells : List ℕ) → readCells text ≡ done cells → Numbers cells
 
--- the answer says which row is more specific, as the rules have the term: each answer is given exactly where it holds
+-- the answer says which row is more specific, as the rules have the term: each answer is given
+-- exactly where it holds
 pub record SaysWhich (cells : List ℕ) (p q : PathRow) (answer : Outcome Comparison) : Type 0 where
   pub first-is : (answer ≡ done first) ↔ MoreSpecific (language (rulesOf cells)) (pathIn cells p) (pathIn cells q)
   pub second-is : (answer ≡ done second) ↔ MoreSpecific (language (rulesOf cells)) (pathIn cells q) (pathIn cells p)
   pub neither-is : (answer ≡ done neither)
       ↔ ((¬ MoreSpecific (language (rulesOf cells)) (pathIn cells p) (pathIn cells q)) × (¬ MoreSpecific (language (rulesOf cells)) (pathIn cells q) (pathIn cells p)))
 
--- for a text that is read, and two texts that are path rows whose steps fit into the records lent for them
+-- for a text that is read, and two texts that are path rows whose steps fit into the records lent
+-- for them
 abbrev pub CompareIs : Type 0
 CompareIs = (text cells a b : List ℕ) (roomA roomB : ℕ) (p q : PathRow) → readCells text ≡ done cells → rowHere a ≡ done p → rowHere b ≡ done q
     → length (p .steps) ≤ roomA → length (q .steps) ≤ roomB → SaysWhich cells p q (compareAnswer text a b roomA roomB)
 
--- n records filled, where there are as many steps and as many records: the first n steps, and the records behind them as they were
+-- n records filled, where there are as many steps and as many records: the first n steps, and the
+-- records behind them as they were
 abbrev pub FilledIs : Type 0
 FilledIs = (steps lent : List Step) (n : ℕ) → n ≤ length steps → n ≤ length lent → filled steps n lent ≡ take n steps ++ drop n lent
