@@ -29,9 +29,9 @@ ghost use Rattle.path_row.specs.Scan.{stepsPreferred, stepsCompared, end
 
 // A row of the graph table takes six cells: its section's number and five values.
 const ROW_CELLS: usize = 6;
-// The most rows of the first two sections, labels and order pairs: the code looks at no more.
+// A file has no more label rows: a look through the table goes past no more.
 const MOST_LABELS: usize = 8;
-
+// A file has no more order pairs, which stand behind the label rows.
 const MOST_PAIRS: usize = 36;
 
 // Which of two rows is more specific, or the refusal's number.
