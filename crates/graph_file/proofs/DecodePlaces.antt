@@ -15,7 +15,7 @@ use Rattle.graph_file.proofs.DecodeSections.{joinedIf, gathered, gather
 use Rattle.graph_file.proofs.DecodeTable.{rows-are, section-in, table-limit}
 
 -- six cells to a row
-cells-length : (k : ℕ) (st : Sofar) (rows : List Row) → AdmittedRows k st rows → length (cellsOf k rows) ≡ 6 * length rows
+pub cells-length : (k : ℕ) (st : Sofar) (rows : List Row) → AdmittedRows k st rows → length (cellsOf k rows) ≡ 6 * length rows
 unfolding cellsOf
 cells-length k st [] h = refl
 cells-length k st (row ∷ rows) h =

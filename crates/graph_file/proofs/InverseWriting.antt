@@ -23,6 +23,7 @@ use Rattle.graph_file.proofs.InverseField.{end-label}
 use Rattle.graph_file.proofs.InverseLine.{byte-found, line-again}
 use Rattle.graph_file.proofs.InverseNames.{names-again}
 use Rattle.graph_file.proofs.InverseSofar.{Sound, Admitted, line-width}
+use Rattle.graph_file.proofs.DecodeWay.{split-six}
 use Rattle.graph_file.proofs.InverseWays.{RowBack, Mirror}
 use lib.Seq.{sets}
 
@@ -96,23 +97,13 @@ pub record RowWritten (k : ℕ) (letters s : List ℕ) (p : Piece) : Type 0 wher
   pub proper : formed (sectionAt k .row) (rowOf s) ≡ true
   pub piece : p ≡ record { row = rowOf s; made = lineText letters (sectionAt k .row) (rowOf s); rest = drop 6 s }
 
-six : (k : ℕ) (s : List ℕ) → 6 ≤ length s → cellsFollow k s ≡ true → s ≡ (k ∷ rowOf s) ++ drop 6 s
-unfolding cellsFollow rowOf
-six k [] h e = absurd (omega arith)
-six k (x ∷ []) h e = absurd (omega arith)
-six k (x ∷ a ∷ []) h e = absurd (omega arith)
-six k (x ∷ a ∷ b ∷ []) h e = absurd (omega arith)
-six k (x ∷ a ∷ b ∷ c ∷ []) h e = absurd (omega arith)
-six k (x ∷ a ∷ b ∷ c ∷ d ∷ []) h e = absurd (omega arith)
-six k (x ∷ a ∷ b ∷ c ∷ d ∷ f ∷ s) h e = ap (λ (z : ℕ). z ∷ a ∷ b ∷ c ∷ d ∷ f ∷ s) (eqb-true x k e)
-
 pub row-written : (k : ℕ) (letters s : List ℕ) (p : Piece) → cellsFollow k s ≡ true → writeRow k letters s ≡ done p → RowWritten k letters s p
 unfolding writeRow
 row-written k letters s p h e =
     let made : Piece = record { row = rowOf s; made = lineText letters (sectionAt k .row) (rowOf s); rest = drop 6 s }
     in let a = passed (ltb (length s) 6) 2 (refuseIf (not (formed (sectionAt k .row) (rowOf s))) 2 (done made)) p e
     in let b = passed (not (formed (sectionAt k .row) (rowOf s))) 2 (done made) p (a .1)
-    in record { stands = six k s (ltb-false (length s) 6 (a .0)) h; proper = not-false (formed (sectionAt k .row) (rowOf s)) (b .0); piece = sym (done-same made p (b .1)) }
+    in record { stands = split-six k s h (ltb-false (length s) 6 (a .0)); proper = not-false (formed (sectionAt k .row) (rowOf s)) (b .0); piece = sym (done-same made p (b .1)) }
 
 pub rowOf-five : (s : List ℕ) → length (rowOf s) ≡ 5
 unfolding rowOf

@@ -22,9 +22,7 @@ use Rattle.graph_file.specs.Admission.{Row, Sofar, blank, rowOf, unless, inRang
 use Rattle.graph_file.specs.Line.{Reading, numberTaken, nameTaken, byteTaken, place, endTaken, readField, startsWith, readItem, placeOf, readItems, lineText, formed}
 use Rattle.graph_file.specs.Order.{orderFault}
 use Rattle.graph_file.specs.File.{Piece, Way, Stage, ifAdmitted, afterRow, oneRow, throughRows, afterNames, enough, throughSection, isEmpty, throughSections, ordered, atStart, whole, readNames, readRow, reading, readStage, madeOf, readCells, writeNames, writeRow, writing, hasForm, writeText, answer}
-use Rattle.path_row.specs.declared.form.HeadRead.{HeadRead}
-use Rattle.path_row.specs.declared.form.HeadRead.the-variants.{Head, NoHead}
-use Rattle.path_row.specs.Form.{PathRow, headHere, rowBy, rowHere}
+use Rattle.path_row.specs.Form.{PathRow, mostMark, mostScope, numberUpTo, Front, startBy, markBy, headHere, rowBy, rowHere}
 use Rattle.path_row.specs.Compare.{Comparison, compareRows, compareAnswer}
 use Rattle.resolution.specs.Listing.{listingOf, listingFor, summaryFor}
 use Rattle.judge.specs.Judge.{judgeOf, judgeAnswer}
@@ -196,14 +194,25 @@ unfolding summaryFor
 summary-listed text = then-listed (readCells text) _ (read-listed text) (λ cells. carried _)
 
 -- path rows
-by-head : (x : HeadRead) (s : List ℕ) → Listed (rowBy x s)
-unfolding rowBy
-by-head (Head m v width) s = if-listed _ 8 _ (omega arith) (omega arith) (carried _)
-by-head NoHead s = listed 8 (omega arith) (omega arith)
+start-listed : (m before : ℕ) (r : NumberRead) → Listed (startBy m before r)
+unfolding startBy
+start-listed m before (Number v width) = carried _
+start-listed m before NoNumber = listed 8 (omega arith) (omega arith)
+
+mark-listed : (r : NumberRead) (s : List ℕ) → Listed (markBy r s)
+unfolding markBy
+mark-listed NoNumber s = listed 8 (omega arith) (omega arith)
+mark-listed (Number m width) s = by-space (startsWith 32 (drop width s))
+  where
+    by-space : (t : Bool) → Listed {A = Front} (elim t as (λ _. Outcome Front) [ true ↦ startBy m (width + 1) (numberUpTo mostScope (drop (width + 1) s)) | false ↦ refused 8 ])
+    by-space true = start-listed m (width + 1) (numberUpTo mostScope (drop (width + 1) s))
+    by-space false = listed 8 (omega arith) (omega arith)
 
 here-listed : (s : List ℕ) → Listed (rowHere s)
-unfolding rowHere
-here-listed s = if-listed _ 8 _ (omega arith) (omega arith) (by-head (headHere s) s)
+unfolding rowHere rowBy headHere
+here-listed s =
+    if-listed _ 8 _ (omega arith) (omega arith)
+    (then-listed (headHere s) _ (mark-listed (numberUpTo mostMark s) s) (λ h. if-listed _ 8 _ (omega arith) (omega arith) (carried _)))
 
 compare-listed : (text a b : List ℕ) (n m : ℕ) → Listed (compareAnswer text a b n m)
 unfolding compareAnswer compareRows

@@ -1,4 +1,5 @@
--- A lent step table (document 01, "Paths") as the code fills it, record by record; what it is to hold is said by Compare's stepsLeft. Assumes nothing: these are definitions.
+-- A lent step table (document 01, "Paths") as the code fills it, record by record; what it is to
+-- hold is said by Compare's stepsLeft. Assumes nothing: these are definitions.
 use Prim.Native.Nat.{ℕ, zero, suc}
 use mathlib.Core.List.{List}
 use lib.ListN.{length, set, getD}

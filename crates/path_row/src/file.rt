@@ -6,9 +6,10 @@ use graph_file::read;
 ghost use mathlib.Core.Path.{_≡_};
 ghost use Rattle.path_row.specs.Compare.{meaning, compareAnswer};
 
-// Which row is more specific, where n records are lent for the steps of a and m for those of b. No file makes more than 12,271 cells.
+// Which row is more specific, where n records are lent for the steps of a and m for those of b. No
+// file makes more than 12,271 cells.
 pub fn decide<'s>(text: &'s [u8], a: &'s [u8], b: &'s [u8], n: usize, m: usize) -> Compared
-    ensures { λ r. ⌜ meaning r ≡ compareAnswer (now (text .entry)) (now (a .entry)) (now (b .entry)) n m ⌝ }
+    ensures answer { λ r. ⌜ meaning r ≡ compareAnswer (now (text .entry)) (now (a .entry)) (now (b .entry)) n m ⌝ }
 {
     let mut table = [0u64; 12271];
     let answer = read(text, &mut table);

@@ -32,7 +32,7 @@ use Rattle.graph_file.specs.declared.reader.Answer.the-variants.{Refused, Writt
 use Rattle.graph_file.specs.Reader.{answerOf}
 use Rattle.graph_file.proofs.DecodeWay.{done-is}
 use Rattle.graph_file.proofs.DecodeAccepted.{read-accepted}
-use Rattle.graph_file.specs.Decode.{rowsIn, rulesOf, scopesOf, graphOf, lettersOf, opensOf, nameAt, queryOf, queriesOf}
+use Rattle.graph_file.specs.Decode.{rowsIn, rulesOf, scopesOf, graphOf, lettersOf, opensOf, nameAt, queryOf, queriesOf, WasRead}
 use Rattle.prepared.specs.Sections.{partOf, rowsOf}
 use Rattle.follow.specs.Text.{headLine, rowsLine, foundText, letterOf, endText}
 use Rattle.follow.specs.declared.Budget.{Budget}
@@ -41,7 +41,7 @@ use Rattle.follow.specs.Pour.{spend}
 use Rattle.resolution.specs.declared.text.Awaits.{Awaits}
 use Rattle.resolution.specs.declared.text.Awaits.the-variants.{Settled, Pair}
 use Rattle.resolution.specs.Listing.{awaitsText, foundFor, entriesText, listingText, queryAt, listingOf, summaryOf, listingFor, summaryFor}
-use Rattle.resolution.specs.Asked.{WasRead, Asked, queryFrom, letterTable, foundNumber, foundFrom, isOver, awaitsMeaning, awaitsBytes, queryText, headText, queryHead}
+use Rattle.resolution.specs.Asked.{Asked, queryFrom, letterTable, foundNumber, foundFrom, isOver, awaitsMeaning, awaitsBytes, queryText, headText, queryHead}
 use Rattle.resolution.proofs.Demand.{getD-in}
 use Rattle.resolution.proofs.Given.{accepted, rows-are, letters-are}
 

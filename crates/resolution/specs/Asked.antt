@@ -13,9 +13,7 @@ use Rattle.text_field.specs.Number.{numberText}
 use Rattle.text_field.specs.Name.{nameText}
 use Rattle.graph_file.specs.Format.{labelSection, countSection, edgeSection, declarationSection}
 use Rattle.graph_file.specs.Admission.{Row, value, blank}
-use Rattle.graph_file.specs.Outcome.{done}
-use Rattle.graph_file.specs.File.{readCells}
-use Rattle.graph_file.specs.Decode.{rulesOf, scopesOf, graphOf, opensOf}
+use Rattle.graph_file.specs.Decode.{rulesOf, scopesOf, graphOf, opensOf, WasRead}
 use Rattle.prepared.specs.Sections.{partOf, rowsOf}
 use Rattle.search.specs.Live.{Closed, any-way}
 use Rattle.search.specs.Tables.{placeFlag, pairFlag, freeFlag, tableBoard}
@@ -31,10 +29,6 @@ use Rattle.resolution.specs.Listing.{awaitsText, foundFor}
 use Rattle.resolution.specs.declared.tables.Tables.{Tables}
 use Rattle.resolution.specs.declared.text.Awaits.{Awaits}
 use Rattle.resolution.specs.declared.text.Awaits.the-variants.{Settled, Pair}
-
--- some text is read as these cells
-abbrev pub WasRead : List ℕ → Type 0
-WasRead cells = (text : List ℕ) × (readCells text ≡ done cells)
 
 -- a query of such a table starts at a scope of it
 pub record Asked (cells : List ℕ) (start : ℕ) : Type 0 where

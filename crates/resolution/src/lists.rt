@@ -21,7 +21,8 @@ ghost use Rattle.graph_file.specs.Outcome.{done};
 ghost use Rattle.graph_file.specs.File.{answer, leaves};
 ghost use Rattle.graph_file.specs.Reader.{answerOf};
 ghost use Rattle.resolution.specs.Listing.{listingText, listingOf, listingFor};
-ghost use Rattle.resolution.specs.Asked.{WasRead, Asked, Prepared, queryFrom, queryHead};
+ghost use Rattle.graph_file.specs.Decode.{WasRead};
+ghost use Rattle.resolution.specs.Asked.{Asked, Prepared, queryFrom, queryHead};
 
 // The listing up to its rows.
 fn put_heading(

@@ -20,7 +20,7 @@ ghost use Rattle.graph_file.specs.File.{answer, leaves};
 ghost use Rattle.graph_file.specs.Reader.{answerOf};
 ghost use Rattle.graph_file.specs.Decode.{queriesOf};
 ghost use Rattle.resolution.specs.Listing.{summaryOf, summaryFor};
-ghost use Rattle.resolution.specs.Asked.{WasRead};
+ghost use Rattle.graph_file.specs.Decode.{WasRead};
 ghost use Rattle.resolution.specs.Figures.{figuresAfter, noFigures, figuresOver, fieldText, countsText};
 
 // How many queries were found so.

@@ -26,7 +26,7 @@ use Rattle.graph_file.proofs.DecodeWay.{done-is}
 use Rattle.graph_file.proofs.DecodeAccepted.{read-accepted}
 use Rattle.prepared.specs.Sections.{partOf}
 use Rattle.resolution.specs.Listing.{listingText, queryAt, listingOf, summaryOf}
-use Rattle.resolution.specs.Asked.{WasRead}
+use Rattle.graph_file.specs.Decode.{WasRead}
 use Rattle.resolution.specs.Figures.{noFigures, figuresOver}
 use Rattle.resolution.proofs.Heads.{head-fits, short-answer, short-leaves, whole-answer, whole-leaves, count-is, Made, made-read, own-within}
 use Rattle.resolution.proofs.Texts.{rows-count}

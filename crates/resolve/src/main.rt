@@ -14,7 +14,7 @@ ghost use Prim.Native.Nat.{_+_};
 ghost use mathlib.Core.Path.{_≡_};
 ghost use lib.ListN.{length};
 ghost use Rattle.text_field.specs.Buffer.{puts};
-ghost use Rattle.resolution.specs.Asked.{WasRead};
+ghost use Rattle.graph_file.specs.Decode.{WasRead};
 ghost use Rattle.resolve.specs.Printed.{refusedLine, lent, tableText, programText, Due};
 ghost use Rattle.resolve.specs.Parts.{partText};
 

@@ -12,7 +12,7 @@ ghost use Rattle.text_field.specs.Buffer.{Buf, puts};
 ghost use Rattle.graph_file.specs.Outcome.{done};
 ghost use Rattle.graph_file.specs.Decode.{queriesOf};
 ghost use Rattle.resolution.specs.Listing.{listingOf, summaryOf};
-ghost use Rattle.resolution.specs.Asked.{WasRead};
+ghost use Rattle.graph_file.specs.Decode.{WasRead};
 ghost use Rattle.resolve.specs.Printed.{refusedLine, inPlace};
 ghost use Rattle.resolve.specs.Parts.{answered, partText};
 
