@@ -4,8 +4,8 @@ ghost use mathlib.Core.Bool.{_&&_};
 ghost use Rattle.scope_graph.specs.Rows.{sameEnd};
 ghost use Rattle.scope_graph.specs.Order.{endOf, meaning, pairMeaning};
 
-// The form that document 01 binds for order pairs ("Where each language form goes"): a struct of two of these, and a preference test that matches on
-// both (`same_end`, `holds`).
+// The form that document 01 binds for order pairs ("Where each language form goes"): a struct of two of these, and a
+// preference test that matches on both (`same_end`, `holds`).
 pub enum End {
     Stop,
     Label(u64),
@@ -18,7 +18,7 @@ pub struct Pair {
 
 // An end from its cell: 0 is the end mark, n + 1 the label with number n.
 pub fn end_of(code: u64) -> End
-    ensures { λ r. ⌜ meaning r ≡ endOf code ⌝ }
+    ensures answer { λ r. ⌜ meaning r ≡ endOf code ⌝ }
 {
     if code == 0 {
         return End::Stop;
@@ -28,7 +28,7 @@ pub fn end_of(code: u64) -> End
 
 // Both are the end mark, or labels with the same number.
 fn same_end(a: End, b: End) -> bool
-    ensures { λ r. ⌜ r ≡ sameEnd (meaning a) (meaning b) ⌝ }
+    ensures answer { λ r. ⌜ r ≡ sameEnd (meaning a) (meaning b) ⌝ }
 {
     match a {
         End::Stop => match b {
@@ -44,7 +44,7 @@ fn same_end(a: End, b: End) -> bool
 
 // The row prefers the first end to the second: it has both, in this order.
 pub fn holds(p: Pair, less: End, more: End) -> bool
-    ensures { λ r. ⌜ r ≡ (sameEnd (pairMeaning p .less) (meaning less) && sameEnd (pairMeaning p .more) (meaning more)) ⌝ }
+    ensures answer { λ r. ⌜ r ≡ (sameEnd (pairMeaning p .less) (meaning less) && sameEnd (pairMeaning p .more) (meaning more)) ⌝ }
 {
     let first = p.less;
     let second = p.more;
