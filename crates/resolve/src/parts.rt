@@ -2,6 +2,7 @@
 use graph_file::Answer;
 use prepared::section;
 use resolution::listing_of;
+use resolution::row_count;
 use resolution::summary_of;
 use text_field::put_byte;
 use text_field::put_bytes;
@@ -21,8 +22,7 @@ pub fn query_count(table: &[u64]) -> usize
     requires { ⌜ WasRead (now table) ⌝ }
     ensures answer { λ r. ⌜ r ≡ length (queriesOf (now (table .entry))) ⌝ }
 {
-    let queries = section(table, 8);
-    queries.len() / 6
+    row_count(section(table, 8))
 }
 
 // The line `refused N`.
