@@ -37,7 +37,7 @@ fn put_heading(
     low: u64,
     out: &mut [u8],
 ) -> usize
-    requires { ⌜ Prepared (now table) start high low t ⌝ }
+    requires prepared { ⌜ Prepared (now table) start high low t ⌝ }
     ensures written { λ r. ⌜ _≡_ {A = Buf} (now (out .exit), r) (puts (now (out .entry), 0) (queryHead (now (table .entry)) (queryFrom (now (table .entry)) start high low))) ⌝ }
 {
     let f = found_of(table, t, hint, start, high, low);
@@ -49,7 +49,7 @@ fn put_heading(
 // The listing of a query of the table by its start and name. Its rows are measured first: where they alone do not fit,
 // `found` and `awaits`, which can take long, are not needed.
 fn list(table: &[u64], start: u64, high: u64, low: u64, out: &mut [u8]) -> Answer
-    requires { ⌜ Asked (now table) start ⌝ }
+    requires asked { ⌜ Asked (now table) start ⌝ }
     ensures answer { λ r. ⌜ answerOf r ≡ answer (done (listingText (now (table .entry)) (queryFrom (now (table .entry)) start high low))) (length (now (out .entry))) ⌝ }
     ensures memory { λ r. ⌜ now (out .exit) ≡ leaves (done (listingText (now (table .entry)) (queryFrom (now (table .entry)) start high low))) (now (out .entry)) ⌝ }
 {
@@ -71,7 +71,7 @@ fn list(table: &[u64], start: u64, high: u64, low: u64, out: &mut [u8]) -> Answe
 
 // The listing of a query of a table that was read.
 pub fn listing_of(table: &[u64], query: usize, out: &mut [u8]) -> Answer
-    requires { ⌜ WasRead (now table) ⌝ }
+    requires accepted { ⌜ WasRead (now table) ⌝ }
     ensures answer { λ r. ⌜ answerOf r ≡ answer (listingOf (now (table .entry)) query) (length (now (out .entry))) ⌝ }
     ensures memory { λ r. ⌜ now (out .exit) ≡ leaves (listingOf (now (table .entry)) query) (now (out .entry)) ⌝ }
 {

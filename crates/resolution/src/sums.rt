@@ -32,7 +32,7 @@ pub struct Figures {
 
 // One query more, by its `found`.
 fn counted(c: Figures, f: u64) -> Figures
-    requires { ⌜ c .one + c .several + c .none < 9223372036854775808 ⌝ }
+    requires counted { ⌜ c .one + c .several + c .none < 9223372036854775808 ⌝ }
     ensures answer { λ r. ⌜ r ≡ figuresAfter c f ⌝ }
 {
     let one = c.one;
@@ -61,7 +61,7 @@ fn counted(c: Figures, f: u64) -> Figures
 
 // All queries of a table that was read, by their entries.
 fn figures_of(table: &[u64]) -> Figures
-    requires { ⌜ WasRead (now table) ⌝ }
+    requires accepted { ⌜ WasRead (now table) ⌝ }
     ensures answer { λ r. ⌜ r ≡ figuresOver (now (table .entry)) noFigures (queriesOf (now (table .entry))) ⌝ }
 {
     let queries = section(table, 8);
@@ -106,7 +106,7 @@ fn put_counts(out: &mut [u8], n: u64, one: u64, several: u64, none: u64) -> usiz
 
 // The summary's last field (01, "The listing").
 fn put_share(out: &mut [u8], k: usize, n: u64, one: u64) -> usize
-    requires { ⌜ one < 1000 ⌝ }
+    requires few { ⌜ one < 1000 ⌝ }
     ensures written { λ r. ⌜ _≡_ {A = Buf} (now (out .exit), r) (puts (now (out .entry), k) (shareText n one)) ⌝ }
 {
     if n == 0 {
@@ -117,7 +117,7 @@ fn put_share(out: &mut [u8], k: usize, n: u64, one: u64) -> usize
 
 // The summary's text.
 fn put_summary(out: &mut [u8], n: u64, one: u64, several: u64, none: u64) -> usize
-    requires { ⌜ one < 1000 ⌝ }
+    requires few { ⌜ one < 1000 ⌝ }
     ensures written { λ r. ⌜ _≡_ {A = Buf} (now (out .exit), r) (puts (now (out .entry), 0) (summaryText n one several none)) ⌝ }
 {
     let b = put_counts(out, n, one, several, none);
@@ -127,7 +127,7 @@ fn put_summary(out: &mut [u8], n: u64, one: u64, several: u64, none: u64) -> usi
 
 // The summary of a table that was read. It is at most 64 bytes long.
 pub fn summary_of(table: &[u64], out: &mut [u8]) -> Answer
-    requires { ⌜ WasRead (now table) ⌝ }
+    requires accepted { ⌜ WasRead (now table) ⌝ }
     ensures answer { λ r. ⌜ answerOf r ≡ answer (done (summaryOf (now (table .entry)))) (length (now (out .entry))) ⌝ }
     ensures memory { λ r. ⌜ now (out .exit) ≡ leaves (done (summaryOf (now (table .entry)))) (now (out .entry)) ⌝ }
 {

@@ -31,7 +31,7 @@ const INPUT: usize = 32769;
 // The one function that writes. What a call of C's writes cannot be promised, so what it is handed is asked: the
 // piece due at place `sent` of the text's output. The place behind it.
 fn emit(text: &[u8], sent: usize, piece: &[u8]) -> usize
-    requires { ⌜ Due (now text) sent (now piece) ⌝ }
+    requires due { ⌜ Due (now text) sent (now piece) ⌝ }
     ensures answer { λ r. ⌜ r ≡ sent + length (now (piece .entry)) ⌝ }
 {
     io::write_all(1, piece);
@@ -40,7 +40,7 @@ fn emit(text: &[u8], sent: usize, piece: &[u8]) -> usize
 
 // The line of a refused file; the place behind it.
 fn print_refused(text: &[u8], sent: usize, n: u64) -> usize
-    requires { ⌜ Due (now text) sent (refusedLine n) ⌝ }
+    requires due { ⌜ Due (now text) sent (refusedLine n) ⌝ }
     ensures answer { λ r. ⌜ r ≡ sent + length (refusedLine n) ⌝ }
 {
     let mut out = [0u8; LINE];
@@ -51,9 +51,9 @@ fn print_refused(text: &[u8], sent: usize, n: u64) -> usize
 // Part i of the output, in one piece; the place behind it. It is made at the front of the bytes lent, whatever stood
 // there; those behind it stay.
 fn print_part(text: &[u8], sent: usize, table: &[u64], i: usize, out: &mut [u8]) -> usize
-    requires { ⌜ WasRead (now table) ⌝ }
-    requires { ⌜ length (now out) ≡ lent ⌝ }
-    requires { ⌜ Due (now text) sent (partText lent (now table) i) ⌝ }
+    requires accepted { ⌜ WasRead (now table) ⌝ }
+    requires room { ⌜ length (now out) ≡ lent ⌝ }
+    requires due { ⌜ Due (now text) sent (partText lent (now table) i) ⌝ }
     ensures answer { λ r. ⌜ r ≡ sent + length (partText lent (now (table .entry)) i) ⌝ }
     ensures memory { λ r. ⌜ now (out .exit) ≡ puts (now (out .entry), 0) (partText lent (now (table .entry)) i) .0 ⌝ }
 {
@@ -63,8 +63,8 @@ fn print_part(text: &[u8], sent: usize, table: &[u64], i: usize, out: &mut [u8])
 
 // All parts in turn; the place behind them. One buffer is lent to all of them, so that it is cleared once.
 fn print_parts(text: &[u8], sent: usize, table: &[u64]) -> usize
-    requires { ⌜ WasRead (now table) ⌝ }
-    requires { ⌜ Due (now text) sent (tableText (now table)) ⌝ }
+    requires accepted { ⌜ WasRead (now table) ⌝ }
+    requires due { ⌜ Due (now text) sent (tableText (now table)) ⌝ }
     ensures answer { λ r. ⌜ r ≡ sent + length (tableText (now (table .entry))) ⌝ }
 {
     let n = query_count(table);

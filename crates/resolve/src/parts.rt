@@ -19,7 +19,7 @@ ghost use Rattle.resolve.specs.Parts.{answered, partText};
 
 // How many queries a table that was read has.
 pub fn query_count(table: &[u64]) -> usize
-    requires { ⌜ WasRead (now table) ⌝ }
+    requires accepted { ⌜ WasRead (now table) ⌝ }
     ensures answer { λ r. ⌜ r ≡ length (queriesOf (now (table .entry))) ⌝ }
 {
     row_count(section(table, 8))
@@ -46,7 +46,7 @@ fn put_answer(out: &mut [u8], a: Answer) -> usize
 
 // The listing of query i.
 fn put_listing(table: &[u64], i: usize, out: &mut [u8]) -> usize
-    requires { ⌜ WasRead (now table) ⌝ }
+    requires accepted { ⌜ WasRead (now table) ⌝ }
     ensures written { λ r. ⌜ _≡_ {A = Buf} (now (out .exit), r) (puts (now (out .entry), 0) (inPlace (length (now (out .entry))) (listingOf (now (table .entry)) i))) ⌝ }
 {
     let a = listing_of(table, i, out);
@@ -55,7 +55,7 @@ fn put_listing(table: &[u64], i: usize, out: &mut [u8]) -> usize
 
 // The summary.
 fn put_summary(table: &[u64], out: &mut [u8]) -> usize
-    requires { ⌜ WasRead (now table) ⌝ }
+    requires accepted { ⌜ WasRead (now table) ⌝ }
     ensures written { λ r. ⌜ _≡_ {A = Buf} (now (out .exit), r) (puts (now (out .entry), 0) (inPlace (length (now (out .entry))) (done (summaryOf (now (table .entry)))))) ⌝ }
 {
     let a = summary_of(table, out);
@@ -64,7 +64,7 @@ fn put_summary(table: &[u64], out: &mut [u8]) -> usize
 
 // Part i: the listing of query i, and after the last query the summary.
 pub fn put_part(table: &[u64], i: usize, out: &mut [u8]) -> usize
-    requires { ⌜ WasRead (now table) ⌝ }
+    requires accepted { ⌜ WasRead (now table) ⌝ }
     ensures written { λ r. ⌜ _≡_ {A = Buf} (now (out .exit), r) (puts (now (out .entry), 0) (partText (length (now (out .entry))) (now (table .entry)) i)) ⌝ }
 {
     if i < query_count(table) {
