@@ -62,7 +62,8 @@ abbrev pub WorthAt : (cells delta goal order seek : List ℕ) → ℕ → List �
 WorthAt cells delta goal order seek start worth =
     Closed (tableBoard (partOf edgeSection cells) delta goal) (placeFlag seek) (wayOf goal order true) (freeAt start) (placeFlag worth)
 
--- the same of the table of places that are away from the start, made with all scopes free: the start's own place is asked about too
+-- the table of places that are away from the start is closed too, for steps that are not cut and with nothing asked for; it is made with all scopes free, since
+-- the start's own place is asked about as well
 abbrev pub AwayAt : (cells delta goal order away : List ℕ) → Type 0
 AwayAt cells delta goal order away =
     Closed (tableBoard (partOf edgeSection cells) delta goal) (placeFlag []) (wayOf goal order true) (freeFlag (replicate 64 1)) (placeFlag away)
@@ -137,7 +138,7 @@ unfoldable pub headText : List ℕ → ℕ → ℕ → ℕ → ℕ → Awaits �
 headText letters start high low f a =
     queryText start high low ++ (foundText (foundFrom f) ++ (32 ∷ (awaitsBytes letters a ++ (10 ∷ rowsLine))))
 
--- the same of a query of a table, as the rules have it
+-- a listing up to its rows, of a query of a table, with `found` and `awaits` as the rules have them
 unfoldable pub queryHead : (cells : List ℕ) → Query (language (rulesOf cells)) → List ℕ
 queryHead cells q =
     queryText (q .start) (q .name .high) (q .name .low)
