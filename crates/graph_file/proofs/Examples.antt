@@ -6,11 +6,12 @@ use Rattle.text_field.specs.Bytes.{within, isDigit, isCapital, isLower, isNameB
 use Rattle.text_field.specs.Number.{digitsOf, numberText, growing, digitsFrom, numberHere}
 use Rattle.text_field.specs.Name.{allNameBytes, isName, packed, packHigh, packLow, bytesOf, beforeZero, nameText, isNameCells, nameRun, nameOf, nameHere}
 use Rattle.graph_file.specs.Format.{labels, pairs, transitions, accepts, scopeCount, edges, declarations, openPairs, queries, sections, sectionAt, valuesOf, everyItem}
-use Rattle.graph_file.specs.Outcome.{Outcome, refused, done, andThen, refuseIf}
+use Rattle.text_field.specs.Outcome.{Outcome, refused, done, andThen, refuseIf}
 use Rattle.graph_file.specs.Admission.{nothing, begun, joined, counted, taken, kindInRange, itemInRange, inRange, rowOf, keyLess, listed, follows, unless, admission}
 use Rattle.graph_file.specs.Line.{numberTaken, nameTaken, byteTaken, place, endTaken, readField, startsWith, readItem, placeOf, readItems, endByte, fieldText, itemText, lineText, fieldFormed, itemFormed, sparesPlace, idleZero, idleZeros, formed}
 use Rattle.graph_file.specs.Order.{someRow, sameEnds, gap, pairFault, orderFault}
-use Rattle.graph_file.specs.File.{ifAdmitted, afterRow, oneRow, throughRows, afterNames, enough, throughSection, isEmpty, throughSections, ordered, atStart, whole, readNames, rowFollows, readRow, reading, readStage, madeOf, readCells, writeNames, cellsFollow, writeRow, writing, hasForm, writeText, answer, written, leaves}
+use Rattle.graph_file.specs.File.{ifAdmitted, afterRow, oneRow, throughRows, afterNames, enough, throughSection, isEmpty, throughSections, ordered, atStart, whole, readNames, rowFollows, readRow, reading, readStage, madeOf, readCells, writeNames, cellsFollow, writeRow, writing, hasForm, writeText}
+use Rattle.text_field.specs.Answer.{answer, written, leaves}
 use Rattle.graph_file.specs.NameSought.{afterLines, lineCount, namePart, restOf, isNameField, fromName, queryFrom, fromWithin, fromSought, nameFront, nameSought}
 
 abbrev pub exampleText : List ℕ

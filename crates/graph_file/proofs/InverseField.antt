@@ -20,10 +20,10 @@ use Rattle.text_field.proofs.ByteLaws.{clash, within-bounds}
 use Rattle.text_field.proofs.NumberLaws.{number-back, number-found}
 use Rattle.text_field.proofs.NameLaws.{name-back, name-found}
 use Rattle.graph_file.specs.Format.{Kind, state, scope, mark, count, letter, label, end, name, valuesOf}
-use Rattle.graph_file.specs.Outcome.{done}
+use Rattle.text_field.specs.Outcome.{done}
 use Rattle.graph_file.specs.Admission.{kindInRange}
 use Rattle.graph_file.specs.Line.{Reading, numberTaken, nameTaken, byteTaken, place, endTaken, first, readField, asByte, endByte, fieldText, fieldFormed}
-use Rattle.graph_file.proofs.InverseOutcome.{done-same, not-done}
+use Rattle.text_field.proofs.OutcomeLaws.{done-same, not-done}
 use Rattle.graph_file.proofs.InverseLetters.{Letters, letter-there}
 use Rattle.graph_file.proofs.InverseTable.{closes}
 

@@ -17,7 +17,7 @@ use Rattle.graph_file.specs.declared.line.Took.{Took}
 use Rattle.graph_file.specs.declared.line.Took.the-variants.{Nothing, Bare, One, Two}
 use Rattle.graph_file.specs.declared.line.Line.{Line}
 use Rattle.graph_file.specs.Format.{Kind, Item, byte, field}
-use Rattle.graph_file.specs.Outcome.{Outcome, refused, done, andThen}
+use Rattle.text_field.specs.Outcome.{Outcome, refused, done, andThen}
 use native.Mathlib.Nat.{add-zero}
 use native.Mathlib.Numerals.{add-one}
 use lib.Seq.{getD-drop, drop-cons}

@@ -21,7 +21,7 @@ use Rattle.text_field.specs.Bytes.{isCapital}
 use Rattle.graph_file.specs.declared.reader.Part.{Part}
 use Rattle.graph_file.specs.declared.sought.NamePlace.{NamePlace}
 use Rattle.graph_file.specs.Format.{Item, byte, field, state, scope, mark, count, letter, label, end, name, valuesOf, sections, sectionAt, queries, querySection}
-use Rattle.graph_file.specs.Outcome.{Outcome, refused, done, andThen}
+use Rattle.text_field.specs.Outcome.{Outcome, refused, done, andThen}
 use Rattle.graph_file.specs.Line.{Reading, numberTaken, nameTaken, byteTaken, place, endTaken, readField, startsWith, readItem}
 use Rattle.graph_file.specs.File.{Stage, readStage}
 use Rattle.graph_file.specs.Table.{sofarAt}

@@ -14,7 +14,7 @@ use Rattle.text_field.specs.Bytes.{isCapital}
 use Rattle.text_field.specs.Number.{numberText, numberHere}
 use Rattle.text_field.specs.Name.{nameText, nameHere, isNameCells}
 use Rattle.graph_file.specs.Format.{Kind, state, scope, mark, count, letter, label, end, name, Item, byte, field, valuesOf, everyItem}
-use Rattle.graph_file.specs.Outcome.{Outcome, refused, done, andThen}
+use Rattle.text_field.specs.Outcome.{Outcome, refused, done, andThen}
 use Rattle.graph_file.specs.Admission.{Row, value}
 
 -- What reading takes from the front of the text: values, and the text after it.

@@ -7,6 +7,7 @@ use crate::line::read_line;
 use crate::order::order_fault;
 use crate::rows::Counts;
 use crate::rows::value;
+use text_field::Answer;
 use text_field::byte_at;
 use text_field::cell;
 use text_field::is_lower;
@@ -16,8 +17,9 @@ ghost use Prim.Native.Nat.{ℕ, suc, _+_, _*_, _<_, _≤_};
 ghost use lib.ListN.{length, take, drop};
 ghost use Rattle.text_field.specs.Buffer.{Buf, put, puts};
 ghost use Rattle.graph_file.specs.Format.{sectionAt, form};
-ghost use Rattle.graph_file.specs.File.{oneRow, throughRows, throughSection, throughSections, atStart, rowFollows, reading, readStage, readCells, answer, leaves};
-ghost use Rattle.graph_file.specs.Reader.{stageAt, partOutcome, Placed, RowTaken, RowsTaken, SectionTaken, countsAfter, answerOf};
+ghost use Rattle.graph_file.specs.File.{oneRow, throughRows, throughSection, throughSections, atStart, rowFollows, reading, readStage, readCells};
+ghost use Rattle.text_field.specs.Answer.{answer, leaves, answerOf};
+ghost use Rattle.graph_file.specs.Reader.{stageAt, partOutcome, Placed, RowTaken, RowsTaken, SectionTaken, countsAfter};
 
 // What a part of the way answers: a refusal or 0, the place after it in the text (read, or written), the place after it in the table, and what the rows count.
 pub struct Part {
@@ -289,12 +291,6 @@ pub fn read_whole(text: &[u8], table: &mut [u64]) -> Part
         };
     }
     r
-}
-
-// What the host is told: a refusal, or how many cells or bytes were written.
-pub enum Answer {
-    Refused(u64),
-    Written(usize),
 }
 
 // The first n cells copied to the front of the lent table, as far as there is room.

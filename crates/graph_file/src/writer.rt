@@ -5,12 +5,12 @@ use crate::format::least;
 use crate::format::names_place;
 use crate::format::row_place;
 use crate::order::order_fault;
-use crate::reader::Answer;
 use crate::reader::Part;
 use crate::reader::counts_after;
 use crate::rows::Counts;
 use crate::rows::row_at;
 use crate::rows::value;
+use text_field::Answer;
 use text_field::cell;
 use text_field::is_name;
 use text_field::put_byte;
@@ -26,8 +26,9 @@ ghost use Rattle.graph_file.specs.Format.{valuesOf, everyItem, sectionAt
 ghost use Rattle.graph_file.specs.Admission.{nothing};
 ghost use Rattle.graph_file.specs.Line.{endByte, fieldText, itemText, lineText, fieldFormed, itemFormed, sparesPlace, idleZero, idleZeros, formed};
 ghost use Rattle.graph_file.specs.Table.{kindOf, itemOf, itemsAt, lettersAt, sofarAt};
-ghost use Rattle.graph_file.specs.File.{oneRow, throughRows, throughSection, throughSections, whole, cellsFollow, hasForm, writing, writeText, answer, leaves};
-ghost use Rattle.graph_file.specs.Reader.{Placed, RowTaken, RowsTaken, answerOf};
+ghost use Rattle.graph_file.specs.File.{oneRow, throughRows, throughSection, throughSections, whole, cellsFollow, hasForm, writing, writeText};
+ghost use Rattle.text_field.specs.Answer.{answer, leaves, answerOf};
+ghost use Rattle.graph_file.specs.Reader.{Placed, RowTaken, RowsTaken};
 ghost use Rattle.graph_file.specs.Writer.{rowFormed, stageFrom, pour, partWritten, countsBegun};
 
 // Has the value of a field of this kind a text of its form?

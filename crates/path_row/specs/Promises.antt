@@ -6,7 +6,7 @@ use mathlib.Core.Bool.{false}
 use mathlib.Core.Logic.{_↔_}
 use mathlib.Core.List.{List, _++_}
 use lib.ListN.{length, getD, take, drop}
-use Rattle.graph_file.specs.Outcome.{Outcome, done, andThen}
+use Rattle.text_field.specs.Outcome.{Outcome, done, andThen}
 use Rattle.graph_file.specs.File.{readCells}
 use Rattle.graph_file.specs.Decode.{lettersOf, rulesOf}
 use Rattle.scope_graph.specs.Language.{_∈_, End, by}

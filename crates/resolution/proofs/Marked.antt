@@ -20,7 +20,7 @@ use Rattle.text_field.specs.Bytes.{within, isDigit, isCapital, isLower, isNameB
 use Rattle.text_field.specs.Number.{digitsOf, numberText, growing, digitsFrom, numberHere}
 use Rattle.text_field.specs.Name.{packed, packHigh, packLow, bytesOf, beforeZero, nameText, nameRun, nameOf, nameHere}
 use Rattle.graph_file.specs.Format.{labels, pairs, transitions, accepts, scopeCount, edges, declarations, openPairs, queries, sections, sectionAt, everyItem}
-use Rattle.graph_file.specs.Outcome.{Outcome, refused, done, andThen, refuseIf}
+use Rattle.text_field.specs.Outcome.{Outcome, refused, done, andThen, refuseIf}
 use Rattle.graph_file.specs.Admission.{nothing, begun, joined, counted, taken, kindInRange, itemInRange, inRange, keyLess, listed, follows, unless, admission}
 use Rattle.graph_file.specs.Line.{numberTaken, nameTaken, byteTaken, place, endTaken, readField, startsWith, readItem, placeOf, readItems}
 use Rattle.graph_file.specs.Order.{someRow, sameEnds, gap, pairFault, orderFault}

@@ -13,7 +13,7 @@ use Rattle.text_field.specs.Number.{numberText}
 use Rattle.text_field.specs.Name.{nameText}
 use Rattle.graph_file.specs.Format.{labelSection, countSection, edgeSection, declarationSection}
 use Rattle.graph_file.specs.Admission.{Row, value, blank}
-use Rattle.graph_file.specs.Outcome.{done}
+use Rattle.text_field.specs.Outcome.{done}
 use Rattle.graph_file.specs.File.{readCells}
 use Rattle.graph_file.specs.Decode.{rulesOf, scopesOf, graphOf, opensOf}
 use Rattle.prepared.specs.Sections.{partOf, rowsOf}

@@ -2,6 +2,8 @@
 pub mod Examples
 pub mod ByteLaws
 pub mod BufferLaws
+pub mod OutcomeLaws
+pub mod AnswerLaws
 pub mod NumberLaws
 pub mod NameLaws
 pub mod OrderLaws

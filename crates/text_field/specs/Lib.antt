@@ -2,3 +2,5 @@ pub mod Bytes
 pub mod Number
 pub mod Name
 pub mod Buffer
+pub mod Outcome
+pub mod Answer
