@@ -9,7 +9,7 @@ use lib.Dec.{eqb, ltb}
 use lib.ListN.{length, drop, length-append}
 use borrow.Author.Tests.{eqb-true, ltb-false, not-false}
 use Rattle.text_field.specs.Bytes.{within, isDigit, isCapital, isLower}
-use Rattle.text_field.specs.Number.{numberHere}
+use Rattle.text_field.specs.Number.{numberHere, numberMeaning}
 use Rattle.text_field.proofs.ByteLaws.{clash, within-bounds, within-below, digit-bounds}
 use Rattle.text_field.proofs.NumberLaws.{first-off}
 use Rattle.graph_file.specs.Format.{Kind, state, scope, mark, count, letter, label, end, name, Item, byte, field, valuesOf, sectionAt}
@@ -32,7 +32,7 @@ unfolding isLower
 not-lower x h = rw (within-below 97 122 x h)
 
 number-starts : (text : List ℕ) (r : Reading) → numberTaken (numberHere text) text ≡ done r → rowFollows text ≡ true
-unfolding numberTaken numberHere rowFollows
+unfolding numberTaken numberMeaning numberHere rowFollows andThen
 number-starts [] r e = absurd (not-done 2 r e)
 number-starts (x ∷ text) r e = by (isDigit x) refl
   where

@@ -13,8 +13,8 @@ use Rattle.text_field.specs.declared.NumberRead.the-variants.{Number, NoNumber}
 use Rattle.text_field.specs.declared.NameRead.{NameRead}
 use Rattle.text_field.specs.declared.NameRead.the-variants.{Name, NoName}
 use Rattle.text_field.specs.Bytes.{isCapital}
-use Rattle.text_field.specs.Number.{numberHere}
-use Rattle.text_field.specs.Name.{nameHere}
+use Rattle.text_field.specs.Number.{numberHere, numberMeaning}
+use Rattle.text_field.specs.Name.{nameHere, nameMeaning}
 use Rattle.graph_file.specs.Format.{Item, byte, field, state, scope, mark, count, letter, label, end, name, Section, sectionAt, form}
 use Rattle.text_field.specs.Outcome.{Outcome, refused, done, andThen, refuseIf}
 use Rattle.graph_file.specs.Admission.{Row, Sofar, blank, rowOf, unless, inRange, follows, admission}
@@ -47,12 +47,12 @@ two = listed 2 (omega arith) (omega arith)
 
 -- a line
 number-listed : (x : NumberRead) (t : List ℕ) → Listed (numberTaken x t)
-unfolding numberTaken
+unfolding numberTaken numberMeaning andThen
 number-listed (Number v w) t = carried _
 number-listed NoNumber t = two
 
 name-listed : (x : NameRead) (t : List ℕ) → Listed (nameTaken x t)
-unfolding nameTaken
+unfolding nameTaken nameMeaning andThen
 name-listed (Name h l w) t = carried _
 name-listed NoName t = two
 

@@ -4,6 +4,7 @@ pub mod ByteLaws
 pub mod BufferLaws
 pub mod OutcomeLaws
 pub mod AnswerLaws
+pub mod MeaningLaws
 pub mod NumberLaws
 pub mod NameLaws
 pub mod OrderLaws

@@ -1,6 +1,6 @@
+pub mod Outcome
+pub mod Answer
 pub mod Bytes
 pub mod Number
 pub mod Name
 pub mod Buffer
-pub mod Outcome
-pub mod Answer
