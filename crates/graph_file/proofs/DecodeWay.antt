@@ -11,7 +11,7 @@ use lib.ListN.{length, drop}
 use lib.Seq.{sets, length-sets}
 use borrow.Author.Tests.{ltb-false, eqb-true}
 use Rattle.graph_file.specs.Format.{Item, sectionAt, form}
-use Rattle.graph_file.specs.Outcome.{Outcome, refused, done, andThen, refuseIf}
+use Rattle.text_field.specs.Outcome.{Outcome, refused, done, andThen, refuseIf}
 use Rattle.graph_file.specs.Admission.{Row, rowOf, blank, Sofar, nothing, begun, taken, admission}
 use Rattle.graph_file.specs.Line.{Reading, readItem, placeOf, readItems}
 use Rattle.graph_file.specs.Order.{orderFault}

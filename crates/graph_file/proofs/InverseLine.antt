@@ -10,10 +10,10 @@ use lib.Seq.{sets, length-sets}
 use borrow.Author.Tests.{eqb-true, eq-eqb}
 use Rattle.text_field.proofs.ByteLaws.{both, clash}
 use Rattle.graph_file.specs.Format.{Kind, Item, byte, field, valuesOf, everyItem}
-use Rattle.graph_file.specs.Outcome.{done, andThen}
+use Rattle.text_field.specs.Outcome.{done, andThen}
 use Rattle.graph_file.specs.Admission.{Row, value, blank, kindInRange, itemInRange, inRange}
 use Rattle.graph_file.specs.Line.{Reading, first, readField, startsWith, readItem, placeOf, readItems, fieldText, itemText, lineText, itemFormed, sparesPlace, idleZeros, formed}
-use Rattle.graph_file.proofs.InverseOutcome.{done-same, not-done, went}
+use Rattle.text_field.proofs.OutcomeLaws.{done-same, not-done, went}
 use Rattle.graph_file.proofs.InverseLetters.{Letters}
 use Rattle.graph_file.proofs.InverseTable.{closes, bounded, lastPlace, clear, orderly, Clear, field-clear}
 use Rattle.graph_file.proofs.InverseField.{field-count, field-found, field-again}

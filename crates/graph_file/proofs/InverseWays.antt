@@ -8,12 +8,13 @@ use native.Mathlib.Omega.{arith}
 use lib.Dec.{ltb}
 use Rattle.text_field.proofs.ByteLaws.{clash}
 use Rattle.graph_file.specs.Format.{sectionAt}
-use Rattle.graph_file.specs.Outcome.{done, andThen, refuseIf}
+use Rattle.text_field.specs.Outcome.{done, andThen, refuseIf}
 use Rattle.graph_file.specs.Admission.{blank, Sofar, nothing, taken, admission}
 use Rattle.graph_file.specs.Line.{formed}
 use Rattle.graph_file.specs.Order.{orderFault}
 use Rattle.graph_file.specs.File.{Piece, Way, Stage, ifAdmitted, afterRow, oneRow, throughRows, afterNames, enough, throughSection, isEmpty, throughSections, ordered, atStart, whole}
-use Rattle.graph_file.proofs.InverseOutcome.{done-same, not-done, went, passed, admitted}
+use Rattle.graph_file.proofs.InverseOutcome.{admitted}
+use Rattle.text_field.proofs.OutcomeLaws.{done-same, not-done, went, passed}
 use Rattle.graph_file.proofs.InverseSofar.{Sound, sound-nothing, sound-begun, Admitted, row-admitted, sound-taken}
 
 -- A row gone through one way: what it used up, that it can be written, and that the other way goes from what it made to what it used up.

@@ -9,15 +9,15 @@ use lib.Dec.{eqb, ltb}
 use lib.ListN.{length, drop, length-append}
 use borrow.Author.Tests.{eqb-true, ltb-false, not-false}
 use Rattle.text_field.specs.Bytes.{within, isDigit, isCapital, isLower}
-use Rattle.text_field.specs.Number.{numberHere}
+use Rattle.text_field.specs.Number.{numberHere, numberMeaning}
 use Rattle.text_field.proofs.ByteLaws.{clash, within-bounds, within-below, digit-bounds}
 use Rattle.text_field.proofs.NumberLaws.{first-off}
 use Rattle.graph_file.specs.Format.{Kind, state, scope, mark, count, letter, label, end, name, Item, byte, field, valuesOf, sectionAt}
-use Rattle.graph_file.specs.Outcome.{done, andThen, refuseIf}
+use Rattle.text_field.specs.Outcome.{done, andThen, refuseIf}
 use Rattle.graph_file.specs.Admission.{Row, rowOf, blank, Sofar, inRange}
 use Rattle.graph_file.specs.Line.{Reading, numberTaken, byteTaken, place, endTaken, first, readField, readItem, placeOf, readItems, lineText, formed}
 use Rattle.graph_file.specs.File.{Piece, readNames, rowFollows, readRow, reading, writeNames, cellsFollow, writeRow, writing}
-use Rattle.graph_file.proofs.InverseOutcome.{done-same, not-done, went, passed}
+use Rattle.text_field.proofs.OutcomeLaws.{done-same, not-done, went, passed}
 use Rattle.graph_file.proofs.InverseTable.{startsRow, startsNames, longest, room, section-fine}
 use Rattle.graph_file.proofs.InverseField.{end-label}
 use Rattle.graph_file.proofs.InverseLine.{byte-found, line-again}
@@ -33,7 +33,7 @@ unfolding isLower
 not-lower x h = rw (within-below 97 122 x h)
 
 number-starts : (text : List ℕ) (r : Reading) → numberTaken (numberHere text) text ≡ done r → rowFollows text ≡ true
-unfolding numberTaken numberHere rowFollows
+unfolding numberTaken numberMeaning numberHere rowFollows andThen
 number-starts [] r e = absurd (not-done 2 r e)
 number-starts (x ∷ text) r e = by (isDigit x) refl
   where

@@ -14,7 +14,7 @@ use Rattle.text_field.specs.Name.{nameText, isNameCells}
 use Rattle.text_field.proofs.NumberLaws.{number-back}
 use Rattle.text_field.proofs.NameLaws.{name-back}
 use Rattle.graph_file.specs.Format.{valuesOf, queries, sections, sectionAt, querySection}
-use Rattle.graph_file.specs.Outcome.{done}
+use Rattle.text_field.specs.Outcome.{done}
 use Rattle.graph_file.specs.Admission.{Row, value, blank}
 use Rattle.graph_file.specs.Line.{numberTaken, readField, startsWith, readItem}
 use Rattle.graph_file.specs.File.{Stage, readStage}

@@ -11,7 +11,7 @@ use borrow.Author.Tests.{eq-eqb, ne-eqb, leb-true}
 use Rattle.text_field.specs.Name.{isNameCells}
 use Rattle.text_field.proofs.ByteLaws.{both}
 use Rattle.graph_file.specs.Format.{everyItem, queries, sections, sectionAt, form, querySection}
-use Rattle.graph_file.specs.Outcome.{done}
+use Rattle.text_field.specs.Outcome.{done}
 use Rattle.graph_file.specs.Admission.{Row, value, blank, begun, taken}
 use Rattle.graph_file.specs.Line.{lineText, itemText, fieldText, itemFormed, fieldFormed, formed}
 use Rattle.graph_file.specs.File.{Piece, Stage, afterRow, oneRow, throughRows, afterNames, throughSection, throughSections, atStart, whole, reading, writing, writeNames, readStage, madeOf, readCells}

@@ -10,7 +10,7 @@ use Rattle.scope_graph.specs.Graph.{Declaration, Query, OpenPair}
 use Rattle.scope_graph.specs.Path.{Distinct}
 use Rattle.scope_graph.specs.Listing.{Pairwise, Accepted}
 use Rattle.graph_file.specs.Format.{sectionAt}
-use Rattle.graph_file.specs.Outcome.{done}
+use Rattle.text_field.specs.Outcome.{done}
 use Rattle.graph_file.specs.File.{readCells, writeText}
 use Rattle.graph_file.specs.Table.{rowsAt}
 use Rattle.graph_file.specs.Decode.{rowsIn, lettersOf, rulesOf, scopesOf, graphOf, opensOf, queriesOf, sectionPlace}

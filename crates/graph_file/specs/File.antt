@@ -7,7 +7,7 @@ use lib.Dec.{eqb, ltb}
 use lib.ListN.{length, drop}
 use Rattle.text_field.specs.Bytes.{isLower}
 use Rattle.graph_file.specs.Format.{byte, Section, sectionAt, form}
-use Rattle.graph_file.specs.Outcome.{Outcome, refused, done, andThen, refuseIf}
+use Rattle.text_field.specs.Outcome.{Outcome, refused, done, andThen, refuseIf}
 use Rattle.graph_file.specs.Admission.{Row, rowOf, blank, Sofar, nothing, begun, taken, admission}
 use Rattle.graph_file.specs.Line.{Reading, readItems, lineText, formed}
 use Rattle.graph_file.specs.Order.{orderFault}
@@ -137,16 +137,3 @@ hasForm (x ∷ rest) = eqb x form
 -- The text of a graph table's cells: refused by 2 where the first cell is missing or another form's, then row by row, then by 6.
 unfoldable pub writeText : List ℕ → Outcome (List ℕ)
 writeText cells = elim (hasForm cells) [ true ↦ madeOf (whole writing [] (drop 1 cells)) | false ↦ refused 2 ]
-
--- What the host is told for an output and the room lent for it: how much was written, or the refusal; 9, too little room, comes last.
-unfoldable pub answer : Outcome (List ℕ) → ℕ → Outcome ℕ
-answer o room = andThen o (λ out. refuseIf (ltb room (length out)) 9 (done (length out)))
-
-unfoldable pub written : Bool → List ℕ → List ℕ → List ℕ
-written true out lent = lent
-written false out lent = out ++ drop (length out) lent
-
--- What the lent memory holds afterwards: the output and behind it what was there; after a refusal, what was there.
-unfoldable pub leaves : Outcome (List ℕ) → List ℕ → List ℕ
-leaves (refused n) lent = lent
-leaves (done out) lent = written (ltb (length lent) (length out)) out lent

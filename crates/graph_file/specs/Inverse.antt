@@ -2,7 +2,7 @@
 use Prim.Native.Nat.{ℕ, _<_}
 use mathlib.Core.Path.{_≡_}
 use mathlib.Core.List.{List}
-use Rattle.graph_file.specs.Outcome.{done}
+use Rattle.text_field.specs.Outcome.{done}
 use Rattle.graph_file.specs.File.{readCells, writeText}
 
 -- what was read is written back byte for byte

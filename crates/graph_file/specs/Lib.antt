@@ -1,5 +1,4 @@
 pub mod Format
-pub mod Outcome
 pub mod Admission
 pub mod Line
 pub mod Order

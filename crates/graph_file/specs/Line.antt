@@ -7,14 +7,12 @@ use lib.Dec.{eqb, leb, ltb}
 use lib.ListN.{getD, drop}
 use lib.Seq.{sets}
 use Rattle.text_field.specs.declared.NumberRead.{NumberRead}
-use Rattle.text_field.specs.declared.NumberRead.the-variants.{Number, NoNumber}
 use Rattle.text_field.specs.declared.NameRead.{NameRead}
-use Rattle.text_field.specs.declared.NameRead.the-variants.{Name, NoName}
 use Rattle.text_field.specs.Bytes.{isCapital}
-use Rattle.text_field.specs.Number.{numberText, numberHere}
-use Rattle.text_field.specs.Name.{nameText, nameHere, isNameCells}
+use Rattle.text_field.specs.Number.{NumberFound, numberMeaning, numberText, numberHere}
+use Rattle.text_field.specs.Name.{NameFound, nameMeaning, nameText, nameHere, isNameCells}
 use Rattle.graph_file.specs.Format.{Kind, state, scope, mark, count, letter, label, end, name, Item, byte, field, valuesOf, everyItem}
-use Rattle.graph_file.specs.Outcome.{Outcome, refused, done, andThen}
+use Rattle.text_field.specs.Outcome.{Outcome, refused, done, andThen}
 use Rattle.graph_file.specs.Admission.{Row, value}
 
 -- What reading takes from the front of the text: values, and the text after it.
@@ -22,13 +20,13 @@ pub record Reading : Type 0 where
   pub values : List ℕ
   pub rest : List ℕ
 
+-- a number and the text behind it; without a number the line is not of its form, which is 2
 unfoldable pub numberTaken : NumberRead → List ℕ → Outcome Reading
-numberTaken (Number v width) text = done (record { values = v ∷ []; rest = drop width text })
-numberTaken NoNumber text = refused 2
+numberTaken n text = andThen (numberMeaning 2 n) (λ f. done (record { values = f .value ∷ []; rest = drop (f .next) text }))
 
+-- a name's two cells and the text behind it, or 2
 unfoldable pub nameTaken : NameRead → List ℕ → Outcome Reading
-nameTaken (Name high low width) text = done (record { values = high ∷ low ∷ []; rest = drop width text })
-nameTaken NoName text = refused 2
+nameTaken n text = andThen (nameMeaning 2 n) (λ f. done (record { values = f .high ∷ f .low ∷ []; rest = drop (f .next) text }))
 
 -- one byte that stands for v, if it is of its class
 unfoldable pub byteTaken : Bool → ℕ → List ℕ → Outcome Reading

@@ -10,11 +10,11 @@ use Rattle.graph_file.specs.declared.line.Took.the-variants.{Nothing, Ba
 use Rattle.graph_file.specs.declared.line.Line.{Line}
 use Rattle.graph_file.specs.declared.rows.Counts.{Counts}
 use Rattle.graph_file.specs.declared.reader.Part.{Part}
-use Rattle.graph_file.specs.declared.reader.Answer.{Answer}
-use Rattle.graph_file.specs.declared.reader.Answer.the-variants.{Refused, Written}
+use Rattle.text_field.specs.declared.answer.Answer.{Answer}
+use Rattle.text_field.specs.declared.answer.Answer.the-variants.{Refused, Written}
 use lib.Dec.{eqb}
 use Rattle.graph_file.specs.Format.{Item, labelSection, pairSection, countSection, sectionAt}
-use Rattle.graph_file.specs.Outcome.{Outcome, refused, done, andThen}
+use Rattle.text_field.specs.Outcome.{Outcome, refused, done, andThen}
 use Rattle.graph_file.specs.Admission.{Row, counted}
 use Rattle.graph_file.specs.Line.{Reading, readItem, placeOf}
 use Rattle.graph_file.specs.File.{Stage}
@@ -85,8 +85,3 @@ pub record SectionTaken (k n size : ℕ) (r : Part) : Type 0 where
 unfoldable pub roomBefore : ℕ → ℕ
 roomBefore zero = 1
 roomBefore (suc k) = roomBefore k + 6 * sectionAt k .most
-
--- the answer by document 01's number, or how much was written
-unfoldable pub answerOf : Answer → Outcome ℕ
-answerOf (Refused n) = refused n
-answerOf (Written n) = done n

@@ -10,7 +10,7 @@ use Rattle.text_field.specs.Name.{nameText}
 use Rattle.scope_graph.specs.Rows.{language}
 use Rattle.scope_graph.specs.Graph.{Query}
 use Rattle.graph_file.specs.Format.{sectionAt, querySection}
-use Rattle.graph_file.specs.Outcome.{done}
+use Rattle.text_field.specs.Outcome.{done}
 use Rattle.graph_file.specs.File.{readCells}
 use Rattle.graph_file.specs.Decode.{rulesOf, queriesOf}
 use Rattle.graph_file.specs.NameSought.{nameSought, placeSought}

@@ -1,7 +1,6 @@
 // Whether a row is admitted after those above it.
 use crate::format::item;
 use crate::format::key_place;
-use crate::format::most;
 use crate::format::row_place;
 use crate::format::sequence;
 use crate::rows::Counts;
@@ -117,13 +116,14 @@ fn row_follows(k: usize, table: &[u64], p: usize, labels: u32, rows: u32) -> boo
     }
 }
 
-// The row at place p after the rows above: 5, 3 or 4 where it is refused, 0 where it is admitted.
-pub fn admitted(k: usize, table: &[u64], p: usize, c: Counts) -> u64
+// The row at place p after the rows above: 5, 3 or 4 where it is refused, 0 where it is admitted. The section's limit is handed down.
+pub fn admitted(k: usize, limit: usize, table: &[u64], p: usize, c: Counts) -> u64
+    requires { ⌜ limit ≡ sectionAt k .most ⌝ }
     ensures { λ r. ⌜ r ≡ admission (sectionAt k) (sofarAt (now (table .entry)) p c) (rowOf (drop p (now (table .entry)))) ⌝ }
 {
     let labels = c.labels;
     let rows = c.rows;
-    if most(k) <= rows as usize {
+    if limit <= rows as usize {
         return 5;
     }
     if !in_range(row_place(k), labels, c.scopes, row_at(table, p)) {

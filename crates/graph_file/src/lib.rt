@@ -8,7 +8,6 @@ mod rows;
 mod sought;
 mod writer;
 
-pub use reader::Answer;
 pub use reader::read;
 pub use sought::NamePlace;
 pub use sought::name_place;

@@ -1,12 +1,14 @@
 // The file's text read into a table, section by section.
 use crate::admission::admitted;
 use crate::format::least;
+use crate::format::most;
 use crate::format::names_place;
 use crate::format::row_place;
 use crate::line::read_line;
 use crate::order::order_fault;
 use crate::rows::Counts;
 use crate::rows::value;
+use text_field::Answer;
 use text_field::byte_at;
 use text_field::cell;
 use text_field::is_lower;
@@ -16,8 +18,9 @@ ghost use Prim.Native.Nat.{ℕ, suc, _+_, _*_, _<_, _≤_};
 ghost use lib.ListN.{length, take, drop};
 ghost use Rattle.text_field.specs.Buffer.{Buf, put, puts};
 ghost use Rattle.graph_file.specs.Format.{sectionAt, form};
-ghost use Rattle.graph_file.specs.File.{oneRow, throughRows, throughSection, throughSections, atStart, rowFollows, reading, readStage, readCells, answer, leaves};
-ghost use Rattle.graph_file.specs.Reader.{stageAt, partOutcome, Placed, RowTaken, RowsTaken, SectionTaken, countsAfter, answerOf};
+ghost use Rattle.graph_file.specs.File.{oneRow, throughRows, throughSection, throughSections, atStart, rowFollows, reading, readStage, readCells};
+ghost use Rattle.text_field.specs.Answer.{answer, leaves, answerOf};
+ghost use Rattle.graph_file.specs.Reader.{stageAt, partOutcome, Placed, RowTaken, RowsTaken, SectionTaken, countsAfter};
 
 // What a part of the way answers: a refusal or 0, the place after it in the text (read, or written), the place after it in the table, and what the rows count.
 pub struct Part {
@@ -90,8 +93,16 @@ pub fn counts_after(k: usize, c: Counts, v: u64) -> Counts
 }
 
 // One row of section k at a place of the section's part of the text, written after the table's first n cells.
-fn read_row(k: usize, part: &[u8], at: usize, table: &mut [u64], n: usize, c: Counts) -> Part
-    requires { ⌜ (n + 6 ≤ length (now table)) × (n ≤ 12271) × Placed k n c ⌝ }
+fn read_row(
+    k: usize,
+    limit: usize,
+    part: &[u8],
+    at: usize,
+    table: &mut [u64],
+    n: usize,
+    c: Counts,
+) -> Part
+    requires { ⌜ (n + 6 ≤ length (now table)) × (n ≤ 12271) × Placed k n c × (limit ≡ sectionAt k .most) ⌝ }
     ensures { λ r. ⌜ partOutcome r (now (table .exit)) (now (part .entry)) ≡ oneRow reading k (stageAt (now (table .entry)) n c (drop at (now (part .entry)))) ⌝ }
     ensures { λ r. ⌜ (r .refusal ≡ 0 → RowTaken k n c (r .cells) (r .counts)) ⌝ }
 {
@@ -107,7 +118,7 @@ fn read_row(k: usize, part: &[u8], at: usize, table: &mut [u64], n: usize, c: Co
     let row = l.row;
     let next = l.next;
     put_row(table, n, k as u64, row);
-    let a = admitted(k, table, n, c);
+    let a = admitted(k, limit, table, n, c);
     if a != 0 {
         return Part {
             refusal: a,
@@ -136,8 +147,16 @@ fn row_comes(part: &[u8], at: usize) -> bool
 }
 
 // The rows of section k from a place of the section's part of the text on.
-fn read_rows(k: usize, part: &[u8], at: usize, table: &mut [u64], n: usize, c: Counts) -> Part
-    requires { ⌜ (n + 6 * suc (sectionAt k .most) ≤ length (now table)) × (n + 6 * sectionAt k .most ≤ 12271) × Placed k n c × (c .rows ≡ 0) ⌝ }
+fn read_rows(
+    k: usize,
+    limit: usize,
+    part: &[u8],
+    at: usize,
+    table: &mut [u64],
+    n: usize,
+    c: Counts,
+) -> Part
+    requires { ⌜ (n + 6 * suc (sectionAt k .most) ≤ length (now table)) × (n + 6 * sectionAt k .most ≤ 12271) × Placed k n c × (c .rows ≡ 0) × (limit ≡ sectionAt k .most) ⌝ }
     ensures { λ r. ⌜ partOutcome r (now (table .exit)) (now (part .entry)) ≡ throughRows reading (suc (sectionAt k .most)) k (stageAt (now (table .entry)) n c (drop at (now (part .entry)))) ⌝ }
     ensures { λ r. ⌜ (r .refusal ≡ 0 → RowsTaken k n (r .cells) (r .counts)) ⌝ }
 {
@@ -146,7 +165,7 @@ fn read_rows(k: usize, part: &[u8], at: usize, table: &mut [u64], n: usize, c: C
     let mut d = c;
     let mut more = row_comes(part, place);
     while more {
-        let r = read_row(k, part, place, table, m, d);
+        let r = read_row(k, limit, part, place, table, m, d);
         if r.refusal != 0 {
             return r;
         }
@@ -170,12 +189,13 @@ fn clipped(part: &[u8], at: usize) -> usize
     if at < part.len() { at } else { part.len() }
 }
 
-// Section k, of which the part of the text begins at the names line.
+// Section k, of which the part of the text begins at the names line. Its limit is read from the table of nine, once.
 fn read_section(k: usize, part: &[u8], table: &mut [u64], n: usize, c: Counts) -> Part
     requires { ⌜ (n + 6 * suc (sectionAt k .most) ≤ length (now table)) × (n + 6 * sectionAt k .most ≤ 12271) × Placed k n c ⌝ }
     ensures { λ r. ⌜ partOutcome r (now (table .exit)) (now (part .entry)) ≡ throughSection reading k (stageAt (now (table .entry)) n c (now (part .entry))) ⌝ }
     ensures { λ r. ⌜ (r .refusal ≡ 0 → SectionTaken k n (length (now (part .entry))) r) ⌝ }
 {
+    let limit = most(k);
     let l = read_line(table, 0, names_place(k), part, 0);
     if !l.ok {
         return Part {
@@ -191,7 +211,7 @@ fn read_section(k: usize, part: &[u8], table: &mut [u64], n: usize, c: Counts) -
         scopes: c.scopes,
         rows: 0,
     };
-    let r = read_rows(k, part, l.next, table, n, begun);
+    let r = read_rows(k, limit, part, l.next, table, n, begun);
     if r.refusal != 0 {
         return r;
     }
@@ -289,12 +309,6 @@ pub fn read_whole(text: &[u8], table: &mut [u64]) -> Part
         };
     }
     r
-}
-
-// What the host is told: a refusal, or how many cells or bytes were written.
-pub enum Answer {
-    Refused(u64),
-    Written(usize),
 }
 
 // The first n cells copied to the front of the lent table, as far as there is room.

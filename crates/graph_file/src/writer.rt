@@ -2,15 +2,16 @@
 use crate::admission::admitted;
 use crate::format::item;
 use crate::format::least;
+use crate::format::most;
 use crate::format::names_place;
 use crate::format::row_place;
 use crate::order::order_fault;
-use crate::reader::Answer;
 use crate::reader::Part;
 use crate::reader::counts_after;
 use crate::rows::Counts;
 use crate::rows::row_at;
 use crate::rows::value;
+use text_field::Answer;
 use text_field::cell;
 use text_field::is_name;
 use text_field::put_byte;
@@ -26,8 +27,9 @@ ghost use Rattle.graph_file.specs.Format.{valuesOf, everyItem, sectionAt
 ghost use Rattle.graph_file.specs.Admission.{nothing};
 ghost use Rattle.graph_file.specs.Line.{endByte, fieldText, itemText, lineText, fieldFormed, itemFormed, sparesPlace, idleZero, idleZeros, formed};
 ghost use Rattle.graph_file.specs.Table.{kindOf, itemOf, itemsAt, lettersAt, sofarAt};
-ghost use Rattle.graph_file.specs.File.{oneRow, throughRows, throughSection, throughSections, whole, cellsFollow, hasForm, writing, writeText, answer, leaves};
-ghost use Rattle.graph_file.specs.Reader.{Placed, RowTaken, RowsTaken, answerOf};
+ghost use Rattle.graph_file.specs.File.{oneRow, throughRows, throughSection, throughSections, whole, cellsFollow, hasForm, writing, writeText};
+ghost use Rattle.text_field.specs.Answer.{answer, leaves, answerOf};
+ghost use Rattle.graph_file.specs.Reader.{Placed, RowTaken, RowsTaken};
 ghost use Rattle.graph_file.specs.Writer.{rowFormed, stageFrom, pour, partWritten, countsBegun};
 
 // Has the value of a field of this kind a text of its form?
@@ -234,8 +236,16 @@ fn row_formed(o: usize, table: &[u64], p: usize) -> bool
 }
 
 // The row at place p as a row of section k, its line put into the text at place n.
-fn write_row(k: usize, table: &[u64], p: usize, c: Counts, out: &mut [u8], n: usize) -> Part
-    requires { ⌜ (p ≤ 12271) × Placed k p c ⌝ }
+fn write_row(
+    k: usize,
+    limit: usize,
+    table: &[u64],
+    p: usize,
+    c: Counts,
+    out: &mut [u8],
+    n: usize,
+) -> Part
+    requires { ⌜ (p ≤ 12271) × Placed k p c × (limit ≡ sectionAt k .most) ⌝ }
     ensures { λ r. ⌜ partWritten r (now (table .entry)) (now (out .exit)) ≡ pour (now (out .entry), n) (oneRow writing k (stageFrom (sofarAt (now (table .entry)) p c) (drop p (now (table .entry))))) ⌝ }
     ensures { λ r. ⌜ (r .refusal ≡ 0 → RowTaken k p c (r .cells) (r .counts)) ⌝ }
 {
@@ -248,7 +258,7 @@ fn write_row(k: usize, table: &[u64], p: usize, c: Counts, out: &mut [u8], n: us
             counts: c,
         };
     }
-    let a = admitted(k, table, p, c);
+    let a = admitted(k, limit, table, p, c);
     if a != 0 {
         return Part {
             refusal: a,
@@ -269,8 +279,16 @@ fn write_row(k: usize, table: &[u64], p: usize, c: Counts, out: &mut [u8], n: us
 }
 
 // The rows of section k from place p on.
-fn write_rows(k: usize, table: &[u64], p: usize, c: Counts, out: &mut [u8], n: usize) -> Part
-    requires { ⌜ (p + 6 * sectionAt k .most ≤ 12271) × Placed k p c × (c .rows ≡ 0) ⌝ }
+fn write_rows(
+    k: usize,
+    limit: usize,
+    table: &[u64],
+    p: usize,
+    c: Counts,
+    out: &mut [u8],
+    n: usize,
+) -> Part
+    requires { ⌜ (p + 6 * sectionAt k .most ≤ 12271) × Placed k p c × (c .rows ≡ 0) × (limit ≡ sectionAt k .most) ⌝ }
     ensures { λ r. ⌜ partWritten r (now (table .entry)) (now (out .exit)) ≡ pour (now (out .entry), n) (throughRows writing (suc (sectionAt k .most)) k (stageFrom (sofarAt (now (table .entry)) p c) (drop p (now (table .entry))))) ⌝ }
     ensures { λ r. ⌜ (r .refusal ≡ 0 → RowsTaken k p (r .cells) (r .counts)) ⌝ }
 {
@@ -279,7 +297,7 @@ fn write_rows(k: usize, table: &[u64], p: usize, c: Counts, out: &mut [u8], n: u
     let mut d = c;
     let mut more = row_comes(k, table, m);
     while more {
-        let r = write_row(k, table, m, d, out, next);
+        let r = write_row(k, limit, table, m, d, out, next);
         if r.refusal != 0 {
             return r;
         }
@@ -314,9 +332,10 @@ fn write_section(k: usize, table: &[u64], p: usize, c: Counts, out: &mut [u8], n
     ensures { λ r. ⌜ partWritten r (now (table .entry)) (now (out .exit)) ≡ pour (now (out .entry), n) (throughSection writing k (stageFrom (sofarAt (now (table .entry)) p c) (drop p (now (table .entry))))) ⌝ }
     ensures { λ r. ⌜ (r .refusal ≡ 0 → RowsTaken k p (r .cells) (r .counts)) ⌝ }
 {
+    let limit = most(k);
     let at = put_line(table, 0, names_place(k), [0; 5], out, n);
     let d = counts_begun(c);
-    let r = write_rows(k, table, p, d, out, at);
+    let r = write_rows(k, limit, table, p, d, out, at);
     if r.refusal != 0 {
         return r;
     }

@@ -14,14 +14,15 @@ use Rattle.text_field.specs.declared.NumberRead.the-variants.{Number, NoNumber}
 use Rattle.text_field.specs.declared.NameRead.{NameRead}
 use Rattle.text_field.specs.declared.NameRead.the-variants.{Name, NoName}
 use Rattle.text_field.specs.Bytes.{isCapital}
-use Rattle.text_field.specs.Number.{numberHere}
-use Rattle.text_field.specs.Name.{nameHere}
+use Rattle.text_field.specs.Number.{numberHere, numberMeaning}
+use Rattle.text_field.specs.Name.{nameHere, nameMeaning}
 use Rattle.graph_file.specs.Format.{Item, byte, field, state, scope, mark, count, letter, label, end, name, Section, sectionAt, form}
-use Rattle.graph_file.specs.Outcome.{Outcome, refused, done, andThen, refuseIf}
+use Rattle.text_field.specs.Outcome.{Outcome, refused, done, andThen, refuseIf}
 use Rattle.graph_file.specs.Admission.{Row, Sofar, blank, rowOf, unless, inRange, follows, admission}
 use Rattle.graph_file.specs.Line.{Reading, numberTaken, nameTaken, byteTaken, place, endTaken, readField, startsWith, readItem, placeOf, readItems, lineText, formed}
 use Rattle.graph_file.specs.Order.{orderFault}
-use Rattle.graph_file.specs.File.{Piece, Way, Stage, ifAdmitted, afterRow, oneRow, throughRows, afterNames, enough, throughSection, isEmpty, throughSections, ordered, atStart, whole, readNames, readRow, reading, readStage, madeOf, readCells, writeNames, writeRow, writing, hasForm, writeText, answer}
+use Rattle.graph_file.specs.File.{Piece, Way, Stage, ifAdmitted, afterRow, oneRow, throughRows, afterNames, enough, throughSection, isEmpty, throughSections, ordered, atStart, whole, readNames, readRow, reading, readStage, madeOf, readCells, writeNames, writeRow, writing, hasForm, writeText}
+use Rattle.text_field.specs.Answer.{answer}
 use Rattle.path_row.specs.Form.{PathRow, mostMark, mostScope, numberUpTo, Front, startBy, markBy, headHere, rowBy, rowHere}
 use Rattle.path_row.specs.Compare.{Comparison, compareRows, compareAnswer}
 use Rattle.resolution.specs.Listing.{listingOf, listingFor, summaryFor}
@@ -45,12 +46,12 @@ two = listed 2 (omega arith) (omega arith)
 
 -- a line
 number-listed : (x : NumberRead) (t : List ℕ) → Listed (numberTaken x t)
-unfolding numberTaken
+unfolding numberTaken numberMeaning andThen
 number-listed (Number v w) t = carried _
 number-listed NoNumber t = two
 
 name-listed : (x : NameRead) (t : List ℕ) → Listed (nameTaken x t)
-unfolding nameTaken
+unfolding nameTaken nameMeaning andThen
 name-listed (Name h l w) t = carried _
 name-listed NoName t = two
 

@@ -8,8 +8,8 @@ use borrow.Author.Tests.{ltb-false, eq-eqb, ne-eqb}
 use lib.Dec.{eqb, ltb}
 use lib.ListN.{length}
 use Rattle.graph_file.specs.declared.sought.NamePlace.{NamePlace}
-use Rattle.graph_file.specs.Outcome.{Outcome, refused, done, andThen, refuseIf}
-use Rattle.graph_file.specs.File.{answer}
+use Rattle.text_field.specs.Outcome.{Outcome, refused, done, andThen, refuseIf}
+use Rattle.text_field.specs.Answer.{answer}
 use Rattle.graph_file.specs.NameSought.{fromSought, nameFront, nameSought, placeFrom, placeSought}
 use Rattle.host.specs.Numbers.{amountNumber, Sized, placeLeft}
 

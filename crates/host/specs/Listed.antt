@@ -6,8 +6,9 @@ use mathlib.Core.Path.{_≡_}
 use mathlib.Core.List.{List}
 use mathlib.Core.Bool.{Bool, true, false}
 use lib.Dec.{ltb}
-use Rattle.graph_file.specs.Outcome.{Outcome, refused, done}
-use Rattle.graph_file.specs.File.{readCells, writeText, answer}
+use Rattle.text_field.specs.Outcome.{Outcome, refused, done}
+use Rattle.graph_file.specs.File.{readCells, writeText}
+use Rattle.text_field.specs.Answer.{answer}
 use Rattle.path_row.specs.Compare.{Comparison, compareAnswer}
 use Rattle.resolution.specs.Listing.{listingFor, summaryFor}
 use Rattle.judge.specs.Judge.{judgeAnswer}

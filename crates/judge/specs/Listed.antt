@@ -7,7 +7,7 @@ use lib.ListN.{length}
 use Rattle.scope_graph.specs.Rows.{language}
 use Rattle.scope_graph.specs.Path.{PathRow, Entry}
 use Rattle.scope_graph.specs.Computed.{is-visible}
-use Rattle.graph_file.specs.Outcome.{done}
+use Rattle.text_field.specs.Outcome.{done}
 use Rattle.graph_file.specs.File.{readCells}
 use Rattle.graph_file.specs.Decode.{rulesOf, graphOf, queriesOf, lettersOf}
 use Rattle.follow.specs.Text.{rowText}

@@ -3,7 +3,7 @@
 use mathlib.Core.Path.{_≡_}
 use mathlib.Core.List.{[], _∷_}
 use Rattle.scope_graph.specs.Computed.{is-visible, is-shadowed, is-unreached}
-use Rattle.graph_file.specs.Outcome.{done}
+use Rattle.text_field.specs.Outcome.{done}
 use Rattle.resolution.specs.Marked.{exampleText}
 use Rattle.judge.specs.Judge.{judgeAnswer}
 

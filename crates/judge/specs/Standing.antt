@@ -9,7 +9,7 @@ use lib.ListN.{length}
 use Rattle.scope_graph.specs.Rows.{language}
 use Rattle.scope_graph.specs.Path.{Reached, Shadowed, MarkDeclared, Entry}
 use Rattle.scope_graph.specs.Computed.{Standing, is-visible, is-shadowed, is-unreached}
-use Rattle.graph_file.specs.Outcome.{done}
+use Rattle.text_field.specs.Outcome.{done}
 use Rattle.graph_file.specs.File.{readCells}
 use Rattle.graph_file.specs.Decode.{rulesOf, graphOf, queriesOf}
 use Rattle.path_row.specs.Form.{PathRow, rowHere}

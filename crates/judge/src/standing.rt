@@ -30,7 +30,7 @@ ghost use Rattle.search.specs.Board.{cutAlong};
 ghost use Rattle.search.specs.Live.{Closed, any-way};
 ghost use Rattle.search.specs.Steps.{Sorted};
 ghost use Rattle.search.specs.Tables.{placeFlag, freeFlag, tableOrder, tableBoard};
-ghost use Rattle.graph_file.specs.Outcome.{done};
+ghost use Rattle.text_field.specs.Outcome.{done};
 ghost use Rattle.graph_file.specs.Decode.{rulesOf, graphOf};
 ghost use Rattle.path_row.specs.Form.{mostSteps, stepsOf, stepsIn};
 ghost use Rattle.path_row.specs.Scan.{scannedLetters};

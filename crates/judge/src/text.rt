@@ -1,13 +1,13 @@
 // A path row judged for a query of a graph table that was read, and of a text.
 use crate::standing::Judged;
 use crate::standing::standing;
-use graph_file::Answer;
 use graph_file::read;
 use path_row::form::RowRead;
 use path_row::form::read_row;
 use prepared::section;
 use resolution::row_count;
 use resolution::row_value;
+use text_field::Answer;
 ghost use mathlib.Core.Path.{_≡_};
 ghost use Rattle.graph_file.specs.Decode.{WasRead};
 ghost use Rattle.judge.specs.Judge.{meaning, judgeOf, judgeAnswer};

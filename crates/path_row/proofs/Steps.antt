@@ -13,7 +13,7 @@ use Rattle.text_field.specs.Bytes.{isCapital}
 use Rattle.text_field.specs.declared.NumberRead.{NumberRead}
 use Rattle.text_field.specs.declared.NumberRead.the-variants.{Number, NoNumber}
 use Rattle.text_field.specs.Number.{numberPlaced, numberHere}
-use Rattle.graph_file.specs.Outcome.{Outcome, refused, done, andThen, refuseIf}
+use Rattle.text_field.specs.Outcome.{Outcome, refused, done, andThen, refuseIf}
 use Rattle.graph_file.specs.Line.{startsWith}
 use Rattle.graph_file.specs.File.{isEmpty}
 use Rattle.path_row.specs.declared.form.Step.{Step}

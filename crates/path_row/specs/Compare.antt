@@ -5,7 +5,7 @@ use mathlib.Core.List.{List, [], _∷_, _++_, map}
 use mathlib.Core.Bool.{Bool, true, false}
 use lib.Dec.{eqb, ltb}
 use lib.ListN.{length, drop}
-use Rattle.graph_file.specs.Outcome.{Outcome, refused, done, andThen, refuseIf}
+use Rattle.text_field.specs.Outcome.{Outcome, refused, done, andThen, refuseIf}
 use Rattle.graph_file.specs.File.{readCells}
 use Rattle.graph_file.specs.Decode.{lettersOf, rulesOf}
 use Rattle.scope_graph.specs.Rows.{Rules, language}

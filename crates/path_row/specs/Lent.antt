@@ -3,7 +3,7 @@
 use Prim.Native.Nat.{ℕ, zero, suc}
 use mathlib.Core.List.{List}
 use lib.ListN.{length, set, getD}
-use Rattle.graph_file.specs.Outcome.{Outcome, refused, done}
+use Rattle.text_field.specs.Outcome.{Outcome, refused, done}
 use Rattle.path_row.specs.declared.form.Step.{Step}
 use Rattle.path_row.specs.Form.{noStep}
 

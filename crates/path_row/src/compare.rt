@@ -15,7 +15,7 @@ use text_field::cell;
 ghost use mathlib.Core.Path.{_≡_};
 ghost use mathlib.Core.List.{map};
 ghost use lib.ListN.{length, drop};
-ghost use Rattle.graph_file.specs.Outcome.{done};
+ghost use Rattle.text_field.specs.Outcome.{done};
 ghost use Rattle.graph_file.specs.Line.{startsWith};
 ghost use Rattle.graph_file.specs.Admission.{rowOf};
 ghost use Rattle.scope_graph.specs.Order.{meaning as endMeaning, pairMeaning};

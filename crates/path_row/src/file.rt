@@ -1,8 +1,8 @@
 // Two path rows compared by the order in a gym file's text.
 use crate::compare::Compared;
 use crate::compare::compare_rows;
-use graph_file::Answer;
 use graph_file::read;
+use text_field::Answer;
 ghost use mathlib.Core.Path.{_≡_};
 ghost use Rattle.path_row.specs.Compare.{meaning, compareAnswer};
 

@@ -3,7 +3,7 @@ use crate::form::MOST_BYTES;
 use crate::form::MOST_MARK;
 use crate::form::MOST_SCOPE;
 use crate::form::MOST_STEPS;
-use graph_file::Answer;
+use text_field::Answer;
 use text_field::byte_at;
 use text_field::is_capital;
 use text_field::put_byte;
@@ -15,8 +15,7 @@ ghost use lib.Dec.{leb};
 ghost use lib.ListN.{length, drop};
 ghost use Rattle.text_field.specs.Bytes.{isCapital};
 ghost use Rattle.text_field.specs.Buffer.{Buf, puts};
-ghost use Rattle.graph_file.specs.File.{answer, leaves};
-ghost use Rattle.graph_file.specs.Reader.{answerOf};
+ghost use Rattle.text_field.specs.Answer.{answer, leaves, answerOf};
 ghost use Rattle.path_row.specs.Form.{mostScope, stepsText, rowText, stepsMade, rowMade};
 ghost use Rattle.path_row.specs.Form.{areSteps, isRow, rowWritten};
 

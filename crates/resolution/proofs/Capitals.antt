@@ -13,7 +13,7 @@ use Rattle.scope_graph.specs.Language.{_∈_}
 use Rattle.scope_graph.proofs.Lists.{Two, here, there}
 use Rattle.text_field.specs.Bytes.{isCapital}
 use Rattle.graph_file.specs.Format.{Item, byte, field, letter, labels, sections, sectionAt, form, labelSection}
-use Rattle.graph_file.specs.Outcome.{Outcome, refused, done, andThen}
+use Rattle.text_field.specs.Outcome.{Outcome, refused, done, andThen}
 use Rattle.graph_file.specs.Admission.{Row, value, blank}
 use Rattle.graph_file.specs.Line.{Reading, byteTaken, first, readField, startsWith, readItem, placeOf, readItems}
 use Rattle.graph_file.specs.File.{Piece, readNames, readRow, reading, readStage, madeOf, readCells}

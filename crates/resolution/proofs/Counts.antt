@@ -16,8 +16,8 @@ use Rattle.text_field.specs.Buffer.{Buf, put, puts}
 use Rattle.text_field.proofs.NumberLaws.{length-below}
 use Rattle.text_field.proofs.BufferLaws.{puts-then}
 use Rattle.graph_file.specs.Format.{querySection, queries, sections, sectionAt}
-use Rattle.graph_file.specs.Outcome.{refused, done}
-use Rattle.graph_file.specs.File.{answer, leaves}
+use Rattle.text_field.specs.Outcome.{refused, done}
+use Rattle.text_field.specs.Answer.{answer, leaves}
 use Rattle.graph_file.specs.Decode.{rowsIn, rulesOf, queryOf, queriesOf, WasRead}
 use Rattle.graph_file.specs.Admission.{value, blank}
 use Rattle.prepared.specs.Sections.{partOf, rowsOf}

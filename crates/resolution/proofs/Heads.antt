@@ -25,11 +25,11 @@ use Rattle.text_field.proofs.CellLaws.{name-length}
 use Rattle.text_field.proofs.BufferLaws.{puts-then, puts-fits}
 use Rattle.graph_file.specs.Format.{querySection}
 use Rattle.graph_file.specs.Admission.{Row, value, blank}
-use Rattle.graph_file.specs.Outcome.{Outcome, refused, done, andThen, refuseIf}
-use Rattle.graph_file.specs.File.{readCells, answer, written, leaves}
-use Rattle.graph_file.specs.declared.reader.Answer.{Answer}
-use Rattle.graph_file.specs.declared.reader.Answer.the-variants.{Refused, Written}
-use Rattle.graph_file.specs.Reader.{answerOf}
+use Rattle.text_field.specs.Outcome.{Outcome, refused, done, andThen, refuseIf}
+use Rattle.graph_file.specs.File.{readCells}
+use Rattle.text_field.specs.Answer.{answer, written, leaves, answerOf}
+use Rattle.text_field.specs.declared.answer.Answer.{Answer}
+use Rattle.text_field.specs.declared.answer.Answer.the-variants.{Refused, Written}
 use Rattle.graph_file.proofs.DecodeWay.{done-is}
 use Rattle.graph_file.proofs.DecodeAccepted.{read-accepted}
 use Rattle.graph_file.specs.Decode.{rowsIn, rulesOf, scopesOf, graphOf, lettersOf, opensOf, nameAt, queryOf, queriesOf, WasRead}

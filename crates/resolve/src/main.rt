@@ -6,11 +6,11 @@
 // calling it, once for each piece; `main` calls `print_for` with what was read.
 mod parts;
 
-use graph_file::Answer;
 use graph_file::read;
 use parts::put_part;
 use parts::put_refused;
 use parts::query_count;
+use text_field::Answer;
 ghost use Prim.Native.Nat.{_+_};
 ghost use mathlib.Core.Path.{_≡_};
 ghost use lib.ListN.{length};

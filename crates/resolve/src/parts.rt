@@ -1,16 +1,16 @@
 // The parts of the output: a listing for each query, then the summary.
-use graph_file::Answer;
 use prepared::section;
 use resolution::listing_of;
 use resolution::row_count;
 use resolution::summary_of;
+use text_field::Answer;
 use text_field::put_byte;
 use text_field::put_bytes;
 use text_field::put_number;
 ghost use mathlib.Core.Path.{_≡_};
 ghost use lib.ListN.{length};
 ghost use Rattle.text_field.specs.Buffer.{Buf, puts};
-ghost use Rattle.graph_file.specs.Outcome.{done};
+ghost use Rattle.text_field.specs.Outcome.{done};
 ghost use Rattle.graph_file.specs.Decode.{queriesOf};
 ghost use Rattle.resolution.specs.Listing.{listingOf, summaryOf};
 ghost use Rattle.graph_file.specs.Decode.{WasRead};

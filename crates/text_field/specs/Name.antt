@@ -7,6 +7,18 @@ use lib.ListN.{length, drop}
 use Rattle.text_field.specs.declared.NameRead.{NameRead}
 use Rattle.text_field.specs.declared.NameRead.the-variants.{Name, NoName}
 use Rattle.text_field.specs.Bytes.{isLower, isNameByte}
+use Rattle.text_field.specs.Outcome.{Outcome, refused, done}
+
+-- a name in a text: its two cells, and the place after it
+pub record NameFound : Type 0 where
+  pub high : ℕ
+  pub low : ℕ
+  pub next : ℕ
+
+-- What the reader of a name answers, by document 01's number for a text that is not of its form.
+unfoldable pub nameMeaning : ℕ → NameRead → Outcome NameFound
+nameMeaning refusal (Name high low next) = done (record { high = high; low = low; next = next })
+nameMeaning refusal NoName = refused refusal
 
 -- every byte is one that a name may hold after its first
 unfoldable pub allNameBytes : List ℕ → Bool

@@ -6,6 +6,18 @@ use lib.Dec.{eqb, leb, ltb}
 use Rattle.text_field.specs.declared.NumberRead.{NumberRead}
 use Rattle.text_field.specs.declared.NumberRead.the-variants.{Number, NoNumber}
 use Rattle.text_field.specs.Bytes.{isDigit}
+use Rattle.text_field.specs.Outcome.{Outcome, refused, done}
+
+-- a number in a text: its value, and the place after it
+pub record NumberFound : Type 0 where
+  pub value : ℕ
+  pub next : ℕ
+
+-- What the reader of a number answers, by document 01's number: where none stands the text is not of
+-- its form. That is 2 in a gym file and 8 in a path row, so the reader of the text says which.
+unfoldable pub numberMeaning : ℕ → NumberRead → Outcome NumberFound
+numberMeaning refusal (Number v next) = done (record { value = v; next = next })
+numberMeaning refusal NoNumber = refused refusal
 
 -- the decimal digits of v, of which at most `fuel` stand before the last
 unfoldable pub digitsOf : ℕ → ℕ → List ℕ

@@ -1,4 +1,7 @@
-// Numbers and names as text, and the lent buffer they are written to.
+// Numbers and names as text, the lent buffer they are written to, and what a host is told.
+mod answer;
+
+pub use answer::Answer;
 ghost use mathlib.Core.Path.{_≡_};
 ghost use mathlib.Core.Bool.{_&&_};
 ghost use mathlib.Core.List.{List, [], _∷_};
@@ -273,14 +276,6 @@ pub fn put_name(out: &mut [u8], n: usize, high: u64, low: u64) -> usize
         l = shifted(l, 0);
     }
     k
-}
-
-// How many bytes two cells spell: at most 16, so they fit.
-pub fn name_len(high: u64, low: u64) -> usize
-    ensures { λ r. ⌜ r ≡ length (nameText high low) ⌝ }
-{
-    let mut text = [0u8; 16];
-    put_name(&mut text, 0, high, low)
 }
 
 // Are two cells a name's packing? Reading back what they spell tells.

@@ -3,8 +3,9 @@ use native.Mathlib.Omega.{arith}
 use lib.ListN.{length, take}
 use lib.Seq.{length-take-le}
 use Rattle.graph_file.specs.File.{readCells}
-use Rattle.graph_file.specs.Reader.{answerOf}
-use Rattle.graph_file.proofs.CopyLaws.{answer-refused, leaves-refused, answer-short, leaves-short, answer-fits, leaves-fits, cells-refused, cells-done}
+use Rattle.text_field.specs.Answer.{answerOf}
+use Rattle.graph_file.proofs.CopyLaws.{cells-refused, cells-done}
+use Rattle.text_field.proofs.AnswerLaws.{answer-refused, leaves-refused, answer-short, leaves-short, answer-fits, leaves-fits}
 use borrow.Author.Needs.{needs}
 use Rattle.graph_file.proofs.reader.read.Statement.{statement}
 use Rattle.graph_file.proofs.reader.read.Tie as tie

@@ -44,7 +44,7 @@ put-row-requires c κs = search needs
 
 -- src/reader.rt:105:9
 admitted-requires : tie.Need-admitted-requires
-admitted-requires c κs = search needs
+admitted-requires c κs = c .before .before .before .before .before .before .before .before .before .before .before .before .before .pre .3
 
 -- src/reader.rt:107:9
 same-length-2 : tie.Need-same-length-2
@@ -64,8 +64,8 @@ counts-after-requires : tie.Need-counts-after-requires
 counts-after-requires c κs = let q = c .before .before .before .before .before .before .before .before .before .before .before .before .before .before .before .before .pre in omega (arith, q .1, q .2 .within, q .2 .rowed)
 
 -- src/reader.rt:118:16
-add-t14 : tie.Need-add-t14
-add-t14 c = search needs
+add-t15 : tie.Need-add-t15
+add-t15 c = search needs
 
 -- src/reader.rt:88:1
 same-length-3 : tie.Need-same-length-3
@@ -90,6 +90,6 @@ read-row-spec =
     returns-2
     value-requires
     counts-after-requires
-    add-t14
+    add-t15
     same-length-3
     returns-3)

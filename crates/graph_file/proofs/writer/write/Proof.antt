@@ -1,5 +1,5 @@
 use Rattle.graph_file.proofs.WriteText.{told-refused, text-formless, text-refused, text-written, text-within, told-small, told-done}
-use Rattle.graph_file.specs.Reader.{answerOf}
+use Rattle.text_field.specs.Answer.{answerOf}
 use borrow.Author.Tests.{not-true, not-false}
 use native.Mathlib.Omega.{arith}
 use mathlib.Core.Path.{sym, _∙_}

@@ -1,7 +1,7 @@
 use mathlib.Core.Path.{sym, ap, subst}
 use native.Mathlib.Omega.{arith}
-use Rattle.graph_file.specs.declared.reader.Answer.{Answer}
-use Rattle.graph_file.specs.Reader.{answerOf}
+use Rattle.text_field.specs.declared.answer.Answer.{Answer}
+use Rattle.text_field.specs.Answer.{answerOf}
 use Rattle.host.specs.Numbers.{told, amountNumber, written, Sized}
 use borrow.Author.Needs.{needs}
 use Rattle.host.proofs.numbers.written_number.Statement.{statement}
