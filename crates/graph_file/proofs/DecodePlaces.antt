@@ -1,4 +1,5 @@
--- The rows of each section of an admitted table stand together, at the section's place. Assumes nothing.
+-- The rows of each section of an admitted table stand together, at the section's place. Assumes
+-- nothing.
 use Prim.Native.Nat.{ℕ, zero, suc, _+_, _*_, _≤_, _<_}
 use mathlib.Core.Path.{_≡_, refl, sym, ap, _∙_}
 use mathlib.Core.List.{List, [], _∷_, _++_, append-nil, append-assoc}

@@ -119,7 +119,8 @@ section-at j k st (rows ∷ rest) h f l m =
     (λ e. rw e (section-at j (suc k) after rest (h .2) n (let d = eqb-false k j e in omega arith) (omega arith)))
     (Two (eqb k j))
 
--- What the table's end has of some field of the rows so far is what the rows of one section, number s, bring to it one by one.
+-- What the table's end has of some field of the rows so far is what the rows of one section, number
+-- s, bring to it one by one.
 unfoldable pub fold : {A : Type 0} → (A → Row → A) → A → List Row → A
 fold step a [] = a
 fold step a (row ∷ rows) = fold step (step a row) rows

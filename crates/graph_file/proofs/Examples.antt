@@ -1,4 +1,5 @@
--- The example of document 01 computed by the definitions: read, written back, and the names that its queries seek. Assumes nothing.
+-- The example of document 01 computed by the definitions: read, written back, and the names that
+-- its queries seek. Assumes nothing.
 use Prim.Native.Nat.{ℕ}
 use mathlib.Core.Path.{_≡_, refl}
 use mathlib.Core.List.{List, [], _∷_, _++_}

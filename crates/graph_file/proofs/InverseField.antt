@@ -27,7 +27,8 @@ use Rattle.text_field.proofs.OutcomeLaws.{done-same, not-done}
 use Rattle.graph_file.proofs.InverseLetters.{Letters, letter-there}
 use Rattle.graph_file.proofs.InverseTable.{closes}
 
--- what a reading of a field of kind k tells of the text, for the value v, and w where the field has a second one
+-- what a reading of a field of kind k tells of the text, for the value v, and w where the field has
+-- a second one
 pub record FieldFound (letters : List ℕ) (k : Kind) (text : List ℕ) (r : Reading) (v w : ℕ) : Type 0 where
   pub whole : text ≡ fieldText letters k v w ++ r .rest
   pub formed : fieldFormed k v w ≡ true

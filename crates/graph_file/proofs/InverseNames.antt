@@ -1,4 +1,5 @@
--- A names line is read exactly where it stands byte for byte: the law of lines, for a line without fields. Assumes nothing.
+-- A names line is read exactly where it stands byte for byte: the law of lines, for a line without
+-- fields. Assumes nothing.
 use Prim.Native.Nat.{ℕ}
 use mathlib.Core.Path.{_≡_, refl, ap, _∙_}
 use mathlib.Core.List.{List, [], _∷_, _++_, map}

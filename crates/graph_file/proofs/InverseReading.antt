@@ -1,4 +1,5 @@
--- Writing mirrors reading: the cells that a text was read into are written as that text. Assumes nothing.
+-- Writing mirrors reading: the cells that a text was read into are written as that text. Assumes
+-- nothing.
 use Prim.Native.Nat.{ℕ, suc, _<_}
 use mathlib.Core.Path.{_≡_, refl, sym, ap, _∙_}
 use mathlib.Core.List.{List, [], _∷_, _++_, map}

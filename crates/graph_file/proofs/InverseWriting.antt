@@ -1,4 +1,5 @@
--- Reading mirrors writing: the text that cells were written as is read into those cells, and is short enough to be read. Assumes nothing.
+-- Reading mirrors writing: the text that cells were written as is read into those cells, and is
+-- short enough to be read. Assumes nothing.
 use Prim.Native.Nat.{ℕ, suc, _+_, _*_, _≤_, _<_}
 use mathlib.Core.Path.{_≡_, refl, sym, ap, _∙_}
 use mathlib.Core.List.{List, [], _∷_, _++_}

@@ -1,5 +1,5 @@
--- Laws of the ways through a file whose product goes into a buffer: what is made so far stands before what is made after it, so a way may
--- start with nothing made. Assumes nothing.
+-- Laws of the ways through a file whose product goes into a buffer: what is made so far stands
+-- before what is made after it, so a way may start with nothing made. Assumes nothing.
 use Prim.Native.Nat.{ℕ, zero, suc}
 use mathlib.Core.Path.{_≡_, refl, sym, ap, _∙_}
 use mathlib.Core.List.{List, _++_, append-assoc, append-nil}

@@ -1,4 +1,5 @@
--- Refusals of both ways computed by the definitions, each fault alone or the first of two. Assumes nothing.
+-- Refusals of both ways computed by the definitions, each fault alone or the first of two. Assumes
+-- nothing.
 use Prim.Native.Nat.{ℕ}
 use mathlib.Core.Path.{_≡_, refl}
 use mathlib.Core.List.{List, [], _∷_, map}

@@ -1,6 +1,7 @@
 // A path row judged for a query of a graph table that was read, and of a text.
 use crate::standing::Judged;
 use crate::standing::standing;
+use graph_file::TABLE_CELLS;
 use graph_file::read;
 use path_row::form::RowRead;
 use path_row::form::read_row;
@@ -69,7 +70,7 @@ pub fn judge_of(table: &[u64], query: usize, row: &[u8], room: usize) -> Judged
 pub fn judge_text<'s>(text: &'s [u8], query: usize, row: &'s [u8], room: usize) -> Judged
     ensures answer { λ r. ⌜ meaning r ≡ judgeAnswer (now (text .entry)) query (now (row .entry)) room ⌝ }
 {
-    let mut table = [0u64; 12271];
+    let mut table = [0u64; TABLE_CELLS];
     let a = read(text, &mut table);
     match a {
         Answer::Refused(n) => Judged::Refused(n),

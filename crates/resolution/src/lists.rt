@@ -10,6 +10,7 @@ use crate::walks::found_of;
 use crate::walks::put_rows;
 use crate::walks::rows_room;
 use follow::Budget;
+use graph_file::TABLE_CELLS;
 use graph_file::read;
 use prepared::section;
 use text_field::Answer;
@@ -90,7 +91,7 @@ pub fn listing(text: &[u8], query: usize, out: &mut [u8]) -> Answer
     ensures answer { λ r. ⌜ answerOf r ≡ answer (listingFor (now (text .entry)) query) (length (now (out .entry))) ⌝ }
     ensures memory { λ r. ⌜ now (out .exit) ≡ leaves (listingFor (now (text .entry)) query) (now (out .entry)) ⌝ }
 {
-    let mut table = [0u64; 12271];
+    let mut table = [0u64; TABLE_CELLS];
     let a = read(text, &mut table);
     match a {
         Answer::Refused(n) => Answer::Refused(n),

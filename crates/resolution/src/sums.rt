@@ -4,6 +4,7 @@ use crate::parts::row_value;
 use crate::tables::hint_table;
 use crate::tables::tables_of;
 use crate::walks::found_of;
+use graph_file::TABLE_CELLS;
 use graph_file::read;
 use prepared::section;
 use text_field::Answer;
@@ -146,7 +147,7 @@ pub fn summary(text: &[u8], out: &mut [u8]) -> Answer
     ensures answer { λ r. ⌜ answerOf r ≡ answer (summaryFor (now (text .entry))) (length (now (out .entry))) ⌝ }
     ensures memory { λ r. ⌜ now (out .exit) ≡ leaves (summaryFor (now (text .entry))) (now (out .entry)) ⌝ }
 {
-    let mut table = [0u64; 12271];
+    let mut table = [0u64; TABLE_CELLS];
     let a = read(text, &mut table);
     match a {
         Answer::Refused(n) => Answer::Refused(n),

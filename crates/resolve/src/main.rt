@@ -6,6 +6,7 @@
 // calling it, once for each piece; `main` calls `print_for` with what was read.
 mod parts;
 
+use graph_file::TABLE_CELLS;
 use graph_file::read;
 use parts::put_part;
 use parts::put_refused;
@@ -82,7 +83,7 @@ fn print_parts(text: &[u8], sent: usize, table: &[u64]) -> usize
 fn print_for(text: &[u8]) -> usize
     ensures answer { λ r. ⌜ r ≡ length (programText (now (text .entry))) ⌝ }
 {
-    let mut table = [0u64; 12271];
+    let mut table = [0u64; TABLE_CELLS];
     let a = read(text, &mut table);
     match a {
         Answer::Refused(n) => print_refused(text, 0, n),

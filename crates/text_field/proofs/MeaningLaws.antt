@@ -1,5 +1,5 @@
--- The meanings tell the answers apart, whatever the refusal: a contract that names the answer and one
--- that names its meaning say the same. Assumes nothing.
+-- The meanings tell the answers apart, whatever the refusal: a contract that names the answer and
+-- one that names its meaning say the same. Assumes nothing.
 use Prim.Native.Nat.{ℕ}
 use mathlib.Core.Path.{_≡_, refl, sym, ap}
 use Rattle.text_field.specs.declared.NumberRead.{NumberRead}

@@ -1,5 +1,5 @@
--- What a host is told of an output, and what its lent memory holds afterwards (document 01, "Who can
--- cause a refusal"). Assumes nothing: these are definitions.
+-- What a host is told of an output, and what its lent memory holds afterwards (document 01, "Who
+-- can cause a refusal"). Assumes nothing: these are definitions.
 use Prim.Native.Nat.{ℕ}
 use mathlib.Core.List.{List, _++_}
 use mathlib.Core.Bool.{Bool, true, false}

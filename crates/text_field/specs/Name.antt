@@ -1,4 +1,5 @@
--- Names as text (document 01, "The gym file"), and as two cells of eight bytes each. Assumes nothing: these are definitions.
+-- Names as text (document 01, "The gym file"), and as two cells of eight bytes each. Assumes
+-- nothing: these are definitions.
 use mathlib.Core.List.{List, [], _∷_, _++_}
 use mathlib.Core.Bool.{Bool, true, false, _&&_}
 use Prim.Native.Nat.{ℕ, zero, suc, _+_, _*_, _/_, _%_, _^_}

@@ -17,7 +17,7 @@ use Rattle.graph_file.proofs.format.row_place.Reads as row-place-reads
 use Rattle.graph_file.proofs.reader.counts_after.Reads as counts-after-reads
 use Rattle.graph_file.proofs.rows.row_at.Reads as row-at-reads
 use Rattle.graph_file.proofs.rows.value.Reads as value-reads
-use Rattle.graph_file.proofs.writer.put_line.Reads as put-line-reads
+use Rattle.graph_file.proofs.line_text.put_line.Reads as put-line-reads
 use Rattle.graph_file.proofs.writer.row_formed.Reads as row-formed-reads
 
 row-place-requires : tie.Need-row-place-requires

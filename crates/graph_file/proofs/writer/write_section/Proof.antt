@@ -12,7 +12,7 @@ use Rattle.graph_file.proofs.format.least.Reads as least-reads
 use Rattle.graph_file.proofs.format.most.Reads as most-reads
 use Rattle.graph_file.proofs.format.names_place.Reads as names-place-reads
 use Rattle.graph_file.proofs.writer.counts_begun.Reads as counts-begun-reads
-use Rattle.graph_file.proofs.writer.put_line.Reads as put-line-reads
+use Rattle.graph_file.proofs.line_text.put_line.Reads as put-line-reads
 use Rattle.graph_file.proofs.writer.write_rows.Reads as write-rows-reads
 
 most-requires : tie.Need-most-requires
