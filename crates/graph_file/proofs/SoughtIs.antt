@@ -9,12 +9,12 @@ use lib.ListN.{length, getD, take, drop, length-append, length-map}
 use lib.Seq.{split-at, take-at, drop-append-seam, length-take-le}
 use borrow.Author.Tests.{lt-ltb}
 use Rattle.text_field.specs.Bytes.{within, isLower, isDigit, isNameByte}
-use Rattle.text_field.specs.Number.{numberText}
+use Rattle.text_field.specs.Number.{numberText, numberMeaning}
 use Rattle.text_field.specs.Name.{nameText, isNameCells}
 use Rattle.text_field.proofs.NumberLaws.{number-back}
 use Rattle.text_field.proofs.NameLaws.{name-back}
 use Rattle.graph_file.specs.Format.{valuesOf, queries, sections, sectionAt, querySection}
-use Rattle.text_field.specs.Outcome.{done}
+use Rattle.text_field.specs.Outcome.{done, andThen}
 use Rattle.graph_file.specs.Admission.{Row, value, blank}
 use Rattle.graph_file.specs.Line.{numberTaken, readField, startsWith, readItem}
 use Rattle.graph_file.specs.File.{Stage, readStage}
@@ -26,7 +26,7 @@ use Rattle.graph_file.proofs.SoughtRows.{QueriesRead, queries-read}
 
 -- in a query's line the name comes behind the scope's number and the space
 after-scope : (v : ℕ) (u : List ℕ) → v ≤ 99999 → fromName (sectionAt querySection .row) (numberText v ++ (32 ∷ u)) ≡ u
-unfolding fromName isNameField valuesOf restOf readItem readField numberTaken startsWith sectionAt sections queries isDigit within
+unfolding fromName isNameField valuesOf restOf readItem readField numberTaken numberMeaning andThen startsWith sectionAt sections queries isDigit within
 after-scope v u h = rw (number-back v (32 ∷ u) h refl, drop-append-seam (numberText v) (32 ∷ u))
 
 name-first : (high low : ℕ) (s : List ℕ) → isNameCells high low ≡ true → nameFront (nameText high low ++ (10 ∷ s)) ≡ nameText high low
