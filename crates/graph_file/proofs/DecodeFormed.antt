@@ -4,7 +4,7 @@ use Prim.Native.Nat.{ℕ, zero, suc}
 use mathlib.Core.Path.{_≡_, refl, sym, ap, subst, _∙_}
 use mathlib.Core.Bool.{Bool, true, false}
 use mathlib.Core.Logic.{⊎-elim}
-use mathlib.Core.List.{List, [], _∷_, List·Memᴰ·not-nil, List·Memᴰ·cases-cons}
+use mathlib.Core.List.{List, [], List·Memᴰ·not-nil, List·Memᴰ·cases-cons}
 use native.Mathlib.Omega.{arith}
 use lib.Dec.{eqb}
 use lib.ListN.{drop}
@@ -14,7 +14,7 @@ use Rattle.text_field.specs.Outcome.{done}
 use Rattle.graph_file.specs.Format.{Item, sectionAt}
 use Rattle.graph_file.specs.Admission.{Row, rowOf}
 use Rattle.graph_file.specs.Line.{itemFormed, formed}
-use Rattle.graph_file.specs.File.{Piece, Stage, afterRow, oneRow, throughRows, afterNames, throughSection, throughSections, atStart, whole, cellsFollow, writeNames, writeRow, writing, madeOf, hasForm, readCells, writeText}
+use Rattle.graph_file.specs.File.{Piece, Stage, afterRow, oneRow, throughRows, afterNames, throughSection, throughSections, whole, cellsFollow, writeNames, writeRow, writing, madeOf, hasForm, readCells, writeText}
 use Rattle.graph_file.specs.Decode.{keptIf, rowsAmong, rowsIn}
 use Rattle.scope_graph.proofs.Lists.{and-left}
 use Rattle.graph_file.proofs.DecodeWay.{andThen-done, refuseIf-done, done-is, either-done, row-split, section-split, empty-nil, whole-split}
