@@ -1,5 +1,7 @@
 """Cases of listings and summaries, and the output that is due for them, by a reference written from document 01: all simple paths of a query are
 enumerated, kept where they are lawful and end at the name, and compared with each other, two by two."""
+from fractions import Fraction
+
 from case_file import Dice, bytes_of, case, sum_of
 from gym_cases import ACCEPT, DECLARED, EDGE, EXAMPLE, OPEN, ORDER, QUERY, SCOPES, SMALLEST, STEP, TOP, Refused, changed, graph, read, refused_files, text_of
 from row_cases import more_specific
@@ -100,7 +102,7 @@ class Gym:
     def summary(self):
         words = [found(self.entries(start, name)) for start, name in self.queries]
         one, several, none = (words.count(w) for w in (b"one", b"several", b"none"))
-        share = b"%d" % (one * 100 // len(words)) if words else b"-"
+        share = b"%d" % round(Fraction(one * 100, len(words))) if words else b"-"  # a fraction's half goes to the even number
         return b"queries one several none share\n%d %d %d %d %s\n" % (len(words), one, several, none, share)
 
 
@@ -267,9 +269,11 @@ def share_cases():
     one, none, several = "2 service", "2 limit", "4 twice"
     base = changed(EXAMPLE, s6=["0 hours 5", "1 service 10", "2 service 21", "4 hours 40", "4 twice 1", "4 twice 2"])
     for a, b, c, due in [
-        (1, 0, 2, "3 1 0 2 33"), (2, 0, 1, "3 2 0 1 66"), (1, 1, 1, "3 1 1 1 33"), (2, 1, 0, "3 2 1 0 66"), (0, 0, 1, "1 0 0 1 0"), (0, 1, 0, "1 0 1 0 0"),
-        (1, 0, 0, "1 1 0 0 100"), (1, 0, 99, "100 1 0 99 1"), (1, 0, 100, "101 1 0 100 0"), (99, 1, 0, "100 99 1 0 99"), (199, 1, 0, "200 199 1 0 99"),
-        (255, 1, 0, "256 255 1 0 99"), (256, 0, 0, "256 256 0 0 100"), (0, 256, 0, "256 0 256 0 0"), (0, 0, 256, "256 0 0 256 0"), (5, 1, 1, "7 5 1 1 71"),
+        (1, 0, 2, "3 1 0 2 33"), (2, 0, 1, "3 2 0 1 67"), (1, 1, 1, "3 1 1 1 33"), (2, 1, 0, "3 2 1 0 67"), (0, 0, 1, "1 0 0 1 0"), (0, 1, 0, "1 0 1 0 0"),
+        (1, 0, 0, "1 1 0 0 100"), (1, 0, 99, "100 1 0 99 1"), (1, 0, 100, "101 1 0 100 1"), (99, 1, 0, "100 99 1 0 99"), (199, 1, 0, "200 199 1 0 100"),
+        (255, 1, 0, "256 255 1 0 100"), (256, 0, 0, "256 256 0 0 100"), (0, 256, 0, "256 0 256 0 0"), (0, 0, 256, "256 0 0 256 0"), (5, 1, 1, "7 5 1 1 71"),
+        (0, 1, 2, "3 0 1 2 0"), (1, 3, 4, "8 1 3 4 12"), (3, 0, 5, "8 3 0 5 38"), (5, 2, 1, "8 5 2 1 62"), (7, 1, 0, "8 7 1 0 88"),
+        (1, 0, 199, "200 1 0 199 0"), (3, 0, 197, "200 3 0 197 2"), (5, 0, 195, "200 5 0 195 2"), (197, 1, 2, "200 197 1 2 98"), (1, 0, 255, "256 1 0 255 0"),
     ]:  # fmt: skip
         rows = [one] * a + [several] * b + [none] * c
         t = text_of(changed(base, s8=rows))
