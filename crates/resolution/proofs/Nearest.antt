@@ -9,19 +9,21 @@ use lib.Dec.{ltb, eqb, leb}
 use borrow.Author.Tests.{ltb-true, ltb-false, leb-true, leb-false, eqb-true, eqb-false, lt-ltb, le-ltb, eq-eqb, ne-eqb}
 use Rattle.resolution.specs.Share.{rounded, nearest, share, IsShare, ShareIs, ShareNearest}
 
+-- the three ways, by twice the rest and n
+module _ (one n : ℕ) where
+  pub past-half : n < 2 * (one * 100 % n) → one * 100 / n + 1 ≡ share one n
+  unfolding share nearest rounded
+  past-half h = rw (lt-ltb n (2 * (one * 100 % n)) h, rounded)
+
+  pub at-half : 2 * (one * 100 % n) ≡ n → one * 100 / n + one * 100 / n % 2 ≡ share one n
+  unfolding share nearest rounded
+  at-half e = rw (le-ltb n (2 * (one * 100 % n)) (omega arith), eq-eqb (2 * (one * 100 % n)) n e, rounded)
+
+  pub before-half : 2 * (one * 100 % n) < n → one * 100 / n ≡ share one n
+  unfolding share nearest rounded
+  before-half h = rw (le-ltb n (2 * (one * 100 % n)) (omega arith), ne-eqb (2 * (one * 100 % n)) n (λ e. omega arith), rounded)
+
 module _ (n d r : ℕ) where
-  pub past-half : n < 2 * r → d + 1 ≡ rounded n d r
-  unfolding rounded
-  past-half h = rw (lt-ltb n (2 * r) h, rounded)
-
-  pub at-half : 2 * r ≡ n → d + d % 2 ≡ rounded n d r
-  unfolding rounded
-  at-half e = rw (le-ltb n (2 * r) (omega arith), eq-eqb (2 * r) n e, rounded)
-
-  pub before-half : 2 * r < n → d ≡ rounded n d r
-  unfolding rounded
-  before-half h = rw (le-ltb n (2 * r) (omega arith), ne-eqb (2 * r) n (λ e. omega arith), rounded)
-
   rounded-small : rounded n d r ≤ d + 1
   unfolding rounded
   rounded-small = by (ltb n (2 * r)) (eqb (2 * r) n)

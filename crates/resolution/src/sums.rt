@@ -1,7 +1,7 @@
 // The summary: how many queries are found one, several and none, and the share of those found one.
 use crate::parts::row_count;
 use crate::parts::row_value;
-use crate::share::share;
+use crate::share::share_of;
 use crate::tables::hint_table;
 use crate::tables::tables_of;
 use crate::walks::found_of;
@@ -113,7 +113,7 @@ fn put_share(out: &mut [u8], k: usize, n: u64, one: u64) -> usize
     if n == 0 {
         return put_byte(out, k, 45);
     }
-    put_number(out, k, share(one, n))
+    put_number(out, k, share_of(one, n))
 }
 
 // The summary's text.

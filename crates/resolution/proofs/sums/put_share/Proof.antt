@@ -4,7 +4,7 @@ use Rattle.resolution.proofs.sums.put_share.Statement.{statement}
 use Rattle.resolution.proofs.sums.put_share.Tie as tie
 use Rattle.resolution.proofs.sums.put_share.Reads as reads
 use Rattle.resolution.proofs.sums.put_share.Lts as lts
-use Rattle.resolution.proofs.share.share.Reads as share-reads
+use Rattle.resolution.proofs.share.share_of.Reads as share-of-reads
 use Rattle.text_field.proofs.put_byte.Reads as put-byte-reads
 use Rattle.text_field.proofs.put_number.Reads as put-number-reads
 
@@ -21,8 +21,8 @@ returns : tie.Need-returns
 returns c = share-none (c .before .before .before .before .before .before .args .n) (c .before .before .before .before .before .before .args .one) _ _ (c .before .before .before .before .if1 .taken) (c .before .before .put-byte .ensures)
 
 -- src/sums.rt:116:24
-share-requires : tie.Need-share-requires
-share-requires c κs = search needs
+share-of-requires : tie.Need-share-of-requires
+share-of-requires c κs = search needs
 
 -- src/sums.rt:116:5
 put-number-requires : tie.Need-put-number-requires
@@ -34,7 +34,7 @@ same-length-2 c = search needs
 
 -- src/sums.rt:109:1
 returns-2 : tie.Need-returns-2
-returns-2 c = share-some (c .before .before .before .before .before .before .before .args .n) (c .before .before .before .before .before .before .before .args .one) _ _ _ (c .before .before .before .before .before .if1 .left) (c .before .before .before .share .ensures) (c .before .before .put-number .ensures)
+returns-2 c = share-some (c .before .before .before .before .before .before .before .args .n) (c .before .before .before .before .before .before .before .args .one) _ _ _ (c .before .before .before .before .before .if1 .left) (c .before .before .before .share-of .ensures) (c .before .before .put-number .ensures)
 
 pub put-share-spec : {M : Type 1} → statement M
 put-share-spec =
@@ -43,7 +43,7 @@ put-share-spec =
     put-byte-requires
     same-length
     returns
-    share-requires
+    share-of-requires
     put-number-requires
     same-length-2
     returns-2)
