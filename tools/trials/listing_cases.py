@@ -102,7 +102,7 @@ class Gym:
     def summary(self):
         words = [found(self.entries(start, name)) for start, name in self.queries]
         one, several, none = (words.count(w) for w in (b"one", b"several", b"none"))
-        share = b"%d" % round(Fraction(one * 100, len(words))) if words else b"-"  # a fraction's half goes to the even number
+        share = b"%d" % round(Fraction(one * 100, len(words))) if words else b"-"  # 02, K1: `round` takes a fraction's half to the even number
         return b"queries one several none share\n%d %d %d %d %s\n" % (len(words), one, several, none, share)
 
 

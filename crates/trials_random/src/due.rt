@@ -42,7 +42,7 @@ pub fn put_listing(
     put_all(out, f, rows)
 }
 
-// To the nearest per cent, in halves of one: half up, and at an exact half the even one of the two.
+// To the nearest per cent (02, K1), in halves of one: half up, and at an exact half the even one of the two.
 fn share(queries: usize, one: usize) -> usize {
     if queries == 0 {
         return 0;
