@@ -53,7 +53,7 @@ fn share(queries: usize, one: usize) -> usize {
     let halves = one % 256 * 200 + queries;
     let up = halves / (2 * queries);
     if halves % (2 * queries) == 0 {
-        return up / 2 * 2;
+        return up % 256 / 2 * 2;
     }
     up
 }
