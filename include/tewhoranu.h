@@ -2,9 +2,12 @@
  *
  * Every function is total: any bytes, any query number, memory of any length. Each answers one number:
  *
- *   1 to 9        a refusal (TEWHORANU_TOO_LONG and so on); nothing that was lent has changed
- *   16 and more   the call was carried out; what is above 16 is its result: how many cells or bytes were
- *                 written, or which case holds (TEWHORANU_FIRST and so on)
+ *   1 to 63       a refusal (TEWHORANU_TOO_LONG and so on); nothing that was lent has changed
+ *   64 and more   the call was carried out; an output is 64 + how many cells or bytes were written, a comparison or a
+ *                 judgement is 64 * (1 + case) + steps, the case being TEWHORANU_FIRST and so on, the steps 0 to 63
+ *
+ * tewhoranu_refused, tewhoranu_written, tewhoranu_case and tewhoranu_steps take an answer apart, and
+ * tewhoranu_refusal_text says in words what was refused.
  *
  * Only tewhoranu_name_sought differs: it answers a length, and 0 for any refusal.
  *
@@ -18,7 +21,7 @@
  * No call keeps a pointer, allocates, or has state: calls on different memory may run at the same time.
  *
  * The contracts are proved: see crates/host/src and docs/PROMISES.md. Nothing checks these declarations against them
- * but the test beside this file.
+ * but the host test, tests/host.
  */
 #ifndef TEWHORANU_H
 #define TEWHORANU_H
@@ -42,18 +45,18 @@ extern "C" {
 #define TEWHORANU_NO_PATH_ROW 8   /* a path row not of its form */
 #define TEWHORANU_NO_ROOM 9       /* an output longer than the memory lent for it, or more steps than records */
 
-/* An answer of this and more is no refusal. */
-#define TEWHORANU_DONE 16
+/* An answer of this and more is no refusal. Cases are as far apart. */
+#define TEWHORANU_DONE 64
 
-/* tewhoranu_compare */
-#define TEWHORANU_FIRST 16   /* the first row is more specific */
-#define TEWHORANU_SECOND 17  /* the second row is more specific */
-#define TEWHORANU_NEITHER 18 /* neither is */
+/* The cases of tewhoranu_compare */
+#define TEWHORANU_FIRST 0   /* the first row is more specific */
+#define TEWHORANU_SECOND 1  /* the second row is more specific */
+#define TEWHORANU_NEITHER 2 /* neither is */
 
-/* tewhoranu_judge */
-#define TEWHORANU_VISIBLE 16   /* an entry of the query */
-#define TEWHORANU_SHADOWED 17  /* reached, and another reached path is more specific */
-#define TEWHORANU_UNREACHED 18 /* neither */
+/* The cases of tewhoranu_judge */
+#define TEWHORANU_VISIBLE 0   /* an entry of the query */
+#define TEWHORANU_SHADOWED 1  /* reached, and another reached path is more specific */
+#define TEWHORANU_UNREACHED 2 /* neither */
 
 /* Sizes that always serve: cells of a graph table, bytes of a file, records of a step table, bytes of a summary. A
  * listing has no such size: 65,536 bytes is what the program lends. */
@@ -78,17 +81,50 @@ typedef struct {
 /* Was the call refused? */
 static inline int tewhoranu_refused(uint64_t answer) { return answer < TEWHORANU_DONE; }
 
-/* How many cells or bytes were written by a call that was not refused. */
+/* How many cells or bytes were written, of an output that was not refused. */
 static inline size_t tewhoranu_written(uint64_t answer) { return (size_t)(answer - TEWHORANU_DONE); }
+
+/* Which case holds, of a comparison or a judgement that was not refused. */
+static inline unsigned tewhoranu_case(uint64_t answer) { return (unsigned)(answer / TEWHORANU_DONE - 1); }
+
+/* How many steps come with the case: none are counted, so 0. */
+static inline unsigned tewhoranu_steps(uint64_t answer) { return (unsigned)(answer % TEWHORANU_DONE); }
+
+/* What was refused, in words. */
+static inline const char *tewhoranu_refusal_text(uint64_t answer)
+{
+    switch (answer) {
+    case TEWHORANU_TOO_LONG:
+        return "the file is longer than 32,768 bytes";
+    case TEWHORANU_MALFORMED:
+        return "a line or a table's row is not of its section's form, or a section is missing";
+    case TEWHORANU_OUT_OF_RANGE:
+        return "a scope, state, mark, count or label is outside its range or list";
+    case TEWHORANU_NOT_ASCENDING:
+        return "a row repeats or does not ascend";
+    case TEWHORANU_TOO_MANY_ROWS:
+        return "a section has a row past its limit";
+    case TEWHORANU_NO_ORDER:
+        return "the order has a pair with equal ends, or pairs a, b and b, c without a, c";
+    case TEWHORANU_NO_QUERY:
+        return "there is no query of this number";
+    case TEWHORANU_NO_PATH_ROW:
+        return "a path row is not of its form";
+    case TEWHORANU_NO_ROOM:
+        return "the memory lent is too short for the output or the steps";
+    default:
+        return "no refusal that this header knows";
+    }
+}
 
 /* Reads a gym file's text into a graph table: cell 0 is the file's form, 0, then come six cells for each row
  * (docs/ARCHITECTURE.md, "The graph table").
- * Answers 16 and the number of cells, at most TEWHORANU_CELLS; cells behind them stay as they were.
+ * Answers 64 and the number of cells, at most TEWHORANU_CELLS; cells behind them stay as they were.
  * Refuses by 1; then from the top line by line 2, 5, 3, 4; then 6; then 9. */
 uint64_t tewhoranu_read(const uint8_t *text, size_t text_length, uint64_t *table, size_t table_length);
 
 /* Writes a graph table as a gym file's text: the inverse of reading.
- * Answers 16 and the number of bytes, at most TEWHORANU_TEXT; bytes behind them stay as they were.
+ * Answers 64 and the number of bytes, at most TEWHORANU_TEXT; bytes behind them stay as they were.
  * Refuses by 2 where cell 0 is missing or no form of file; then from the first row, row by row, by 2, 5, 3, 4; then by
  * 6; then by 9. */
 uint64_t tewhoranu_write(const uint64_t *table, size_t table_length, uint8_t *out, size_t out_length);
@@ -101,20 +137,20 @@ uint64_t tewhoranu_write(const uint64_t *table, size_t table_length, uint8_t *ou
 uint64_t tewhoranu_name_sought(const uint8_t *text, size_t text_length, size_t query, uint64_t *place);
 
 /* Writes the listing of a query of the file: what it sees, and whether rows still to come could change that.
- * Answers 16 and the number of bytes; bytes behind them stay as they were.
+ * Answers 64 and the number of bytes; bytes behind them stay as they were.
  * Refuses by 1 to 6 as tewhoranu_read does, then 7, then 9. */
 uint64_t tewhoranu_listing(const uint8_t *text, size_t text_length, size_t query, uint8_t *out, size_t out_length);
 
 /* Judges a path row for a query of the file.
- * Answers TEWHORANU_VISIBLE, TEWHORANU_SHADOWED or TEWHORANU_UNREACHED, and puts the row's steps into the table;
- * records behind them stay as they were.
+ * Answers by a case, TEWHORANU_VISIBLE, TEWHORANU_SHADOWED or TEWHORANU_UNREACHED, and puts the row's steps into the
+ * table; records behind them stay as they were.
  * Refuses by 1 to 6 as tewhoranu_read does, then 7, then 8, then 9 where the steps outnumber the records. */
 uint64_t tewhoranu_judge(const uint8_t *text, size_t text_length, size_t query, const uint8_t *row, size_t row_length,
                          tewhoranu_step *steps, size_t steps_length);
 
 /* Compares two path rows by the order of the file, by their letters and scopes alone.
- * Answers TEWHORANU_FIRST, TEWHORANU_SECOND or TEWHORANU_NEITHER, and puts each row's steps into the table lent for
- * it; records behind them stay as they were.
+ * Answers by a case, TEWHORANU_FIRST, TEWHORANU_SECOND or TEWHORANU_NEITHER, and puts each row's steps into the table
+ * lent for it; records behind them stay as they were.
  * Refuses by 1 to 6 as tewhoranu_read does, then 8 for the first row, 8 for the second, then 9 where the steps of one
  * outnumber its records. */
 uint64_t tewhoranu_compare(const uint8_t *text, size_t text_length, const uint8_t *first, size_t first_length,
@@ -123,7 +159,7 @@ uint64_t tewhoranu_compare(const uint8_t *text, size_t text_length, const uint8_
 
 /* Writes the summary of the file: how many queries it has, how many are found one, several and none, and the share of
  * those found one, in whole per cent to the nearest, an exact half to the even one.
- * Answers 16 and the number of bytes, at most TEWHORANU_SUMMARY; bytes behind them stay as they were.
+ * Answers 64 and the number of bytes, at most TEWHORANU_SUMMARY; bytes behind them stay as they were.
  * Refuses by 1 to 6 as tewhoranu_read does, then 9. */
 uint64_t tewhoranu_summary(const uint8_t *text, size_t text_length, uint8_t *out, size_t out_length);
 

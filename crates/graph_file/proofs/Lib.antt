@@ -34,4 +34,8 @@ pub mod DecodeOrder
 pub mod DecodePlaces
 pub mod DecodeAccepted
 pub mod DecodeExample
+pub mod SoughtLines
+pub mod SoughtRows
+pub mod SoughtIs
+pub mod NameOrderLaws
 pub mod Refusals

@@ -5,7 +5,7 @@ use Prim.Native.Nat.{ℕ}
 use Rattle.scope_graph.specs.Computed.{Standing, is-visible, is-shadowed, is-unreached, judged}
 use Rattle.text_field.specs.Bytes.{within, isDigit, isCapital}
 use Rattle.text_field.specs.Number.{growing, digitsFrom, numberHere}
-use Rattle.graph_file.specs.Outcome.{Outcome, done, andThen, refuseIf}
+use Rattle.text_field.specs.Outcome.{Outcome, done, andThen, refuseIf}
 use Rattle.graph_file.specs.File.{isEmpty}
 use Rattle.graph_file.specs.Line.{startsWith}
 use Rattle.path_row.specs.Form.{atMost, numberUpTo, stepBy, stepHere, stepsOf, afterSteps, startBy, markBy, headHere, rowBy, rowHere}

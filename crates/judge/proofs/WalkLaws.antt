@@ -167,7 +167,7 @@ module _ (edges delta goal order free : List ℕ) (s q l t : ℕ) (hs : List (Ho
       pub cut-on : r ≤ 15 → (free′ : List ℕ) → free′ ≡ set free t 0 → cut fuel free s q (hopTo l t ∷ hs) e ≡ cut (fuel - 1) free′ t r hs e
       cut-on g free′ m = split fuel h ∙ rw (← k, f) (leads-on edges delta goal free q l t r is _ g ∙ rw (m, free-taken free t))
 
--- the same with the steps that are left of a row
+-- a row is reached, and an end cut, along the steps that are left of the row
 module _ (table edges decls delta goal : List ℕ) (high low mark : ℕ) (row : List ℕ) (free : List ℕ) (s q i left : ℕ) where
   abbrev reaches : List ℕ → ℕ → ℕ → ℕ → ℕ → Bool
   reaches free′ s′ q′ left′ i′ = rowReached edges decls delta goal high low mark free′ s′ q′ (hops table row left′ i′)

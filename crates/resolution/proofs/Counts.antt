@@ -15,16 +15,16 @@ use Rattle.text_field.specs.Buffer.{Buf, put, puts}
 use Rattle.text_field.proofs.NumberLaws.{length-below}
 use Rattle.text_field.proofs.BufferLaws.{puts-then}
 use Rattle.graph_file.specs.Format.{querySection, queries, sections, sectionAt}
-use Rattle.graph_file.specs.Outcome.{refused, done}
-use Rattle.graph_file.specs.File.{answer, leaves}
-use Rattle.graph_file.specs.Decode.{rowsIn, rulesOf, queryOf, queriesOf}
+use Rattle.text_field.specs.Outcome.{refused, done}
+use Rattle.text_field.specs.Answer.{answer, leaves}
+use Rattle.graph_file.specs.Decode.{rowsIn, rulesOf, queryOf, queriesOf, WasRead}
 use Rattle.graph_file.specs.Admission.{value, blank}
 use Rattle.prepared.specs.Sections.{partOf, rowsOf}
 use Rattle.resolution.specs.Share.{share}
 use Rattle.resolution.specs.Summary.{summaryLine, shareText, summaryText}
 use Rattle.resolution.specs.declared.sums.Figures.{Figures}
 use Rattle.resolution.specs.Listing.{foundFor, queryAt, isFound, countFound, summaryOf}
-use Rattle.resolution.specs.Asked.{WasRead, queryFrom, foundNumber}
+use Rattle.resolution.specs.Asked.{queryFrom, foundNumber}
 use Rattle.resolution.specs.Figures.{figuresAfter, noFigures, figuresOver, fieldText, countsText}
 use Rattle.resolution.proofs.Nearest.{share-small}
 use Rattle.resolution.proofs.Given.{accepted}

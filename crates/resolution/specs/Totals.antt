@@ -8,7 +8,7 @@ use Rattle.scope_graph.specs.Graph.{Query}
 use Rattle.scope_graph.specs.Rows.{language}
 use Rattle.scope_graph.specs.Computed.{Found, found-none, found-one, found-several}
 use Rattle.scope_graph.specs.Listing.{FoundIs}
-use Rattle.graph_file.specs.Outcome.{done}
+use Rattle.text_field.specs.Outcome.{done}
 use Rattle.graph_file.specs.File.{readCells}
 use Rattle.graph_file.specs.Decode.{rulesOf, graphOf, queriesOf}
 use Rattle.resolution.specs.Summary.{summaryText}

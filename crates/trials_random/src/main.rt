@@ -16,12 +16,12 @@ use cells::plus;
 use completed::NONE;
 use completed::ROWS;
 use completed::TOO_MANY;
-use graph_file::Answer;
 use gym::SIZE;
 use paths::MOST;
 use paths::ROOM;
 use resolution::listing;
 use resolution::summary;
+use text_field::Answer;
 
 const GYMS: usize = 6000;
 
