@@ -4,12 +4,13 @@
  *
  *   1 to 63       a refusal (TEWHORANU_TOO_LONG and so on); nothing that was lent has changed
  *   64 and more   the call was carried out; an output is 64 + how many cells or bytes were written, a comparison or a
- *                 judgement is 64 * (1 + case) + steps, the case being TEWHORANU_FIRST and so on, the steps 0 to 63
+ *                 judgement is 64 * (1 + case) + n, the case being TEWHORANU_FIRST and so on, n from 0 to 63; n is 0
+ *                 for now, and has room for a number of equal steps
  *
- * tewhoranu_refused, tewhoranu_written, tewhoranu_case and tewhoranu_steps take an answer apart, and
+ * tewhoranu_refused, tewhoranu_written, tewhoranu_case and tewhoranu_equal_steps take an answer apart, and
  * tewhoranu_refusal_text says in words what was refused.
  *
- * Only tewhoranu_name_sought differs: it answers a length, and 0 for any refusal.
+ * Only tewhoranu_name_sought differs: it answers a length, and 0 for any refusal. None of the five is for its answer.
  *
  * What a caller owes, for every call:
  *   - A pointer is followed by its length: bytes for text, cells for a graph table, records for a step table.
@@ -37,11 +38,11 @@ extern "C" {
  * 8, the host 7 and 9. */
 #define TEWHORANU_TOO_LONG 1      /* the file is longer than 32,768 bytes */
 #define TEWHORANU_MALFORMED 2     /* a line, or a row of a graph table, not of its section's form; a missing section */
-#define TEWHORANU_OUT_OF_RANGE 3  /* a scope, state, mark, count or label outside its range or list */
-#define TEWHORANU_NOT_ASCENDING 4 /* a row that repeats or does not ascend */
-#define TEWHORANU_TOO_MANY_ROWS 5 /* a row past its section's limit */
-#define TEWHORANU_NO_ORDER 6      /* an order pair with equal ends, or pairs a, b and b, c without a, c */
-#define TEWHORANU_NO_QUERY 7      /* a query number at or past the number of queries */
+#define TEWHORANU_OUT_OF_RANGE 3  /* a value that the file has no room for, or a label that it does not list */
+#define TEWHORANU_NOT_ASCENDING 4 /* a row out of its sequence, or there twice */
+#define TEWHORANU_TOO_MANY_ROWS 5 /* a section has more rows than it may */
+#define TEWHORANU_NO_ORDER 6      /* the order prefers an end to itself, or lacks a pair that follows from two others */
+#define TEWHORANU_NO_QUERY 7      /* the file has no query of this number */
 #define TEWHORANU_NO_PATH_ROW 8   /* a path row not of its form */
 #define TEWHORANU_NO_ROOM 9       /* an output longer than the memory lent for it, or more steps than records */
 
@@ -58,12 +59,13 @@ extern "C" {
 #define TEWHORANU_SHADOWED 1  /* reached, and another reached path is more specific */
 #define TEWHORANU_UNREACHED 2 /* neither */
 
-/* Sizes that always serve: cells of a graph table, bytes of a file, records of a step table, bytes of a summary. A
- * listing has no such size: 65,536 bytes is what the program lends. */
+/* Sizes that always serve: cells of a graph table, bytes of a file, records of a step table, bytes of a summary. */
 #define TEWHORANU_CELLS 12271
 #define TEWHORANU_TEXT 32768
 #define TEWHORANU_STEPS 63
 #define TEWHORANU_SUMMARY 64
+
+/* What the program lends for a listing. No size serves every listing. */
 #define TEWHORANU_LISTING 65536
 
 /* Stack that serves every call, in bytes. The walk is at most 64 + 512 calls deep, of about 2,000 bytes each, and a search
@@ -87,8 +89,8 @@ static inline size_t tewhoranu_written(uint64_t answer) { return (size_t)(answer
 /* Which case holds, of a comparison or a judgement that was not refused. */
 static inline unsigned tewhoranu_case(uint64_t answer) { return (unsigned)(answer / TEWHORANU_DONE - 1); }
 
-/* How many steps come with the case: none are counted, so 0. */
-static inline unsigned tewhoranu_steps(uint64_t answer) { return (unsigned)(answer % TEWHORANU_DONE); }
+/* How many equal steps come with the case: none are counted for now, so 0. This is not how many records were filled. */
+static inline unsigned tewhoranu_equal_steps(uint64_t answer) { return (unsigned)(answer % TEWHORANU_DONE); }
 
 /* What was refused, in words. */
 static inline const char *tewhoranu_refusal_text(uint64_t answer)
@@ -132,8 +134,8 @@ uint64_t tewhoranu_write(const uint64_t *table, size_t table_length, uint8_t *ou
 /* Finds the name that a query of the file seeks.
  * Answers its length, 1 to 16, and puts the place of its first byte in the text into *place: the name is
  * text[*place] to text[*place + length - 1].
- * Answers 0 where the file or the query number is refused, and leaves *place as it was; tewhoranu_listing of the same
- * query tells the refusal. */
+ * Answers 0 if there is no such name, since a refusal by 1 to 7 stands in the way, and leaves *place as it was;
+ * tewhoranu_listing of the same query tells which. The answer is a length: do not hand it to tewhoranu_refused. */
 uint64_t tewhoranu_name_sought(const uint8_t *text, size_t text_length, size_t query, uint64_t *place);
 
 /* Writes the listing of a query of the file: what it sees, and whether rows still to come could change that.

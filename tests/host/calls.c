@@ -26,7 +26,7 @@ static void expect(int holds, const char *what)
 /* Is the answer this case, with no steps counted? */
 static int is_case(uint64_t answer, unsigned which)
 {
-    return !tewhoranu_refused(answer) && tewhoranu_case(answer) == which && tewhoranu_steps(answer) == 0;
+    return !tewhoranu_refused(answer) && tewhoranu_case(answer) == which && tewhoranu_equal_steps(answer) == 0;
 }
 
 static const uint8_t *bytes(const char *string) { return (const uint8_t *)string; }

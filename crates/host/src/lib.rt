@@ -1,5 +1,5 @@
 // What a host written in C or Rust calls. A slice is passed as its address and its length; every answer is
-// one number, and include/tewhoranu.h takes it apart.
+// one number, which include/tewhoranu.h takes apart; the name sought's is a length.
 mod numbers;
 
 use crate::numbers::compared_number;

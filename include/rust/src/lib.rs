@@ -172,8 +172,8 @@ pub fn write(table: &[u64], out: &mut [u8]) -> Result<usize, Refusal> {
     written(unsafe { library::tewhoranu_write(table.as_ptr(), table.len(), out.as_mut_ptr(), out.len()) })
 }
 
-/// The name that a query of the file seeks, as the part of the text that holds it; `None` where the file or the query
-/// number is refused.
+/// The name that a query of the file seeks, as the part of the text that holds it; `None` if a refusal by 1 to 7 stands
+/// in the way.
 pub fn name_sought(text: &[u8], query: usize) -> Option<&[u8]> {
     let mut place = 0;
     // SAFETY: as said above.
