@@ -33,6 +33,7 @@ pub mod DecodeTable
 pub mod DecodeOrder
 pub mod DecodePlaces
 pub mod DecodeAccepted
+pub mod DecodeFormed
 pub mod DecodeExample
 pub mod SoughtLines
 pub mod SoughtRows

@@ -11,11 +11,20 @@ use borrow.Author.Tests.{lt-ltb, ltb-true, eq-eqb, eqb-true, ne-eqb}
 use Rattle.text_field.specs.Name.{isNameCells, nameBefore, cellsBefore}
 use Rattle.text_field.proofs.NameLaws.{cells-equal}
 use Rattle.text_field.proofs.OrderLaws.{cells-ordered}
-use Rattle.scope_graph.proofs.Lists.{and-both, or-left, or-right}
-use Rattle.graph_file.specs.Format.{sections, sectionAt, declarations}
+use Rattle.scope_graph.specs.Language.{_∈_}
+use Rattle.scope_graph.specs.Listing.{Pairwise}
+use Rattle.text_field.specs.Outcome.{done}
+use Rattle.scope_graph.proofs.Lists.{here, there, and-both, or-left, or-right}
+use Rattle.graph_file.specs.Format.{name, field, sections, sectionAt, declarations, declarationSection}
 use Rattle.graph_file.specs.Admission.{Row, value, keyLess}
-use Rattle.graph_file.specs.NameOrder.{nameIn, DeclaredBefore, DeclarationsAscend}
+use Rattle.graph_file.specs.Line.{itemFormed, fieldFormed}
+use Rattle.graph_file.specs.File.{readCells}
+use Rattle.graph_file.specs.Decode.{rowsIn}
+use Rattle.graph_file.specs.NameOrder.{nameIn, DeclaredBefore, DeclarationsAscend, ReadDeclarationsAscend}
+use Rattle.graph_file.proofs.DecodeWay.{read-admitted}
 use Rattle.graph_file.proofs.DecodeRows.{KeyBefore, key-before}
+use Rattle.graph_file.proofs.DecodeTable.{table-ascends}
+use Rattle.graph_file.proofs.DecodeFormed.{read-formed}
 
 -- what is before by the key passes the test
 before-key : (key : List ℕ) (a b : Row) → KeyBefore key a b → keyLess key a b ≡ true
@@ -71,3 +80,22 @@ pub declarations-ascend : DeclarationsAscend
 unfolding sectionAt sections declarations
 declarations-ascend a b named named′ =
     (λ h. declared a b named named′ (key-before (0 ∷ 1 ∷ 2 ∷ 3 ∷ []) a b h), λ h. before-key (0 ∷ 1 ∷ 2 ∷ 3 ∷ []) a b (by-key a b named named′ h))
+
+-- rows with names that ascend by the key
+all-declared : (rows : List Row) → ((row : Row) → row ∈ rows → isNameCells (value row 1) (value row 2) ≡ true) → Pairwise (KeyBefore (0 ∷ 1 ∷ 2 ∷ 3 ∷ [])) rows
+    → Pairwise DeclaredBefore rows
+all-declared [] n p = tt
+all-declared (row ∷ rows) n p =
+    ((λ later m. declared row later (n row here) (n later (there m)) (p .0 later m)), all-declared rows (λ later m. n later (there m)) (p .1))
+
+names-read : (text cells : List ℕ) → readCells text ≡ done cells → (row : Row) → row ∈ rowsIn declarationSection cells → isNameCells (value row 1) (value row 2) ≡ true
+unfolding sectionAt sections declarations itemFormed fieldFormed
+names-read text cells e row m = read-formed declarationSection text cells e row m (field name 1) (there (there here))
+
+pub read-declarations-ascend : ReadDeclarationsAscend
+unfolding sectionAt sections declarations
+read-declarations-ascend text cells e = record {
+  names = names-read text cells e;
+  ascend = all-declared (rowsIn declarationSection cells) (names-read text cells e)
+      (table-ascends cells (read-admitted text cells e) declarationSection (omega arith) refl);
+}

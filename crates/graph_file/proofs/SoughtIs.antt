@@ -1,5 +1,5 @@
--- The name sought is the query's name, at the place of that name in the query's line
--- (specs/Sought). Assumes nothing.
+-- The name sought is the query's name, at the place of that name in the query's line, and nothing
+-- where there is no such query (specs/Sought). Assumes nothing.
 use Prim.Native.Nat.{ℕ, zero, suc, _+_, _-_, _≤_, _<_}
 use mathlib.Core.Path.{_≡_, refl, sym, ap, _∙_}
 use mathlib.Core.Bool.{true}
@@ -7,20 +7,21 @@ use mathlib.Core.List.{List, [], _∷_, _++_, map, append-assoc}
 use native.Mathlib.Omega.{arith}
 use lib.ListN.{length, getD, take, drop, length-append, length-map}
 use lib.Seq.{split-at, take-at, drop-append-seam, length-take-le}
-use borrow.Author.Tests.{lt-ltb}
+use borrow.Author.Tests.{lt-ltb, le-ltb}
 use Rattle.text_field.specs.Bytes.{within, isLower, isDigit, isNameByte}
 use Rattle.text_field.specs.Number.{numberText, numberMeaning}
-use Rattle.text_field.specs.Name.{nameText, isNameCells}
+use Rattle.text_field.specs.Name.{nameText, isNameCells, nameHere}
 use Rattle.text_field.proofs.NumberLaws.{number-back}
-use Rattle.text_field.proofs.NameLaws.{name-back}
+use Rattle.text_field.proofs.NameLaws.{name-back, cells-name}
 use Rattle.graph_file.specs.Format.{valuesOf, queries, sections, sectionAt, querySection}
-use Rattle.text_field.specs.Outcome.{done, andThen}
+use Rattle.text_field.specs.Outcome.{Outcome, refused, done, andThen}
 use Rattle.graph_file.specs.Admission.{Row, value, blank}
 use Rattle.graph_file.specs.Line.{numberTaken, readField, startsWith, readItem}
-use Rattle.graph_file.specs.File.{Stage, readStage}
+use Rattle.graph_file.specs.File.{Stage, readStage, madeOf, readCells}
 use Rattle.graph_file.specs.Decode.{rulesOf, nameAt, queryOf, rowsIn, queriesOf}
 use Rattle.graph_file.specs.NameSought.{afterLines, lineCount, namePart, restOf, isNameField, fromName, queryFrom, fromWithin, fromSought, nameFront, nameSought, placeFrom, placeSought}
-use Rattle.graph_file.specs.Sought.{TableQuery, seekText, queryLines, beforeLine, SoughtIn, SoughtRight}
+use Rattle.graph_file.specs.Sought.{TableQuery, seekText, queryLines, beforeLine, SoughtIn, SoughtRight, NothingSought, SoughtNone}
+use Rattle.graph_file.proofs.SoughtLaws.{nowhere}
 use Rattle.graph_file.proofs.SoughtLines.{count-append, Ended, ended-line, ended-append, rowLine, rowLines, Named, AllNamed, named-apart, lines-append, line-then, lines-ended, lines-count}
 use Rattle.graph_file.proofs.SoughtRows.{QueriesRead, queries-read}
 
@@ -148,6 +149,7 @@ module _ (cells : List ℕ) where
             whole ∙ line-there base ended a row b named ∙ ap (around (base ++ rowLines a)) after
             ∙ ap (λ (s : List ℕ). around s (queryLines cells (drop (suc q) (queriesOf cells)))) before-is;
         name = name;
+        is-name = cells-name (value row 1) (value row 2) (this base ended a row b named .name) .name;
         from = ap (λ (s : List ℕ). length text - length s) found ∙ ap (λ (t : List ℕ). length t - length (last base ended a row b named)) whole ∙ place-found base ended a row b named ∙ ap (λ (s : List ℕ). length s + length (numberText (value row 0)) + 1) before-is;
         to = ap (λ (s : List ℕ). length text - length (fromSought text q) + length s) name;
       }
@@ -158,3 +160,30 @@ sought-right text cells e q h d =
     let rows = rowsIn querySection cells in
     let k : q < length rows = rw (length-map rows (queryOf (rulesOf cells))) at h in
     rw (query-at cells q rows d k) (row-sought cells text (queries-read text cells e) q k)
+
+-- where no part of the text is sought
+nothing : (text : List ℕ) (q : ℕ) → fromSought text q ≡ [] → NothingSought text q
+unfolding nameSought placeSought nameFront namePart nameHere
+nothing text q e =
+    let p = nowhere text (fromSought text q) e in
+    record { name = ap nameFront e; from = sym (p .0); to = sym (p .1) }
+
+from-refused : (text : List ℕ) (q n : ℕ) → readCells text ≡ refused n → fromSought text q ≡ []
+unfolding readCells madeOf andThen fromSought fromWithin
+from-refused text q n e = go (readStage text) e
+  where
+    go : (o : Outcome Stage) → madeOf o ≡ refused n → fromWithin o text q ≡ []
+    go (refused m) f = refl
+    go (done g) f = absurd (let z : _≡_ {A = ℕ} 0 1 = cc in omega arith)
+
+from-absent : (text cells : List ℕ) → QueriesRead text cells → (q : ℕ) → length (queriesOf cells) ≤ q → fromSought text q ≡ []
+unfolding queriesOf queryFrom
+from-absent text cells r q h =
+    let none : r .stage .sofar .rows ≤ q = omega (arith, h, r .count, length-map (rowsIn querySection cells) (queryOf (rulesOf cells))) in
+    sought-by text q (r .stage) (r .came) ∙ rw (le-ltb q (r .stage .sofar .rows) none, queryFrom)
+
+pub sought-none : SoughtNone
+sought-none = record {
+  file-refused = λ text n e q. nothing text q (from-refused text q n e);
+  query-absent = λ text cells e q h. nothing text q (from-absent text cells (queries-read text cells e) q h);
+}

@@ -27,6 +27,7 @@ use Rattle.graph_file.specs.File.{Stage, readStage}
 use Rattle.graph_file.specs.Table.{sofarAt}
 use Rattle.graph_file.specs.Reader.{stageAt, refusedOr, partOutcome}
 use Rattle.graph_file.specs.NameSought.{afterLines, lineCount, namePart, restOf, isNameField, fromName, queryFrom, fromWithin, fromSought, nameFront, nameSought, placeFrom, placeSought}
+use Rattle.graph_file.specs.Sought.{SoughtThere}
 
 -- a byte more
 pub count-step : (b : ℕ) (s : List ℕ) → lineCount (b ∷ s) ≡ lineCount (b ∷ []) + lineCount s
@@ -321,9 +322,7 @@ place-after s n k from to d e f =
     in (z, f ∙ ap (λ (y : List ℕ). from + length (nameFront y)) y ∙ ap (λ (m : ℕ). m + length (nameFront x)) z)
 
 -- The part of the text at the place sought is the name sought.
-pub sought-there : (text : List ℕ) (q : ℕ)
-    → (take (placeSought text q .to - placeSought text q .from) (drop (placeSought text q .from) text) ≡ nameSought text q)
-    × ((placeSought text q .from ≤ placeSought text q .to) × (placeSought text q .to ≤ length text))
+pub sought-there : SoughtThere
 unfolding placeSought placeFrom nameSought
 sought-there text q =
     let x = fromSought text q
@@ -335,7 +334,7 @@ sought-there text q =
     in (ap (λ (n : ℕ). take n (drop (length text - length x) text)) z ∙ ap (take (length (nameFront x))) d ∙ k .0, (omega arith, omega (arith, k .1, b)))
 
 -- the whole answer: the text's end where the file or the query's number is refused
-nowhere : (text x : List ℕ) → x ≡ [] → (length text ≡ placeFrom text x .from) × (length text ≡ placeFrom text x .to)
+pub nowhere : (text x : List ℕ) → x ≡ [] → (length text ≡ placeFrom text x .from) × (length text ≡ placeFrom text x .to)
 unfolding placeFrom nameFront namePart nameHere
 nowhere text x e =
     let z : length text ≡ length text - length x = at-end text x e

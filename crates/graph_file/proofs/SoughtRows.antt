@@ -1,23 +1,24 @@
 -- A written file ends with the line of each of its query rows. Assumes nothing.
 use Prim.Native.Nat.{ℕ, zero, suc, _+_}
 use mathlib.Core.Path.{_≡_, refl, sym, ap, _∙_}
-use mathlib.Core.Bool.{Bool, true, false, _&&_}
+use mathlib.Core.Bool.{Bool, true, false}
 use mathlib.Core.Logic.{⊎-elim}
 use mathlib.Core.List.{List, [], _∷_, _++_, append-nil, append-assoc}
 use native.Mathlib.Omega.{arith}
-use lib.Dec.{eqb, ltb, leb}
+use lib.Dec.{eqb, ltb}
 use lib.ListN.{length, drop}
 use borrow.Author.Tests.{eq-eqb, ne-eqb, leb-true}
-use Rattle.text_field.specs.Name.{isNameCells}
-use Rattle.text_field.proofs.ByteLaws.{both}
-use Rattle.graph_file.specs.Format.{everyItem, queries, sections, sectionAt, form, querySection}
+use Rattle.scope_graph.specs.Language.{_∈_}
+use Rattle.scope_graph.proofs.Lists.{here, there}
+use Rattle.graph_file.specs.Format.{field, scope, name, queries, sections, sectionAt, form, querySection}
 use Rattle.text_field.specs.Outcome.{done}
-use Rattle.graph_file.specs.Admission.{Row, value, blank, begun, taken}
-use Rattle.graph_file.specs.Line.{lineText, itemText, fieldText, itemFormed, fieldFormed, formed}
+use Rattle.graph_file.specs.Admission.{Row, blank, begun, taken}
+use Rattle.graph_file.specs.Line.{lineText, itemText, fieldText, itemFormed, fieldFormed}
 use Rattle.graph_file.specs.File.{Piece, Stage, afterRow, oneRow, throughRows, afterNames, throughSection, throughSections, atStart, whole, reading, writing, writeNames, readStage, madeOf, readCells}
 use Rattle.graph_file.specs.Decode.{keptIf, rowsAmong, rowsIn}
 use Rattle.graph_file.proofs.DecodeWay.{andThen-done, refuseIf-done, done-is, either-done, row-split, section-split, empty-nil, whole-split}
 use Rattle.graph_file.proofs.DecodeSections.{joinedIf, among-row, kept-joined, joined-none}
+use Rattle.graph_file.proofs.DecodeFormed.{read-formed}
 use Rattle.graph_file.proofs.InverseWays.{whole-back}
 use Rattle.graph_file.proofs.InverseReading.{reading-mirrored}
 use Rattle.graph_file.proofs.InverseWriting.{row-written, rowOf-five}
@@ -28,19 +29,22 @@ line-is : (letters : List ℕ) (row : Row) → lineText letters (sectionAt query
 unfolding lineText itemText fieldText sectionAt sections queries rowLine
 line-is letters row = refl
 
-named-row : (row : Row) → formed (sectionAt querySection .row) row ≡ true → Named row
-unfolding formed everyItem itemFormed fieldFormed sectionAt sections queries
-named-row row h =
-    let a = both (leb (value row 0) 99999 && (isNameCells (value row 1) (value row 2) && true)) _ h in
-    let b = both (leb (value row 0) 99999) (isNameCells (value row 1) (value row 2) && true) (a .0) in
-    let c = both (isNameCells (value row 1) (value row 2)) true (b .1) in
-    record { scope = leb-true _ _ (b .0); name = c .0 }
+-- the rows of a table that was read have names
+rows-named : (rows : List Row) → ((row : Row) → row ∈ rows → Named row) → AllNamed rows
+rows-named [] h = tt
+rows-named (row ∷ rows) h = (h row here, rows-named rows (λ later m. h later (there m)))
+
+read-named : (text cells : List ℕ) → readCells text ≡ done cells → AllNamed (rowsIn querySection cells)
+unfolding itemFormed fieldFormed sectionAt sections queries
+read-named text cells e = rows-named (rowsIn querySection cells)
+    (λ row m.
+    let item = read-formed querySection text cells e row m in
+    record { scope = leb-true _ _ (item (field scope 0) here); name = item (field name 1) (there (there here)) })
 
 -- one row of section k written: what it leaves of the query rows, and for a query its line
 record OneWritten (k : ℕ) (rest : List ℕ) (p : Piece) : Type 0 where
   cells : rowsAmong querySection rest ≡ joinedIf (eqb k querySection) (p .row ∷ []) (rowsAmong querySection (p .rest))
   text : k ≡ querySection → p .made ≡ rowLine (p .row)
-  named : k ≡ querySection → Named (p .row)
 
 one-written : (k : ℕ) (letters rest : List ℕ) (p : Piece) → writing .more k rest ≡ true → writing .row k letters rest ≡ done p → OneWritten k rest p
 unfolding writing
@@ -49,7 +53,6 @@ one-written k letters rest p m e =
     rw (r .piece) (record {
       cells = ap (rowsAmong querySection) (r .stands) ∙ among-row querySection k _ _ (rowOf-five rest) ∙ kept (eqb k querySection) _ _;
       text = λ z. rw z (line-is letters _);
-      named = λ z. named-row _ (rw z at (r .proper));
     })
   where
     kept : (t : Bool) (row : Row) (rows : List Row) → keptIf t row rows ≡ joinedIf t (row ∷ []) rows
@@ -61,7 +64,6 @@ record RowsWritten (k : ℕ) (g h : Stage) : Type 0 where
   cells : rowsAmong querySection (g .rest) ≡ joinedIf (eqb k querySection) rows (rowsAmong querySection (h .rest))
   count : h .sofar .rows ≡ g .sofar .rows + length rows
   text : k ≡ querySection → h .made ≡ g .made ++ rowLines rows
-  named : k ≡ querySection → AllNamed rows
 
 joined-more : (t : Bool) (row : Row) (rows more : List Row) → joinedIf t (row ∷ []) (joinedIf t rows more) ≡ joinedIf t (row ∷ rows) more
 unfolding joinedIf
@@ -75,7 +77,6 @@ none-written k g h e = record {
   cells = ap (λ (s : Stage). rowsAmong querySection (s .rest)) e ∙ joined-none (eqb k querySection) _;
   count = let z : g .sofar .rows ≡ h .sofar .rows = ap (λ (s : Stage). s .sofar .rows) e in omega (arith, z);
   text = λ z. ap (λ (s : Stage). s .made) (sym e) ∙ sym (append-nil (g .made));
-  named = λ z. tt;
 }
 
 more-written : (k : ℕ) (g h : Stage) (p : Piece) → OneWritten k (g .rest) p → RowsWritten k (afterRow k g p) h → RowsWritten k g h
@@ -85,7 +86,6 @@ more-written k g h p o r = record {
   cells = o .cells ∙ ap (joinedIf (eqb k querySection) (p .row ∷ [])) (r .cells) ∙ joined-more (eqb k querySection) (p .row) (r .rows) _;
   count = omega (arith, r .count);
   text = λ z. r .text z ∙ append-assoc (g .made) (p .made) (rowLines (r .rows)) ∙ ap (λ (s : List ℕ). g .made ++ (s ++ rowLines (r .rows))) (o .text z);
-  named = λ z. (o .named z, r .named z);
 }
 
 rows-written : (turns k : ℕ) (g h : Stage) → throughRows writing turns k g ≡ done h → RowsWritten k g h
@@ -107,7 +107,6 @@ record SectionWritten (k : ℕ) (g m : Stage) : Type 0 where
   cells : rowsAmong querySection (g .rest) ≡ joinedIf (eqb k querySection) rows (rowsAmong querySection (m .rest))
   count : m .sofar .rows ≡ length rows
   text : k ≡ querySection → m .made ≡ g .made ++ (sectionAt k .names ++ rowLines rows)
-  named : k ≡ querySection → AllNamed rows
 
 section-written : (k : ℕ) (g m : Stage) → throughSection writing k g ≡ done m → SectionWritten k g m
 unfolding writing writeNames afterNames begun
@@ -120,7 +119,6 @@ section-written k g m e =
       cells = ap (λ (x : Piece). rowsAmong querySection (x .rest)) p ∙ r .cells;
       count = omega (arith, r .count);
       text = λ z. r .text z ∙ ap (λ (x : Piece). (g .made ++ x .made) ++ rowLines (r .rows)) (sym p) ∙ append-assoc (g .made) (sectionAt k .names) (rowLines (r .rows));
-      named = r .named;
     }
 
 -- from stage g on the query rows are these, and the text written ends with their section
@@ -130,7 +128,6 @@ pub record QueriesWritten (g h : Stage) : Type 0 where
   pub cells : rowsAmong querySection (g .rest) ≡ rows
   pub text : h .made ≡ above ++ (sectionAt querySection .names ++ rowLines rows)
   pub count : h .sofar .rows ≡ length rows
-  pub named : AllNamed rows
 
 queries-written : (left k : ℕ) (g h : Stage) → k + left ≡ querySection → throughSections writing (suc left) k g ≡ done h → QueriesWritten g h
 unfolding throughSections joinedIf rowsAmong
@@ -146,7 +143,6 @@ queries-written zero k g h l e =
       cells = s .cells ∙ ap (λ (r : List ℕ). joinedIf (eqb k querySection) (s .rows) (rowsAmong querySection r)) (empty-nil (c .0 .rest) (f .0)) ∙ rw (eq-eqb k querySection z) (append-nil (s .rows));
       text = ap (λ (x : Stage). x .made) (sym same) ∙ s .text z ∙ ap (λ (j : ℕ). g .made ++ (sectionAt j .names ++ rowLines (s .rows))) z;
       count = ap (λ (x : Stage). x .sofar .rows) (sym same) ∙ s .count;
-      named = s .named z;
     }
 queries-written (suc left) k g h l e =
     let c = andThen-done (throughSection writing k g) (throughSections writing (suc left) (suc k)) e in
@@ -158,7 +154,6 @@ queries-written (suc left) k g h l e =
       cells = s .cells ∙ rw (ne-eqb k querySection (λ z. omega (arith, l))) (r .cells);
       text = r .text;
       count = r .count;
-      named = r .named;
     }
 
 -- A text that is read as cells: the stage that reading ends at, and the queries' lines at the
@@ -187,6 +182,6 @@ queries-read text cells e =
       above = q .above;
       whole = rw rows at (q .text);
       count = q .count ∙ ap length rows;
-      named = rw rows at (q .named);
+      named = read-named text cells e;
     })
     (either-done (ltb 32768 (length text)) _ _ (c .1))

@@ -14,7 +14,7 @@ use Rattle.text_field.specs.declared.NumberRead.the-variants.{Number, NoNumber}
 use Rattle.text_field.specs.declared.NameRead.{NameRead}
 use Rattle.text_field.specs.declared.NameRead.the-variants.{Name, NoName}
 use Rattle.text_field.specs.Bytes.{isCapital}
-use Rattle.text_field.specs.Number.{numberHere, numberMeaning}
+use Rattle.text_field.specs.Number.{numberHere, numberPlaced, numberMeaning}
 use Rattle.text_field.specs.Name.{nameHere, nameMeaning}
 use Rattle.graph_file.specs.Format.{Item, byte, field, state, scope, mark, count, letter, label, end, name, Section, sectionAt, form}
 use Rattle.text_field.specs.Outcome.{Outcome, refused, done, andThen, refuseIf}
@@ -23,7 +23,7 @@ use Rattle.graph_file.specs.Line.{Reading, numberTaken, nameTaken, byteTaken, p
 use Rattle.graph_file.specs.Order.{orderFault}
 use Rattle.graph_file.specs.File.{Piece, Way, Stage, ifAdmitted, afterRow, oneRow, throughRows, afterNames, enough, throughSection, isEmpty, throughSections, ordered, atStart, whole, readNames, readRow, reading, readStage, madeOf, readCells, writeNames, writeRow, writing, hasForm, writeText}
 use Rattle.text_field.specs.Answer.{answer}
-use Rattle.path_row.specs.Form.{PathRow, mostMark, mostScope, numberUpTo, Front, startBy, markBy, headHere, rowBy, rowHere}
+use Rattle.path_row.specs.Form.{PathRow, mostMark, mostScope, numberUpTo, Front, startBy, spaceBy, markBy, headHere, rowBy, rowHere}
 use Rattle.path_row.specs.Compare.{Comparison, compareRows, compareAnswer}
 use Rattle.resolution.specs.Listing.{listingOf, listingFor, summaryFor}
 use Rattle.judge.specs.Judge.{judgeOf, judgeAnswer}
@@ -196,12 +196,12 @@ summary-listed text = then-listed (readCells text) _ (read-listed text) (λ cell
 
 -- path rows
 start-listed : (m before : ℕ) (r : NumberRead) → Listed (startBy m before r)
-unfolding startBy
+unfolding startBy numberMeaning numberPlaced andThen
 start-listed m before (Number v width) = carried _
 start-listed m before NoNumber = listed 8 (omega arith) (omega arith)
 
 mark-listed : (r : NumberRead) (s : List ℕ) → Listed (markBy r s)
-unfolding markBy
+unfolding markBy spaceBy numberMeaning andThen
 mark-listed NoNumber s = listed 8 (omega arith) (omega arith)
 mark-listed (Number m width) s = by-space (startsWith 32 (drop width s))
   where

@@ -1,5 +1,5 @@
-// The step table that the host lends. A lent slice of records is walked by hand, so `judge` only
-// calls and copies.
+// A judged row's step table is the caller's memory. Proofs about such memory are long, so `judge`
+// only calls and copies.
 use crate::standing::Judged;
 use crate::text::judge_text;
 use path_row::compare::step_count;

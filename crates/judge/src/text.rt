@@ -14,7 +14,7 @@ ghost use Rattle.graph_file.specs.Decode.{WasRead};
 ghost use Rattle.judge.specs.Judge.{meaning, judgeOf, judgeAnswer};
 ghost use Rattle.judge.specs.Steps.{queryFault, roomFault, firstFault};
 
-// The refusal of a query number, 7 where there are no more than `count` queries; 0 for none.
+// The refusal of a query number, 7 where it is not below `count`, the number of queries; 0 for none.
 fn query_fault(count: usize, query: usize) -> u64
     ensures answer { λ r. ⌜ r ≡ queryFault count query ⌝ }
 {

@@ -24,7 +24,7 @@ use Rattle.path_row.specs.declared.form.RowRead.{RowRead}
 use Rattle.path_row.specs.declared.form.RowRead.the-variants.{Row, NoRow}
 use Rattle.path_row.specs.declared.form.StepRead.{StepRead}
 use Rattle.path_row.specs.declared.form.StepRead.the-variants.{Taken, NoStep}
-use Rattle.path_row.specs.Form.{PathRow, mostSteps, mostBytes, stepHere, stepsOf, afterSteps, stepPlaced, Front, headMeaning, headHere, behindFront, firstStep, rowBy, rowHere, InLarge, inLarge, rowInLarge, rowMeaning, stepsAfter, stepsIn}
+use Rattle.path_row.specs.Form.{PathRow, mostSteps, mostBytes, stepHere, stepsOf, afterSteps, stepPlaced, stepMeaning, stepFrom, Front, headMeaning, headHere, behindFront, firstStep, rowBy, rowHere, InLarge, inLarge, rowInLarge, rowMeaning, stepsAfter, stepsIn}
 use Rattle.graph_file.specs.Decode.{lettersOf, WasRead}
 use Rattle.scope_graph.specs.Rows.{Rules}
 use Rattle.path_row.specs.Compare.{Comparison, whichOf, first, second, neither, labelNumber, hopOf, pathOf, rowBefore, comparison, compareRows}
@@ -33,19 +33,19 @@ use Rattle.path_row.specs.Compare.{meaning as meaningOf}
 use Rattle.path_row.specs.declared.compare.Compared.{Compared}
 use Rattle.path_row.specs.declared.compare.Compared.the-variants.{First, Second, Neither, Refused}
 use Rattle.path_row.proofs.FormLaws.{steps-on, steps-off, refuse-done, refuse-through}
-use Rattle.path_row.proofs.Steps.{steps-next, steps-none}
+use Rattle.path_row.proofs.Steps.{same-step, steps-next, steps-none}
 use Rattle.path_row.proofs.ScanLaws.{letters-scanned, rules-scanned}
 
 -- how a path goes on by a step that was read
-pub end-stop : (cells : List ℕ) (i : ℕ) (r a : StepRead) → a ≡ stepPlaced i r → a ≡ NoStep → meaning Stop ≡ endHere cells r
+pub end-stop : (cells : List ℕ) (i : ℕ) (r a : StepRead) → stepMeaning a ≡ stepMeaning (stepPlaced i r) → a ≡ NoStep → meaning Stop ≡ endHere cells r
 unfolding stepPlaced endHere meaning
 end-stop cells i NoStep a e f = refl
-end-stop cells i (Taken x v w) a e f = absurd (let z : _≡_ {A = ℕ} 0 1 = cc in omega arith)
+end-stop cells i (Taken x v w) a e f = absurd (let g = same-step a (Taken x v (i + w)) e in let z : _≡_ {A = ℕ} 0 1 = cc in omega arith)
 
-pub end-label : (cells : List ℕ) (i : ℕ) (r a : StepRead) (x v next n : ℕ) → a ≡ stepPlaced i r → a ≡ Taken x v next → n ≡ labelNumber (scannedLetters cells) x → meaning (Label n) ≡ endHere cells r
+pub end-label : (cells : List ℕ) (i : ℕ) (r a : StepRead) (x v next n : ℕ) → stepMeaning a ≡ stepMeaning (stepPlaced i r) → a ≡ Taken x v next → n ≡ labelNumber (scannedLetters cells) x → meaning (Label n) ≡ endHere cells r
 unfolding stepPlaced endHere meaning
-end-label cells i NoStep a x v next n e f g = absurd (let z : _≡_ {A = ℕ} 0 1 = cc in omega arith)
-end-label cells i (Taken y u w) a x v next n e f g = let p : y ≡ x = cc in rw (g, p)
+end-label cells i NoStep a x v next n e f g = absurd (let t = same-step a NoStep e in let z : _≡_ {A = ℕ} 0 1 = cc in omega arith)
+end-label cells i (Taken y u w) a x v next n e f g = let t = same-step a (Taken y u (i + w)) e in let p : y ≡ x = cc in rw (g, p)
 
 or-none : (u : Bool) → (u || false) ≡ u
 or-none true = refl
@@ -99,14 +99,14 @@ module _ (cells : List ℕ) where
     pub preferred-here : u ≡ true → here ≡ true
     preferred-here f = split ∙ rw f
 
-    module _ (f : u ≡ false) (r : StepRead) (e : r ≡ stepPlaced i (stepHere (drop i a))) where
+    module _ (f : u ≡ false) (r : StepRead) (e : stepMeaning r ≡ stepFrom i a) where
       onward : here ≡ further (stepsOf left (drop i a)) (stepsOf left (drop j b))
       onward = split ∙ rw f
 
       pub preferred-ends : r ≡ NoStep → here ≡ false
       preferred-ends n = onward ∙ rw (steps-none a i left r e n)
 
-      module _ (x v ni : ℕ) (n : r ≡ Taken x v ni) (r′ : StepRead) (e′ : r′ ≡ stepPlaced j (stepHere (drop j b))) where
+      module _ (x v ni : ℕ) (n : r ≡ Taken x v ni) (r′ : StepRead) (e′ : stepMeaning r′ ≡ stepFrom j b) where
         pub preferred-stops : r′ ≡ NoStep → here ≡ false
         preferred-stops n′ = onward ∙ rw (steps-none b j left r′ e′ n′) (further-none (stepsOf left (drop i a)))
 

@@ -9,7 +9,7 @@ use lib.ListN.{length, getD, drop, length-append}
 use lib.Seq.{drop-at, drop-drop}
 use borrow.Author.Tests.{lt-ltb, le-ltb, ltb-true, ltb-false, le-leb, lt-leb, leb-true, eqb-true, not-false}
 use Rattle.text_field.specs.Bytes.{isDigit, isCapital, within}
-use Rattle.text_field.specs.Number.{numberText, numberHere}
+use Rattle.text_field.specs.Number.{numberText, numberHere, numberPlaced, numberMeaning}
 use Rattle.text_field.specs.declared.NumberRead.{NumberRead}
 use Rattle.text_field.specs.declared.NumberRead.the-variants.{Number, NoNumber}
 use Rattle.text_field.proofs.ByteLaws.{both, clash, within-bounds}
@@ -21,7 +21,7 @@ use Rattle.graph_file.specs.File.{isEmpty}
 use Rattle.path_row.specs.declared.form.Step.{Step}
 use Rattle.path_row.specs.declared.form.StepRead.{StepRead}
 use Rattle.path_row.specs.declared.form.StepRead.the-variants.{Taken, NoStep}
-use Rattle.path_row.specs.Form.{PathRow, mostMark, mostScope, mostSteps, mostBytes, atMost, numberUpTo, stepBy, stepHere, stepsOf, afterSteps, stepsWidth, Front, front, startBy, markBy, headHere, rowBy, rowHere, stepsText, rowText, stepsMade, rowMade, areSteps, isRow, rowWritten}
+use Rattle.path_row.specs.Form.{PathRow, mostMark, mostScope, mostSteps, mostBytes, atMost, numberUpTo, stepBy, stepHere, stepsOf, afterSteps, stepsWidth, Front, front, startBy, spaceBy, markBy, headHere, rowBy, rowHere, stepsText, rowText, stepsMade, rowMade, areSteps, isRow, rowWritten}
 use Rattle.path_row.specs.Inverse.{ReadThenWritten, WrittenThenRead, PartsThenRead, lettersIn, scopesIn, ReadThenParts}
 
 -- a number up to a limit
@@ -178,12 +178,12 @@ steps-back (suc n) (s ∷ ss) h l =
 
 -- the front of a row
 pub head-on : (m w : ℕ) (s : List ℕ) → startsWith 32 (drop w s) ≡ true → markBy (Number m w) s ≡ startBy m (w + 1) (numberUpTo mostScope (drop (w + 1) s))
-unfolding markBy
-head-on m w s h = rw (h, markBy)
+unfolding markBy spaceBy numberMeaning andThen
+head-on m w s h = rw (h, spaceBy)
 
 pub head-off : (m w : ℕ) (s : List ℕ) → startsWith 32 (drop w s) ≡ false → markBy (Number m w) s ≡ refused 8
-unfolding markBy
-head-off m w s h = rw (h, markBy)
+unfolding markBy spaceBy numberMeaning andThen
+head-off m w s h = rw (h, spaceBy)
 
 pub record HeadStands (s : List ℕ) (m v w : ℕ) : Type 0 where
   pub text : s ≡ numberText m ++ (32 ∷ (numberText v ++ drop w s))
@@ -198,7 +198,7 @@ space-first (x ∷ s) h = ap (λ (z : ℕ). z ∷ s) (eqb-true x 32 h)
 
 by-start : (s : List ℕ) (m w v k : ℕ) (r : NumberRead) → NumberStands s m w → m ≤ 65535 → startsWith 32 (drop w s) ≡ true
     → numberUpTo mostScope (drop (w + 1) s) ≡ r → startBy m (w + 1) r ≡ done (front m v k) → HeadStands s m v k
-unfolding startBy numberUpTo
+unfolding startBy numberMeaning numberPlaced andThen numberUpTo
 by-start s m w v k NoNumber n l h e f = absurd (let z : _≡_ {A = ℕ} 0 1 = cc in omega arith)
 by-start s m w v k (Number u j) n l h e f =
     let x : front m u (w + 1 + j) ≡ front m v k = done-is f
@@ -216,12 +216,12 @@ by-start s m w v k (Number u j) n l h e f =
     }
 
 start-mark : (m n b v k : ℕ) (r : NumberRead) → startBy m b r ≡ done (front n v k) → m ≡ n
-unfolding startBy
+unfolding startBy numberMeaning numberPlaced andThen
 start-mark m n b v k NoNumber e = absurd (let z : _≡_ {A = ℕ} 0 1 = cc in omega arith)
 start-mark m n b v k (Number u j) e = ap (λ (h : Front). h .mark) (done-is e)
 
 no-mark : (s : List ℕ) (m v k : ℕ) → markBy NoNumber s ≡ done (front m v k) → ⊥
-unfolding markBy
+unfolding markBy numberMeaning andThen
 no-mark s m v k g = let z : _≡_ {A = ℕ} 0 1 = cc in omega arith
 
 by-mark : (s : List ℕ) (r : NumberRead) (m v k : ℕ) → numberUpTo mostMark s ≡ r → markBy r s ≡ done (front m v k) → HeadStands s m v k
@@ -303,7 +303,7 @@ record HeadBack (m v : ℕ) (t : List ℕ) : Type 0 where
   rest : drop width (numberText m ++ (32 ∷ (numberText v ++ t))) ≡ t
 
 head-back : (m v : ℕ) (t : List ℕ) → m ≤ 65535 → v ≤ 63 → isDigit (getD t 0 0) ≡ false → HeadBack m v t
-unfolding headHere startsWith startBy
+unfolding headHere startsWith startBy numberMeaning numberPlaced andThen
 head-back m v t h g d =
     let s : List ℕ = numberText m ++ (32 ∷ (numberText v ++ t))
     in let w : ℕ = length (numberText m)

@@ -12,7 +12,7 @@ use lib.Seq.{drop-cons, drop-drop}
 use Rattle.text_field.specs.Bytes.{isCapital}
 use Rattle.text_field.specs.declared.NumberRead.{NumberRead}
 use Rattle.text_field.specs.declared.NumberRead.the-variants.{Number, NoNumber}
-use Rattle.text_field.specs.Number.{numberPlaced, numberHere}
+use Rattle.text_field.specs.Number.{numberPlaced, numberHere, numberMeaning}
 use Rattle.text_field.specs.Outcome.{Outcome, refused, done, andThen, refuseIf}
 use Rattle.graph_file.specs.Line.{startsWith}
 use Rattle.graph_file.specs.File.{isEmpty}
@@ -23,7 +23,7 @@ use Rattle.path_row.specs.declared.form.RowRead.{RowRead}
 use Rattle.path_row.specs.declared.form.RowRead.the-variants.{Row, NoRow}
 use Rattle.path_row.specs.declared.form.StepRead.{StepRead}
 use Rattle.path_row.specs.declared.form.StepRead.the-variants.{Taken, NoStep}
-use Rattle.path_row.specs.Form.{mostMark, mostScope, mostSteps, noStep, atMost, numberUpTo, stepBy, stepHere, stepsOf, afterSteps, stepsWidth, stepPlaced, front, headMeaning, startBy, markBy, headHere, rowBy, rowHere, rowMeaning, rowInLarge, stepsAfter, stepsIn}
+use Rattle.path_row.specs.Form.{mostMark, mostScope, mostSteps, noStep, atMost, numberUpTo, stepBy, stepHere, stepsOf, afterSteps, stepsWidth, stepPlaced, StepFound, stepMeaning, stepFrom, front, headMeaning, startBy, markBy, headHere, rowBy, rowHere, rowMeaning, rowInLarge, stepsAfter, stepsIn}
 use Rattle.path_row.proofs.FormLaws.{most-in, most-past, UpTo, up-found, step-on, step-off, head-on, head-off, steps-on, steps-off, after-on, after-off, width-on, width-off}
 
 -- a number read at a place is held to its limit
@@ -118,17 +118,17 @@ unfolding startsWith
 a-space s i h e = rw (drop-cons s i 0 h) (eq-eqb (getD s i 0) 32 e)
 
 start-none : (m b : ℕ) (r : NumberRead) → numberPlaced b r ≡ NoNumber → refused 8 ≡ startBy m b r
-unfolding numberPlaced startBy
+unfolding numberPlaced numberMeaning andThen startBy
 start-none m b NoNumber e = refl
 start-none m b (Number v w) e = absurd (let z : _≡_ {A = ℕ} 0 1 = cc in omega arith)
 
 start-some : (m b v next : ℕ) (r : NumberRead) → numberPlaced b r ≡ Number v next → done (front m v next) ≡ startBy m b r
-unfolding numberPlaced startBy
+unfolding numberPlaced numberMeaning andThen startBy
 start-some m b v next NoNumber e = absurd (let z : _≡_ {A = ℕ} 0 1 = cc in omega arith)
 start-some m b v next (Number u w) e = let p : u ≡ v = cc in let q : b + w ≡ next = cc in rw (p, q)
 
 markless : (s : List ℕ) → refused 8 ≡ markBy NoNumber s
-unfolding markBy
+unfolding markBy numberMeaning andThen
 markless s = refl
 
 module _ (s : List ℕ) (a : NumberRead) (e : a ≡ numberPlaced 0 (numberUpTo mostMark s)) where
@@ -163,6 +163,19 @@ module _ (s : List ℕ) (a : NumberRead) (e : a ≡ numberPlaced 0 (numberUpTo m
       pub head-whole : (v next : ℕ) → b ≡ Number v next → headMeaning (Head m v next) ≡ headHere s
       unfolding headMeaning
       head-whole v next j = rw opened-head (start-some m (i + 1) v next (numberUpTo mostScope (drop (i + 1) s)) (sym f ∙ j))
+
+-- the meanings tell the answers of the step's reader apart
+pub same-step : (a b : StepRead) → stepMeaning a ≡ stepMeaning b → a ≡ b
+unfolding stepMeaning
+same-step (Taken x v n) (Taken y w k) e =
+    let q : _≡_ {A = StepFound} (record { label = x; scope = v; next = n }) (record { label = y; scope = w; next = k }) = cc
+    in let a : x ≡ y = ap (λ (f : StepFound). f .label) q
+    in let b : v ≡ w = ap (λ (f : StepFound). f .scope) q
+    in let c : n ≡ k = ap (λ (f : StepFound). f .next) q
+    in rw (a, b, c)
+same-step (Taken x v n) NoStep e = absurd (let z : _≡_ {A = ℕ} 0 1 = cc in omega arith)
+same-step NoStep (Taken y w k) e = absurd (let z : _≡_ {A = ℕ} 0 1 = cc in omega arith)
+same-step NoStep NoStep e = refl
 
 -- the steps from a place on: one more, or no more
 record Placed (s : List ℕ) (i x v next : ℕ) : Type 0 where
@@ -204,10 +217,10 @@ after-width (suc n) s = by (stepHere s) refl (λ w. after-width n (drop w s))
     by NoStep e onward = rw (width-off n s e, after-off n s e)
     by (Taken x v w) e onward = rw (width-on n s x v w e, after-on n s x v w e) (sym (drop-drop (stepsWidth n (drop w s)) w s) ∙ onward w)
 
-module _ (s : List ℕ) (i left : ℕ) (a : StepRead) (e : a ≡ stepPlaced i (stepHere (drop i s))) where
+module _ (s : List ℕ) (i left : ℕ) (a : StepRead) (e : stepMeaning a ≡ stepFrom i s) where
   module _ (x v next : ℕ) (f : a ≡ Taken x v next) (h : 1 ≤ left) where
     found-here : Placed s i x v next
-    found-here = placed-step s i x v next (stepHere (drop i s)) refl (sym e ∙ f)
+    found-here = placed-step s i x v next (stepHere (drop i s)) refl (sym (same-step a (stepPlaced i (stepHere (drop i s))) e) ∙ f)
 
     one-more : left ≡ suc (left - 1)
     one-more = omega arith
@@ -230,10 +243,10 @@ module _ (s : List ℕ) (i left : ℕ) (a : StepRead) (e : a ≡ stepPlaced i (s
         in omega (arith, found-here .place)
 
   pub steps-none : a ≡ NoStep → stepsOf left (drop i s) ≡ []
-  steps-none f = no-steps left (drop i s) (unplaced i (stepHere (drop i s)) (sym e ∙ f))
+  steps-none f = no-steps left (drop i s) (unplaced i (stepHere (drop i s)) (sym (same-step a (stepPlaced i (stepHere (drop i s))) e) ∙ f))
 
   pub width-none : a ≡ NoStep → i + stepsWidth left (drop i s) ≡ i
-  width-none f = let w : stepsWidth left (drop i s) ≡ 0 = no-width left (drop i s) (unplaced i (stepHere (drop i s)) (sym e ∙ f)) in omega arith
+  width-none f = let w : stepsWidth left (drop i s) ≡ 0 = no-width left (drop i s) (unplaced i (stepHere (drop i s)) (sym (same-step a (stepPlaced i (stepHere (drop i s))) e) ∙ f)) in omega arith
 
 -- Going through the steps from place `at` on: place i is come to, and `left` more may be taken.
 pub record Going (s : List ℕ) (at i left : ℕ) : Type 0 where
@@ -248,7 +261,7 @@ going-first s at = record { few = omega arith; counted = omega arith; placed = r
 abbrev pub WalkEnds : List ℕ → ℕ → ℕ → ℕ → Type 0
 WalkEnds s at count i = (count ≡ length (stepsOf mostSteps (drop at s))) × (i ≡ at + stepsWidth mostSteps (drop at s))
 
-module _ (s : List ℕ) (at i left : ℕ) (g : Going s at i left) (a : StepRead) (e : a ≡ stepPlaced i (stepHere (drop i s))) where
+module _ (s : List ℕ) (at i left : ℕ) (g : Going s at i left) (a : StepRead) (e : stepMeaning a ≡ stepFrom i s) where
   pub going-on : (x v next : ℕ) → a ≡ Taken x v next → 1 ≤ left → Going s at next (left - 1)
   going-on x v next f h =
       record { few = omega (arith, g .few); counted = g .counted ∙ rw (steps-next s i left a e x v next f h) (omega (arith, g .few)); placed = g .placed ∙ width-next s i left a e x v next f h }
@@ -267,7 +280,7 @@ going-full s at i (suc n) g h = absurd (omega arith)
 abbrev pub pick : ℕ → List ℕ → ℕ → Step
 pick left s k = getD (stepsOf left s) k noStep
 
-module _ (s : List ℕ) (i left k : ℕ) (a : StepRead) (e : a ≡ stepPlaced i (stepHere (drop i s))) where
+module _ (s : List ℕ) (i left k : ℕ) (a : StepRead) (e : stepMeaning a ≡ stepFrom i s) where
   pub pick-none : a ≡ NoStep → pick left (drop i s) k ≡ noStep
   pick-none f = rw (steps-none s i left a e f)
 

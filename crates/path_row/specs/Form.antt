@@ -3,12 +3,13 @@
 use Prim.Native.Nat.{ℕ, zero, suc, _+_}
 use mathlib.Core.List.{List, [], _∷_, _++_}
 use mathlib.Core.Bool.{Bool, true, false, not, _&&_}
+use mathlib.Core.Option.{Option, some, none}
 use lib.Dec.{leb, ltb}
 use lib.ListN.{length, getD, drop}
 use Rattle.text_field.specs.declared.NumberRead.{NumberRead}
 use Rattle.text_field.specs.declared.NumberRead.the-variants.{Number, NoNumber}
 use Rattle.text_field.specs.Bytes.{isCapital}
-use Rattle.text_field.specs.Number.{numberText, numberHere}
+use Rattle.text_field.specs.Number.{numberText, numberHere, numberPlaced, numberMeaning}
 use Rattle.text_field.specs.Outcome.{Outcome, refused, done, andThen, refuseIf}
 use Rattle.graph_file.specs.Line.{startsWith}
 use Rattle.graph_file.specs.File.{isEmpty}
@@ -89,16 +90,19 @@ unfoldable pub headMeaning : HeadRead → Outcome Front
 headMeaning (Head m v width) = done (front m v width)
 headMeaning NoHead = refused 8
 
--- a row's front, by its mark, the bytes before its start, and what is read there; then by what is
--- read as its mark
+-- A row's front, by its mark, the bytes before its start, and what is read there: in a path row a
+-- number that is not there is refusal 8.
 unfoldable pub startBy : ℕ → ℕ → NumberRead → Outcome Front
-startBy m before (Number v width) = done (front m v (before + width))
-startBy m before NoNumber = refused 8
+startBy m before r = andThen (numberMeaning 8 (numberPlaced before r)) (λ f. done (front m (f .value) (f .next)))
 
+-- by its mark and the place after that, where a space stands, or refusal 8
+unfoldable pub spaceBy : ℕ → ℕ → List ℕ → Outcome Front
+spaceBy m next s =
+    elim (startsWith 32 (drop next s)) [ true ↦ startBy m (next + 1) (numberUpTo mostScope (drop (next + 1) s)) | false ↦ refused 8 ]
+
+-- and by what is read as its mark
 unfoldable pub markBy : NumberRead → List ℕ → Outcome Front
-markBy (Number m width) s =
-    elim (startsWith 32 (drop width s)) [ true ↦ startBy m (width + 1) (numberUpTo mostScope (drop (width + 1) s)) | false ↦ refused 8 ]
-markBy NoNumber s = refused 8
+markBy r s = andThen (numberMeaning 8 r) (λ f. spaceBy (f .value) (f .next) s)
 
 -- the front of a text, or refusal 8
 unfoldable pub headHere : List ℕ → Outcome Front
@@ -160,6 +164,23 @@ noStep = record { label = 0; scope = 0 }
 unfoldable pub stepPlaced : ℕ → StepRead → StepRead
 stepPlaced at (Taken x v width) = Taken x v (at + width)
 stepPlaced at NoStep = NoStep
+
+-- a step in a text: the label's letter, the scope that it comes to, and the place after it
+pub record StepFound : Type 0 where
+  pub label : ℕ
+  pub scope : ℕ
+  pub next : ℕ
+
+-- What the answer of the step's reader means (01, "Where each language form goes"): these values, or
+-- that no step stands there. By itself that is no refusal, since a row may end there: `rowBy` tells
+-- where it is refusal 8.
+unfoldable pub stepMeaning : StepRead → Option StepFound
+stepMeaning (Taken x v next) = some (record { label = x; scope = v; next = next })
+stepMeaning NoStep = none
+
+-- the step at a place of a text, if one stands there
+abbrev pub stepFrom : ℕ → List ℕ → Option StepFound
+stepFrom at s = stepMeaning (stepPlaced at (stepHere (drop at s)))
 
 -- the text of steps, and of a row
 unfoldable pub stepsText : List Step → List ℕ

@@ -6,12 +6,12 @@ ghost use mathlib.Core.Path.{_≡_};
 ghost use Prim.Native.Nat.{ℕ, _+_};
 ghost use lib.ListN.{length, drop, getD};
 ghost use Rattle.text_field.specs.Number.{numberPlaced};
-ghost use Rattle.path_row.specs.Form.{mostSteps, numberUpTo, stepHere, stepsOf, stepsWidth, stepPlaced};
+ghost use Rattle.path_row.specs.Form.{mostSteps, numberUpTo, stepMeaning, stepFrom, stepsOf, stepsWidth};
 ghost use Rattle.path_row.specs.Form.{headMeaning, headHere, rowMeaning, rowInLarge, stepsIn, noStep};
 
 // A file has 64 scopes at most, so none has a number past 63.
 pub const MOST_SCOPE: u64 = 63;
-// A path meets no scope twice, so it has a step fewer than there are scopes.
+// A path meets no scope twice, so it has at least one step fewer than there are scopes.
 pub const MOST_STEPS: usize = 63;
 // A mark is a number of 16 bits.
 pub const MOST_MARK: u64 = 65535;
@@ -79,7 +79,7 @@ pub fn read_head(s: &[u8]) -> HeadRead
 // The step at a place. Where there is none the steps have ended; whether they may end there is for
 // `read_row` to say.
 pub fn next_step(s: &[u8], at: usize) -> StepRead
-    ensures answer { λ r. ⌜ r ≡ stepPlaced at (stepHere (drop at (now (s .entry)))) ⌝ }
+    ensures answer { λ r. ⌜ stepMeaning r ≡ stepFrom at (now (s .entry)) ⌝ }
 {
     if s.len() <= at {
         return StepRead::NoStep;

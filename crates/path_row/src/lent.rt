@@ -1,5 +1,5 @@
-// The step tables that the host lends. A lent slice of records is walked by hand, so these
-// functions only call and copy.
+// The step tables of a comparison are the caller's memory. Proofs about such memory are long, so
+// these functions only call and copy.
 use crate::compare::Compared;
 use crate::compare::steps_due;
 use crate::file::decide;
