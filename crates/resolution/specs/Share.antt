@@ -1,11 +1,12 @@
--- The share of queries found one, in whole per cent (01, "The listing", as 02, K1 has it): how it is worked out, and what it is. The theorem's value is in
--- proofs/Nearest.antt. Assumes nothing.
+-- The share of queries found one, in whole per cent (01, "The listing", as 02, K1 has it): how it
+-- is worked out, and what it is. The theorem's value is in proofs/Nearest.antt. Assumes nothing.
 use Prim.Native.Nat.{ℕ, _+_, _*_, _/_, _%_, _<_, _≤_}
 use mathlib.Core.Path.{_≡_}
 use mathlib.Core.Bool.{true, false}
 use lib.Dec.{ltb, eqb}
 
--- a quotient by n and its remainder, as one whole number: one more past the half of n, the even one of the two at the half
+-- a quotient by n and its remainder, as one whole number: one more past the half of n, the even one
+-- of the two at the half
 unfoldable pub rounded : ℕ → ℕ → ℕ → ℕ
 rounded n quotient rest =
     elim (ltb n (2 * rest)) [ true ↦ quotient + 1 | false ↦ elim (eqb (2 * rest) n) [ true ↦ quotient + quotient % 2 | false ↦ quotient ] ]
@@ -18,8 +19,9 @@ nearest a n = rounded n (a / n) (a % n)
 unfoldable pub share : ℕ → ℕ → ℕ
 share one n = nearest (one * 100) n
 
--- s is the share, said without a division: s and 100 * one / n, both taken 2 * n times, lie at most n apart, which is half a per cent; where they lie just n
--- apart, a neighbour of s is as near, and s is the even one
+-- s is the share, said without a division: s and 100 * one / n, both taken 2 * n times, lie at most
+-- n apart, which is half a per cent; where they lie just n apart, a neighbour of s is as near, and
+-- s is the even one
 pub record IsShare (one n s : ℕ) : Type 0 where
   pub not-below : 200 * one ≤ 2 * n * s + n
   pub not-above : 2 * n * s ≤ 200 * one + n

@@ -1,4 +1,5 @@
--- The text of the summary (01, "The listing"; the share as 02, K1 has it), for its figures. Assumes nothing: these are definitions.
+-- The text of the summary (01, "The listing"; the share as 02, K1 has it), for its figures. Assumes
+-- nothing: these are definitions.
 use Prim.Native.Nat.{ℕ, zero, suc}
 use mathlib.Core.List.{List, [], _∷_, _++_}
 use Rattle.text_field.specs.Number.{numberText}
