@@ -1,0 +1,13 @@
+pub mod Fill
+pub mod Sets
+pub mod Positions
+pub mod PositionsRight
+pub mod Trees
+pub mod TreeTexts
+pub mod PartLaws
+pub mod Tracks
+pub mod VectorLaws
+pub mod Closed
+pub mod Alike
+pub mod WalkLaws
+pub mod ReadingLaws
