@@ -11,7 +11,7 @@ use Rattle.scope_graph.proofs.Lists.{Two, here, there, true-false}
 use Rattle.path_rules.specs.Sets.{meets}
 use Rattle.path_rules.specs.Table.{Over}
 use Rattle.path_rules.specs.Vectors.{before, onward, alikeOn, sameOn, placeSame}
-use Rattle.path_rules.proofs.Sets.{meets-none, has-none, meets-elim}
+use Rattle.path_rules.proofs.SetLaws.{meets-none, has-none, meets-elim}
 use Rattle.path_rules.proofs.VectorLaws.{dual, setAfter}
 use Rattle.path_rules.proofs.Closed.{vectorList, before-in}
 
@@ -35,11 +35,12 @@ same-alike v a b h = by (meets a v) (meets b v) h
 pub same-elim : (vs : List ℕ) (a b : ℕ) → sameOn vs a b ≡ true → (v : ℕ) → v ∈ vs → meets a v ≡ meets b v
 unfolding sameOn
 same-elim [] a b h v m = absurd (List·Memᴰ·not-nil m)
-same-elim (x ∷ vs) a b h v m = by (alikeOn x a b) refl h
+same-elim (x ∷ vs) a b h v m = by (alikeOn x a b) refl h (λ k. same-elim vs a b k v)
   where
-    by : (c : Bool) → alikeOn x a b ≡ c → (elim c as (λ _. Bool) [ true ↦ sameOn vs a b | false ↦ false ]) ≡ true → meets a v ≡ meets b v
-    by true e k = ⊎-elim (λ (z : v ≡ x). rw z (alike-same x a b e)) (same-elim vs a b k v) (List·Memᴰ·cases-cons m)
-    by false e k = absurd (false≢true k)
+    by : (c : Bool) → alikeOn x a b ≡ c → (elim c as (λ _. Bool) [ true ↦ sameOn vs a b | false ↦ false ]) ≡ true
+        → (sameOn vs a b ≡ true → v ∈ vs → meets a v ≡ meets b v) → meets a v ≡ meets b v
+    by true e k ih = ⊎-elim (λ (z : v ≡ x). rw z (alike-same x a b e)) (ih k) (List·Memᴰ·cases-cons m)
+    by false e k ih = absurd (false≢true k)
 
 pub same-intro : (vs : List ℕ) (a b : ℕ) → ((v : ℕ) → v ∈ vs → meets a v ≡ meets b v) → sameOn vs a b ≡ true
 unfolding sameOn
@@ -60,7 +61,7 @@ pub differ : (vs : List ℕ) (a b : ℕ) → sameOn vs a b ≡ false
     → (v : ℕ) × (v ∈ vs) × (((meets a v ≡ true) × (meets b v ≡ false)) ⊎ ((meets a v ≡ false) × (meets b v ≡ true)))
 unfolding sameOn
 differ [] a b h = absurd (false≢true (sym h))
-differ (x ∷ vs) a b h = by (alikeOn x a b) refl h
+differ (x ∷ vs) a b h = by (alikeOn x a b) refl h (differ vs a b)
   where
     unlike : (y z : Bool) → meets a x ≡ y → meets b x ≡ z → alikeOn x a b ≡ false
         → ((meets a x ≡ true) × (meets b x ≡ false)) ⊎ ((meets a x ≡ false) × (meets b x ≡ true))
@@ -70,9 +71,10 @@ differ (x ∷ vs) a b h = by (alikeOn x a b) refl h
     unlike false false e g k = absurd (true-false (same-alike x a b (e ∙ sym g)) k)
 
     by : (c : Bool) → alikeOn x a b ≡ c → (elim c as (λ _. Bool) [ true ↦ sameOn vs a b | false ↦ false ]) ≡ false
+        → (sameOn vs a b ≡ false → (v : ℕ) × (v ∈ vs) × (((meets a v ≡ true) × (meets b v ≡ false)) ⊎ ((meets a v ≡ false) × (meets b v ≡ true))))
         → (v : ℕ) × (v ∈ (x ∷ vs)) × (((meets a v ≡ true) × (meets b v ≡ false)) ⊎ ((meets a v ≡ false) × (meets b v ≡ true)))
-    by true e k = let (v, m, d) = differ vs a b k in (v, there m, d)
-    by false e k = (x, here, unlike (meets a x) (meets b x) refl refl e)
+    by true e k ih = let (v, m, d) = ih k in (v, there m, d)
+    by false e k ih = (x, here, unlike (meets a x) (meets b x) refl refl e)
 
 pub meets-nothing : (v : ℕ) → meets 0 v ≡ false
 meets-nothing v = meets-none 0 v (λ x h k. true-false h (has-none x))
@@ -81,23 +83,25 @@ meets-nothing v = meets-none 0 v (λ x h k. true-false h (has-none x))
 pub place-found : (vs ss : List ℕ) (t : ℕ) → placeSame vs ss t < length ss → sameOn vs (getD ss (placeSame vs ss t) 0) t ≡ true
 unfolding placeSame
 place-found vs [] t h = absurd (omega arith)
-place-found vs (s ∷ ss) t h = by (sameOn vs s t) refl h
+place-found vs (s ∷ ss) t h = by (sameOn vs s t) refl h (place-found vs ss t)
   where
     by : (c : Bool) → sameOn vs s t ≡ c → (elim c as (λ _. ℕ) [ true ↦ 0 | false ↦ suc (placeSame vs ss t) ]) < suc (length ss)
+        → (placeSame vs ss t < length ss → sameOn vs (getD ss (placeSame vs ss t) 0) t ≡ true)
         → sameOn vs (getD (s ∷ ss) (elim c as (λ _. ℕ) [ true ↦ 0 | false ↦ suc (placeSame vs ss t) ]) 0) t ≡ true
-    by true e k = e
-    by false e k = place-found vs ss t (omega arith)
+    by true e k ih = e
+    by false e k ih = ih (omega arith)
 
 pub place-none : (vs ss : List ℕ) (t : ℕ) → length ss ≤ placeSame vs ss t → (i : ℕ) → i < length ss → sameOn vs (getD ss i 0) t ≡ false
 unfolding placeSame
 place-none vs [] t h i b = absurd (omega arith)
-place-none vs (s ∷ ss) t h i b = by (sameOn vs s t) refl h i b
+place-none vs (s ∷ ss) t h i b = by (sameOn vs s t) refl h (place-none vs ss t) i b
   where
     by : (c : Bool) → sameOn vs s t ≡ c → suc (length ss) ≤ (elim c as (λ _. ℕ) [ true ↦ 0 | false ↦ suc (placeSame vs ss t) ])
+        → (length ss ≤ placeSame vs ss t → (i : ℕ) → i < length ss → sameOn vs (getD ss i 0) t ≡ false)
         → (i : ℕ) → i < suc (length ss) → sameOn vs (getD (s ∷ ss) i 0) t ≡ false
-    by true e k i b = absurd (omega arith)
-    by false e k zero b = e
-    by false e k (suc i) b = place-none vs ss t (omega arith) i (omega arith)
+    by true e k ih i b = absurd (omega arith)
+    by false e k ih zero b = e
+    by false e k ih (suc i) b = ih (omega arith) i (omega arith)
 
 module _ (after labels : List ℕ) where
   abbrev Same : ℕ → ℕ → Type 0

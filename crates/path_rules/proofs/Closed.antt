@@ -104,8 +104,8 @@ module _ (after labels : List ℕ) where
           room = length-set (f .cells) (f .count) new ∙ r;
           within = omega arith;
           first = rw e (Memᴰ·append-left (new ∷ []) (c .first));
-          origin = λ v m. ⊎-elim (c .origin v) (λ s. rw (List·Memᴰ·eq-of-singleton s) origin-new) (List·Memᴰ·append-cases l (rw e at m));
-          small = λ v m. ⊎-elim (c .small v) (λ s. rw (List·Memᴰ·eq-of-singleton s) (before-lt after labels (getD (f .cells) (k / 8) 0) (k % 8))) (List·Memᴰ·append-cases l (rw e at m));
+          origin = λ v m. ⊎-elim (c .origin v) (λ s. let q : v ≡ new = List·Memᴰ·eq-of-singleton s in rw q origin-new) (List·Memᴰ·append-cases l (rw e at m));
+          small = λ v m. ⊎-elim (c .small v) (λ s. let q : v ≡ new = List·Memᴰ·eq-of-singleton s in rw q (before-lt after labels (getD (f .cells) (k / 8) 0) (k % 8))) (List·Memᴰ·append-cases l (rw e at m));
           once = rw e (distinct-more l new (c .once) n);
           done = λ j b g. rw e (next j b);
         }
@@ -137,7 +137,7 @@ module _ (after labels : List ℕ) where
             → Closed (suc k) (noted f new)
         at (inl a) (inl b) = rw (a, b, noted) (closed-known (in-true new (vectorsOf f) b))
         at (inl a) (inr b) = rw (a, b, noted) (closed-more (not-in new (vectorsOf f) b) (ltb-true _ _ a))
-        at (inr a) (inl b) = rw (a, b, noted) (closed-known (in-true new (vectorsOf f) b))
+        at (inr a) (inl b) = rw (a, noted) (closed-known (in-true new (vectorsOf f) b))
         at (inr a) (inr b) = absurd (full-known (let r = c .room in let y = ltb-false (f .count) (length (f .cells)) a in omega arith) (not-in new (vectorsOf f) b))
 
   closed-turn : (k : ℕ) (f : Found) → Closed k f → Closed (suc k) (noteTurn after labels k f)
@@ -184,7 +184,7 @@ module _ (after labels : List ℕ) where
 
   pub closed-all : Closed 16384 (vectors after labels)
   unfolding vectors
-  closed-all = closed-turns 16384 _ (closed-first (replicate 2048 0) (length-replicate 2048 0))
+  closed-all = closed-turns 16384 _ (closed-first (replicate 2048 0) (length-replicate {A = ℕ} 2048 0))
 
   -- all vectors, of words over eight labels
   abbrev pub vectorList : List ℕ

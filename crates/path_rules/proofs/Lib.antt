@@ -1,5 +1,6 @@
 pub mod Fill
-pub mod Sets
+pub mod Steps
+pub mod SetLaws
 pub mod Positions
 pub mod PositionsRight
 pub mod Trees
@@ -11,3 +12,6 @@ pub mod Closed
 pub mod Alike
 pub mod WalkLaws
 pub mod ReadingLaws
+pub mod Fewest
+pub mod TableLaws
+pub mod Promises

@@ -12,7 +12,7 @@ use Rattle.path_rules.specs.Sets.{has, onlyIf}
 use Rattle.path_rules.specs.Parts.{emptyPart, noPart, letterPart, seqPart, altPart, starPart}
 use Rattle.path_rules.specs.Expression.{Expr, letter, seq, alt, star, size}
 use Rattle.path_rules.specs.declared.reading.Part.{Part}
-use Rattle.path_rules.proofs.Sets.{has-or, has-only, has-none, has-one}
+use Rattle.path_rules.proofs.SetLaws.{has-or, has-only, has-none, has-one}
 use Rattle.path_rules.proofs.Positions.{nullable, first, last, follow}
 use Rattle.path_rules.proofs.Trees.{seqO, altO}
 

@@ -12,7 +12,7 @@ use borrow.Author.Tests.{lt-ltb, ltb-true, eq-eqb, eqb-true}
 use Rattle.scope_graph.proofs.Lists.{Two, and-left, and-right, and-both, true-false}
 use Rattle.path_rules.specs.Expression.{Expr, letter, seq, alt, star, size}
 use Rattle.path_rules.specs.Grammar.{Expression, Reads, sides}
-use Rattle.path_rules.specs.Reading.{fresh, spoiled, merged, chosen, placed, opened, closed, starred, barred, lettered, placeOf, byKind, readByte, readAll}
+use Rattle.path_rules.specs.Reading.{fresh, spoiled, merged, chosen, popped, placed, opened, closed, starred, barred, lettered, placeOf, byKind, readByte, readAll}
 use Rattle.path_rules.specs.Rules.{isWhole}
 use Rattle.path_rules.specs.declared.reading.Reading.{Reading}
 use Rattle.path_rules.proofs.Trees.{seqO, altO, Frame, Tree, tree, closeTree, starTree, barTree, letterTree, treeKind, treeByte, treeAll, goes}
@@ -70,7 +70,7 @@ tracks-close c b (some a) (f ∷ fs) n s h =
     let q : altO c (seqO b (some a)) ≡ some v = ap (altO c) k ∙ g in
     let r = tracks-popped v (f .0) (f .1) fs n (chosen (merged s)) (subst (λ o. Tracks (tree o none none (f ∷ fs) n) (chosen (merged s))) q m) in
     let d : 0 < s .depth = (let y = h .depth in omega arith) in
-    rw (h .filled, lt-ltb 0 (s .depth) d, closed) (subst (λ o. Tracks (tree (f .0) (f .1) o fs n) _) (sym q) r)
+    rw (h .filled, lt-ltb 0 (s .depth) d, closed) (subst (λ o. Tracks (tree (f .0) (f .1) o fs n) (popped (chosen (merged s)))) (sym q) r)
 
 tracks-star : (c b i : Option Expr) (st : List Frame) (n : ℕ) (s : Reading) → Tracks (tree c b i st n) s → Follow (starTree i (tree c b i st n)) (starred s)
 unfolding starred
@@ -166,7 +166,7 @@ module _ (ls : List ℕ) where
   unfolding isWhole
   ready-from e a c b n text len h v =
       let k : Tracks (tree c b (some a) [] n) (readAll ls fresh text) =
-          subst (λ o. Follow o (readAll ls fresh text)) h (tracks-all text (tree none none none [] 0) fresh len tracks-fresh) in
+          subst (λ o. Follow o (readAll ls fresh text)) h (tracks-all text (tree none none none [] 0) fresh (omega arith) tracks-fresh) in
       record {
         letters = n;
         whole = rw (k .good, k .filled, k .depth);
@@ -178,12 +178,12 @@ module _ (ls : List ℕ) where
   unfolding treeAll
   ready e text x =
       let (c, b, a, h, v) = goes ls sides e text (x .reads) [] 0 [] (let y = x .letters in omega arith) in
-      ready-from e a c b (0 + size e) text (x .bytes) (subst (λ y. treeAll ls (tree none none none [] 0) y ≡ _) (append-nil text) h) v
+      ready-from e a c b (0 + size e) text (x .bytes) (subst (λ y. treeAll ls (tree none none none [] 0) y ≡ some (tree c b (some a) [] (0 + size e))) (append-nil text) h) v
 
   -- a text that is read is one of the grammar
   pub taken : (text : List ℕ) → length text ≤ 64 → isWhole (readAll ls fresh text) ≡ true → (e : Expr) × Expression ls e text
   unfolding isWhole sizes
-  taken text len w = by (treeAll ls (tree none none none [] 0) text) refl (tracks-all text (tree none none none [] 0) fresh len tracks-fresh)
+  taken text len w = by (treeAll ls (tree none none none [] 0) text) refl (tracks-all text (tree none none none [] 0) fresh (omega arith) tracks-fresh)
     where
       by : (o : Option Tree) → treeAll ls (tree none none none [] 0) text ≡ o → Follow o (readAll ls fresh text) → (e : Expr) × Expression ls e text
       by none g k = absurd (true-false (and-left _ _ w) k)

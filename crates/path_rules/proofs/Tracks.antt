@@ -17,7 +17,7 @@ use Rattle.path_rules.specs.Reading.{fresh, merged, chosen, pushed, popp
 use Rattle.path_rules.specs.declared.reading.Part.{Part}
 use Rattle.path_rules.specs.declared.reading.Reading.{Reading}
 use Rattle.path_rules.proofs.Fill.{tabulate-at}
-use Rattle.path_rules.proofs.Sets.{has-or, has-only, has-none}
+use Rattle.path_rules.proofs.SetLaws.{has-or, has-only, has-none}
 use Rattle.path_rules.proofs.Positions.{nullable, first, last, follow, Labelled}
 use Rattle.path_rules.proofs.Trees.{seqO, altO, Frame, Tree, tree}
 use Rattle.path_rules.proofs.PartLaws.{sizeO, nullO, firstO, lastO, followO, PartOf, or-none, seq-of, alt-of, star-of, letter-of, empty-of, none-of, any-of, follow-seq, follow-alt, size-seq, size-alt}
@@ -47,13 +47,13 @@ abbrev pub FramesOf : List Frame → List Part → List Part → Type 0
 FramesOf [] alts seqs = Unit {0}
 FramesOf (f ∷ fs) alts seqs =
     FramesOf fs alts seqs × PartOf false (f .0) (sizes fs) (getD alts (length fs) noPart)
-    × PartOf true (f .1) (sizes fs + sizeO (f .0)) (getD seqs (length fs) emptyPart)
+    × PartOf true (f .1) (sizes fs + sizeO (f .0)) (getD seqs (length fs) noPart)
 
 abbrev pub top : Tree → List Frame
 top t = (t .choice, t .before) ∷ t .stack
 
 abbrev pub labelIn : List ℕ → ℕ → ℕ
-labelIn labels p = getD labels p 8
+labelIn labels p = getD labels p 0
 
 pub record Tracks (t : Tree) (s : Reading) : Type 0 where
   pub good : s .good ≡ true
@@ -74,7 +74,7 @@ pub record Tracks (t : Tree) (s : Reading) : Type 0 where
   pub item-labelled : LabelledO (labelIn (s .labels)) (t .item) (sizes (top t))
 
 -- the table after a link
-linked-at : (after : List ℕ) (lasts firsts p x : ℕ) → p < 10
+pub linked-at : (after : List ℕ) (lasts firsts p x : ℕ) → p < 10
     → has (getD (linked after lasts firsts) p 0) x ≡ (has (getD after p 0) x || (has lasts p && has firsts x))
 unfolding linked linkCell
 linked-at after lasts firsts p x h =
@@ -172,7 +172,7 @@ frames-set (f ∷ fs) alts seqs d a b h g =
     let other : length fs ≡ d → ⊥ = λ e. omega arith in
     (frames-set fs alts seqs d a b (omega arith) (g .0),
     subst (PartOf false (f .0) (sizes fs)) (sym (getD-set-other alts d (length fs) a noPart other)) (g .1),
-    subst (PartOf true (f .1) (sizes fs + sizeO (f .0))) (sym (getD-set-other seqs d (length fs) b emptyPart other)) (g .2))
+    subst (PartOf true (f .1) (sizes fs + sizeO (f .0))) (sym (getD-set-other seqs d (length fs) b noPart other)) (g .2))
 
 pub tracks-pushed : (c b : Option Expr) (st : List Frame) (n : ℕ) (s : Reading) → length st < 64 → Tracks (tree c b none st n) s
     → Tracks (tree none none none ((c, b) ∷ st) n) (pushed s)
@@ -181,8 +181,8 @@ tracks-pushed c b st n s l h =
     let z = h .sized in let d = h .depth in let ra = h .alts-room in let rs = h .seqs-room in
     let at-a : getD (set (s .alts) (s .depth) (s .alt)) (length st) noPart ≡ s .alt =
         ap (λ k. getD (set (s .alts) (s .depth) (s .alt)) k noPart) (sym d) ∙ getD-set-same (s .alts) (s .depth) (s .alt) noPart (omega arith) in
-    let at-s : getD (set (s .seqs) (s .depth) (s .seq)) (length st) emptyPart ≡ s .seq =
-        ap (λ k. getD (set (s .seqs) (s .depth) (s .seq)) k emptyPart) (sym d) ∙ getD-set-same (s .seqs) (s .depth) (s .seq) emptyPart (omega arith) in
+    let at-s : getD (set (s .seqs) (s .depth) (s .seq)) (length st) noPart ≡ s .seq =
+        ap (λ k. getD (set (s .seqs) (s .depth) (s .seq)) k noPart) (sym d) ∙ getD-set-same (s .seqs) (s .depth) (s .seq) noPart (omega arith) in
     record {
       good = h .good;
       filled = refl;
@@ -219,7 +219,7 @@ tracks-popped v c b fs n s h =
       few = h .few;
       sized = omega (arith, z);
       choice = subst (λ k. PartOf false c (sizes fs) (getD (s .alts) k noPart)) (sym m) (h .frames .1);
-      before = subst (λ k. PartOf true b (sizes fs + sizeO c) (getD (s .seqs) k emptyPart)) (sym m) (h .frames .2);
+      before = subst (λ k. PartOf true b (sizes fs + sizeO c) (getD (s .seqs) k noPart)) (sym m) (h .frames .2);
       item = any-of false true v _ (s .alt) (h .choice);
       frames = h .frames .0;
       alts-room = h .alts-room;
@@ -302,8 +302,8 @@ tracks-placed c b st n l s lt h =
       goes-on = h .goes-on;
       labelled =
           labelsS-more _ _ ((c, b) ∷ st) n (omega (arith, m))
-          (λ p q. sym (getD-set-other (s .labels) (s .letters) p l 8 (λ y. omega arith))) (h .labelled);
-      item-labelled = ap (λ q. getD (set (s .labels) (s .letters) l) q 8) (sym e) ∙ getD-set-same (s .labels) (s .letters) l 8 (omega arith);
+          (λ p q. sym (getD-set-other (s .labels) (s .letters) p l 0 (λ y. omega arith))) (h .labelled);
+      item-labelled = ap (λ q. getD (set (s .labels) (s .letters) l) q 0) (sym e) ∙ getD-set-same (s .labels) (s .letters) l 0 (omega arith);
     }
 
 pub tracks-fresh : Tracks (tree none none none [] 0) fresh

@@ -106,12 +106,11 @@ module _ (ls : List ℕ) where
         (p₀, p₁, p₂ ++ p₃, x ∷ [], s, c, join-items (t .before) (t .item) p₂ p₃ b i, g refl, ap (λ y. y ++ x ∷ []) e ∙ simp append-assoc)
 
     held-byte : (b : ℕ) → Next (treeByte ls t b) (p ++ b ∷ [])
-    unfolding treeByte
+    unfolding treeByte isSign
     held-byte b = at (eqb b 40) (eqb b 41) (eqb b 42) (eqb b 124) refl refl refl refl
       where
         other : eqb b 40 ≡ false → eqb b 41 ≡ false → eqb b 42 ≡ false → eqb b 124 ≡ false
             → (ltb (placeOf 0 b ls) 8 && ltb (t .letters) 10) ≡ true → Reads ls item (letter (placeOf 0 b ls)) (b ∷ [])
-        unfolding isSign
         other e₁ e₂ e₃ e₄ g = label b (placeOf 0 b ls) (rw (e₁, e₂, e₃, e₄)) refl (ltb-true _ 8 (and-left _ _ g))
 
         at : (x y z w : Bool) → eqb b 40 ≡ x → eqb b 41 ≡ y → eqb b 42 ≡ z → eqb b 124 ≡ w
@@ -127,11 +126,12 @@ module _ (ls : List ℕ) where
   pub held-all : (t u : Tree) (p s : List ℕ) → Held t p → treeAll ls t s ≡ some u → Held u (p ++ s)
   unfolding treeAll
   held-all t u p [] h e = let g : t ≡ u = cc in rw (append-nil p) (subst (λ v. Held v p) g h)
-  held-all t u p (b ∷ s) h e = by (treeByte ls t b) (held-byte t p h b) e
+  held-all t u p (b ∷ s) h e = by (treeByte ls t b) (held-byte t p h b) e (λ v. held-all v u (p ++ b ∷ []) s)
     where
-      by : (o : Option Tree) → Next o (p ++ b ∷ []) → (elim o as (λ _. Option Tree) [ none ↦ none | some v ↦ treeAll ls v s ]) ≡ some u → Held u (p ++ b ∷ s)
-      by none n k = absurd (let z : _≡_ {A = ℕ} 0 1 = cc in omega arith)
-      by (some v) n k = subst (Held u) (append-assoc p (b ∷ []) s) (held-all v u (p ++ b ∷ []) s n k)
+      by : (o : Option Tree) → Next o (p ++ b ∷ []) → (elim o as (λ _. Option Tree) [ none ↦ none | some v ↦ treeAll ls v s ]) ≡ some u
+          → ((v : Tree) → Held v (p ++ b ∷ []) → treeAll ls v s ≡ some u → Held u ((p ++ b ∷ []) ++ s)) → Held u (p ++ b ∷ s)
+      by none n k ih = absurd (let z : _≡_ {A = ℕ} 0 1 = cc in omega arith)
+      by (some v) n k ih = subst (Held u) (append-assoc p (b ∷ []) s) (ih v n k)
 
   pub held-none : Held (tree none none none [] 0) []
   held-none = ([], [], [], [], refl, refl, refl, refl, refl)

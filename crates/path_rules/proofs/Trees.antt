@@ -16,12 +16,12 @@ use Rattle.path_rules.specs.Grammar.{Binding, item, items, sides, isSign
 use Rattle.path_rules.specs.Reading.{placeOf}
 
 -- one behind the other, or a choice, where either may be missing
-unfoldable abbrev pub seqO : Option Expr → Option Expr → Option Expr
+abbrev pub seqO : Option Expr → Option Expr → Option Expr
 seqO none b = b
 seqO (some a) none = some a
 seqO (some a) (some b) = some (seq a b)
 
-unfoldable abbrev pub altO : Option Expr → Option Expr → Option Expr
+abbrev pub altO : Option Expr → Option Expr → Option Expr
 altO none b = b
 altO (some a) none = some a
 altO (some a) (some b) = some (alt a b)
@@ -62,9 +62,9 @@ letterTree true t l = some (tree (t .choice) (seqO (t .before) (t .item)) (some 
 letterTree false t l = none
 
 abbrev pub treeKind : Bool → Bool → Bool → Bool → Tree → ℕ → Option Tree
-treeKind true close star bar t l = openTree t
-treeKind false true star bar t l = closeTree (t .item) (t .stack) t
-treeKind false false true bar t l = starTree (t .item) t
+treeKind true y z w t l = openTree t
+treeKind false true z w t l = closeTree (t .item) (t .stack) t
+treeKind false false true w t l = starTree (t .item) t
 treeKind false false false true t l = barTree (t .item) t
 treeKind false false false false t l = letterTree (ltb l 8 && ltb (t .letters) 10) t l
 
@@ -113,13 +113,13 @@ module _ (ls : List ℕ) where
 
   pub goes : (g : Binding) (e : Expr) (s : List ℕ) → Reads ls g e s → Goes g e s
   unfolding treeByte size
-  goes item e s (label c l g p b) t rest n = tree-step t (withItem t (letter l)) c rest (letter-byte t c l g p b n)
-  goes item e s (starred a r t′ d q) t rest n =
+  goes g e s (label c l k p b) = λ t rest n. tree-step t (withItem t (letter l)) c rest (letter-byte t c l k p b n)
+  goes g e s (starred a r t′ d q) = λ t rest n.
       ap (λ y. treeAll t (y ++ rest)) q
       ∙ ap (treeAll t) (append-assoc r (42 ∷ []) rest)
       ∙ goes item a r d t (42 ∷ rest) n
       ∙ tree-step (withItem t a) (withItem t (star a)) 42 rest refl
-  goes item e s (bracketed a r t′ d q) t rest n =
+  goes g e s (bracketed a r t′ d q) = λ t rest n.
       let (c, b, x, h, v) = goes sides a r d ((t .choice, seqO (t .before) (t .item)) ∷ t .stack) (t .letters) (41 ∷ rest) n in
       ap (λ y. treeAll t (y ++ rest)) q
       ∙ tree-step t (tree none none none ((t .choice, seqO (t .before) (t .item)) ∷ t .stack) (t .letters)) 40 ((r ++ 41 ∷ []) ++ rest) refl
@@ -127,8 +127,8 @@ module _ (ls : List ℕ) where
       ∙ h
       ∙ tree-step (tree c b (some x) ((t .choice, seqO (t .before) (t .item)) ∷ t .stack) (t .letters + size a))
       (withItem t a) 41 rest (ap (λ y. some (tree (t .choice) (seqO (t .before) (t .item)) y (t .stack) (t .letters + size a))) v)
-  goes items e s (single a r d) c st n rest m = (none, a, goes item a r d (tree c none none st n) rest m, refl)
-  goes items e s (behind a b r r′ t′ d d′ q) c st n rest m =
+  goes g e s (single a r d) = λ c st n rest m. (none, a, goes item a r d (tree c none none st n) rest m, refl)
+  goes g e s (behind a b r r′ t′ d d′ q) = λ c st n rest m.
       let (b₁, x, h, v) = goes items a r d c st n (r′ ++ rest) (omega arith) in
       (some a, b,
       ap (λ y. treeAll (tree c none none st n) (y ++ rest)) q
@@ -138,8 +138,8 @@ module _ (ls : List ℕ) where
       ∙ ap (λ y. treeAll (tree c y (some b) st (n + size a + size b)) rest) v
       ∙ ap (λ y. treeAll (tree c (some a) (some b) st y) rest) (add-assoc n (size a) (size b)),
       refl)
-  goes sides e s (side a r d) st n rest m = let (b, x, h, v) = goes items a r d none st n rest m in (none, b, x, h, v)
-  goes sides e s (barred a b r r′ t′ d d′ q) st n rest m =
+  goes g e s (side a r d) = λ st n rest m. let (b, x, h, v) = goes items a r d none st n rest m in (none, b, x, h, v)
+  goes g e s (barred a b r r′ t′ d d′ q) = λ st n rest m.
       let (c₁, b₁, x, h, v) = goes sides a r d st n (124 ∷ (r′ ++ rest)) (omega arith) in
       let (b₂, y, h₂, v₂) = goes items b r′ d′ (some a) st (n + size a) rest (omega arith) in
       (some a, b₂, y,

@@ -13,7 +13,7 @@ use borrow.Author.Tests.{eqb-true, eq-eqb}
 use Rattle.scope_graph.proofs.Lists.{Two, and-left, and-right, and-both, true-false, not-true}
 use Rattle.path_rules.specs.Sets.{has, onlyIf, gather, meets}
 use Rattle.path_rules.specs.Vectors.{endSet, beforeCell, before, onwardCell, onward}
-use Rattle.path_rules.proofs.Sets.{has-only, has-one, has-none, has-gather, some-intro, some-elim, meets-elim, meets-intro, someBelow}
+use Rattle.path_rules.proofs.SetLaws.{has-only, has-one, has-none, has-gather, some-intro, some-elim, meets-elim, meets-intro, someBelow}
 use Rattle.path_rules.proofs.Positions.{Leads}
 
 -- two tests that follow from one another are the same
@@ -24,7 +24,7 @@ both-ways false false f g = refl
 
 module _ (after labels : List ℕ) where
   abbrev pub labelAt : ℕ → ℕ
-  labelAt p = getD labels p 8
+  labelAt p = getD labels p 0
 
   abbrev pub afterAt : ℕ → ℕ → Bool
   afterAt p x = has (getD after p 0) x

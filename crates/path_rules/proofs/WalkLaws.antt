@@ -220,37 +220,34 @@ module _ (vs after labels : List ℕ) (begin : ℕ) where
       states-at : (i : ℕ) → i < w .states → getD (take (w .states) (w .sets)) i 0 ≡ setAt w i
       states-at i b = getD-take (w .states) (w .sets) i 0 b
 
-      walked-arrived : sameOn vs (goesTo w k) 0 ≡ false
-          → Walked (suc k) (arrived w k (goesTo w k) (placeSame vs (take (w .states) (w .sets)) (goesTo w k)))
-      unfolding arrived
-      walked-arrived alive = at (Two (ltb j (w .states))) (Two (ltb (w .states) 16))
-        where
-          j : ℕ
-          j = placeSame vs (take (w .states) (w .sets)) (goesTo w k)
+      abbrev place : ℕ
+      place = placeSame vs (take (w .states) (w .sets)) (goesTo w k)
 
-          none : ltb j (w .states) ≡ false → OneMore w (goesTo w k)
-          unfolding j
+      walked-arrived : sameOn vs (goesTo w k) 0 ≡ false → Walked (suc k) (arrived w k (goesTo w k) place)
+      unfolding arrived
+      walked-arrived alive = at (Two (ltb place (w .states))) (Two (ltb (w .states) 16))
+        where
+          none : ltb place (w .states) ≡ false → OneMore w (goesTo w k)
           none e = (reached-here, alive, λ i b.
               rw (states-at i b) at
-              (place-none vs (take (w .states) (w .sets)) (goesTo w k) (let y = ltb-false j (w .states) e in let z = sets-length in omega arith) i
+              (place-none vs (take (w .states) (w .sets)) (goesTo w k) (let y = ltb-false place (w .states) e in let z = sets-length in omega arith) i
               (let z = sets-length in omega arith)))
 
-          at : (ltb j (w .states) ≡ true) ⊎ (ltb j (w .states) ≡ false) → (ltb (w .states) 16 ≡ true) ⊎ (ltb (w .states) 16 ≡ false)
-              → Walked (suc k) (arrived w k (goesTo w k) j)
-          unfolding j
+          at : (ltb place (w .states) ≡ true) ⊎ (ltb place (w .states) ≡ false) → (ltb (w .states) 16 ≡ true) ⊎ (ltb (w .states) 16 ≡ false)
+              → Walked (suc k) (arrived w k (goesTo w k) place)
           at (inl e) f =
-              let b : j < w .states = ltb-true j (w .states) e in
+              let b : place < w .states = ltb-true place (w .states) e in
               rw (e, arrived)
-              (walked-known j b
-              (rw (states-at j b) at (place-found vs (take (w .states) (w .sets)) (goesTo w k) (let z = sets-length in omega arith))))
+              (walked-known place b
+              (rw (states-at place b) at (place-found vs (take (w .states) (w .sets)) (goesTo w k) (let z = sets-length in omega arith))))
           at (inr e) (inl f) = rw (e, f, arrived) (walked-new (ltb-true (w .states) 16 f) (none e))
           at (inr e) (inr f) = rw (e, f, arrived) (walked-over (ltb-false (w .states) 16 f) (none e))
 
-      walked-reached : Walked (suc k) (reached vs after labels w k (goesTo w k))
+      walked-reached : Walked (suc k) (reached vs w k (goesTo w k))
       unfolding reached
       walked-reached = at (Two (sameOn vs (goesTo w k) 0))
         where
-          at : (sameOn vs (goesTo w k) 0 ≡ true) ⊎ (sameOn vs (goesTo w k) 0 ≡ false) → Walked (suc k) (reached vs after labels w k (goesTo w k))
+          at : (sameOn vs (goesTo w k) 0 ≡ true) ⊎ (sameOn vs (goesTo w k) 0 ≡ false) → Walked (suc k) (reached vs w k (goesTo w k))
           at (inl e) = rw (e, reached) (walked-dead e)
           at (inr e) = rw (e, reached) (walked-arrived e)
 
@@ -265,15 +262,15 @@ module _ (vs after labels : List ℕ) (begin : ℕ) where
   walked-start : sameOn vs begin 0 ≡ false → Walked 0 (startWalk begin)
   unfolding setAfter
   walked-start alive = record {
-    room-sets = length-set (replicate 16 0) 0 begin ∙ length-replicate 16 0;
-    room-next = length-replicate 128 16;
+    room-sets = length-set (replicate 16 0) 0 begin ∙ length-replicate {A = ℕ} 16 0;
+    room-next = length-replicate {A = ℕ} 128 16;
     some = omega arith;
     few = omega arith;
     head = refl;
     from = λ i b. (let e : i ≡ 0 = omega arith in rw e ([], tt, refl));
     live = λ i b. (let e : i ≡ 0 = omega arith in rw e alive);
     apart = λ i j l b. absurd (omega arith);
-    unset = λ j b d. getD-replicate 128 j 16 16 d;
+    unset = λ j b d. getD-replicate {A = ℕ} 128 j 16 16 d;
     rows = λ o j b. absurd (omega arith);
     met = λ o. start;
     more = λ o. absurd (false≢true o);

@@ -7,3 +7,4 @@ pub mod Reading
 pub mod Vectors
 pub mod Walk
 pub mod Rules
+pub mod Promises

@@ -55,7 +55,7 @@ pushed s = record {
 -- what was read between brackets is the next item behind what was laid aside
 abbrev pub popped : Reading → Reading
 popped s = record {
-  good = s .good; filled = true; alt = getD (s .alts) (s .depth - 1) noPart; seq = getD (s .seqs) (s .depth - 1) emptyPart;
+  good = s .good; filled = true; alt = getD (s .alts) (s .depth - 1) noPart; seq = getD (s .seqs) (s .depth - 1) noPart;
   atom = s .alt; depth = s .depth - 1; letters = s .letters;
   after = s .after; labels = s .labels; alts = s .alts; seqs = s .seqs;
 }

@@ -15,14 +15,14 @@ endSet = 1024
 module _ (after labels : List ℕ) where
   -- the positions of the label that go on into the set v
   unfoldable pub beforeCell : ℕ → ℕ → ℕ → ℕ
-  beforeCell v l p = onlyIf (eqb (getD labels p 8) l && meets (getD after p 0) v) (2 ^ p)
+  beforeCell v l p = onlyIf (eqb (getD labels p 0) l && meets (getD after p 0) v) (2 ^ p)
 
   unfoldable pub before : ℕ → ℕ → ℕ
   before v l = gather (beforeCell v l) 10
 
   -- where the positions of the label in the set s go on to
   unfoldable pub onwardCell : ℕ → ℕ → ℕ → ℕ
-  onwardCell s l p = onlyIf (eqb (getD labels p 8) l && has s p) (getD after p 0)
+  onwardCell s l p = onlyIf (eqb (getD labels p 0) l && has s p) (getD after p 0)
 
   unfoldable pub onward : ℕ → ℕ → ℕ
   onward s l = gather (onwardCell s l) 10

@@ -26,15 +26,15 @@ unfoldable pub arrived : Walk → ℕ → ℕ → ℕ → Walk
 arrived w k t j =
     elim (ltb j (w .states)) [ true ↦ toState w k j | false ↦ elim (ltb (w .states) 16) [ true ↦ toNew w k t | false ↦ tooMany w ] ]
 
--- `vs` are the sets of positions from which words lead to the end
-module _ (vs after labels : List ℕ) where
-  -- what cell k, state k / 8 and label k % 8, leads to; a set that meets none of `vs` is dead and no state
-  unfoldable pub reached : Walk → ℕ → ℕ → Walk
-  reached w k t = elim (sameOn vs t 0) [ true ↦ w | false ↦ arrived w k t (placeSame vs (take (w .states) (w .sets)) t) ]
+-- the set t is reached at cell k; a set that meets none of `vs`, the sets of positions from which words lead to the end, is dead and no state
+unfoldable pub reached : List ℕ → Walk → ℕ → ℕ → Walk
+reached vs w k t = elim (sameOn vs t 0) [ true ↦ w | false ↦ arrived w k t (placeSame vs (take (w .states) (w .sets)) t) ]
 
+module _ (vs after labels : List ℕ) where
+  -- cell k is state k / 8 and label k % 8
   unfoldable pub walkTurn : ℕ → Walk → Walk
   walkTurn k w =
-      elim (ltb (k / 8) (w .states)) [ true ↦ reached w k (onward after labels (getD (w .sets) (k / 8) 0) (k % 8)) | false ↦ w ]
+      elim (ltb (k / 8) (w .states)) [ true ↦ reached vs w k (onward after labels (getD (w .sets) (k / 8) 0) (k % 8)) | false ↦ w ]
 
   unfoldable pub walkTo : ℕ → ℕ → Walk
   walkTo start zero = startWalk start

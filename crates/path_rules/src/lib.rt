@@ -13,7 +13,7 @@ use crate::sets::has_bit;
 use crate::sets::only_if;
 use crate::vectors::find_vectors;
 use crate::walk::Walk;
-use crate::walk::walk;
+use crate::walk::walk_all;
 ghost use mathlib.Core.Path.{_≡_};
 ghost use Prim.Native.Nat.{_<_, _≤_};
 ghost use Rattle.path_rules.specs.Parts.{tabulate};
@@ -106,7 +106,7 @@ fn walk_of(after: [u64; 10], labels: [u64; 10], start: u64) -> Walk
 {
     let mut cells = [0u64; 2048];
     let count = find_vectors(after, labels, &mut cells);
-    walk(&cells[..count], after, labels, start)
+    walk_all(&cells[..count], after, labels, start)
 }
 
 // The table of a whole expression.

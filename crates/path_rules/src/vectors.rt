@@ -123,7 +123,8 @@ pub fn same(vs: &[u64], a: u64, b: u64) -> bool
 {
     let mut i: usize = 0;
     while i < vs.len() {
-        if !alike(vs[i], a, b) {
+        let v = vs[i];
+        if !alike(v, a, b) {
             return false;
         }
         i += 1;

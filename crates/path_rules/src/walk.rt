@@ -96,7 +96,7 @@ fn walk_turn(vs: &[u64], after: [u64; 10], labels: [u64; 10], w: Walk, k: usize)
     w
 }
 
-pub fn walk(vs: &[u64], after: [u64; 10], labels: [u64; 10], start: u64) -> Walk
+pub fn walk_all(vs: &[u64], after: [u64; 10], labels: [u64; 10], start: u64) -> Walk
     ensures answer { λ r. ⌜ r ≡ walkTo (now (vs .entry)) after labels start 128 ⌝ }
 {
     let mut w = start_walk(start);

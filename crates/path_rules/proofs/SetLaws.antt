@@ -98,11 +98,11 @@ someBelow f (suc n) = someBelow f n || f n
 pub some-intro : (f : ℕ → Bool) (n x : ℕ) → x < n → f x ≡ true → someBelow f n ≡ true
 unfolding someBelow
 some-intro f zero x b h = absurd (omega arith)
-some-intro f (suc n) x b h = at (Two (eqb x n))
+some-intro f (suc n) x b h = at (Two (eqb x n)) (λ k. some-intro f n x k h)
   where
-    at : (eqb x n ≡ true) ⊎ (eqb x n ≡ false) → (someBelow f n || f n) ≡ true
-    at (inl e) = or-right (someBelow f n) _ (rw (eqb-true x n e) at h)
-    at (inr e) = let z = eqb-false x n e in or-left _ _ (some-intro f n x (omega (arith, b, z)) h)
+    at : (eqb x n ≡ true) ⊎ (eqb x n ≡ false) → (x < n → someBelow f n ≡ true) → (someBelow f n || f n) ≡ true
+    at (inl e) ih = or-right (someBelow f n) _ (rw (eqb-true x n e) at h)
+    at (inr e) ih = let z = eqb-false x n e in or-left _ _ (ih (omega (arith, b, z)))
 
 pub some-elim : (f : ℕ → Bool) (n : ℕ) → someBelow f n ≡ true → (x : ℕ) × (x < n) × (f x ≡ true)
 unfolding someBelow
@@ -118,14 +118,15 @@ has-gather f (suc n) x = has-or (gather f n) (f n) x ∙ ap (λ (b : Bool). b ||
 -- a set that is not empty has a number
 some-bit : (fuel set : ℕ) → set ≤ fuel → (set ≡ 0 → ⊥) → (x : ℕ) × (has set x ≡ true)
 some-bit zero set b h = absurd (h (omega arith))
-some-bit (suc fuel) set b h = at (Two (eqb (set % 2) 1))
+some-bit (suc fuel) set b h = at (Two (eqb (set % 2) 1)) (some-bit fuel (set / 2))
   where
     half : eqb (set % 2) 1 ≡ false → set / 2 ≡ 0 → ⊥
     half e z = let o = eqb-false (set % 2) 1 e in h (omega (arith, o, z))
 
-    at : (eqb (set % 2) 1 ≡ true) ⊎ (eqb (set % 2) 1 ≡ false) → (x : ℕ) × (has set x ≡ true)
-    at (inl e) = (0, has-zero set ∙ e)
-    at (inr e) = let r = some-bit fuel (set / 2) (omega arith) (half e) in (suc (r .0), has-suc set (r .0) ∙ r .1)
+    at : (eqb (set % 2) 1 ≡ true) ⊎ (eqb (set % 2) 1 ≡ false) → (set / 2 ≤ fuel → (set / 2 ≡ 0 → ⊥) → (x : ℕ) × (has (set / 2) x ≡ true))
+        → (x : ℕ) × (has set x ≡ true)
+    at (inl e) ih = (0, has-zero set ∙ e)
+    at (inr e) ih = let r = ih (omega arith) (half e) in (suc (r .0), has-suc set (r .0) ∙ r .1)
 
 -- two sets meet exactly if a number is in both
 pub meets-elim : (a b : ℕ) → meets a b ≡ true → (x : ℕ) × (has a x ≡ true) × (has b x ≡ true)

@@ -1,0 +1,50 @@
+use borrow.Author.Needs.{needs}
+use Rattle.path_rules.proofs.reading.close.Statement.{statement}
+use Rattle.path_rules.proofs.reading.close.Tie as tie
+use Rattle.path_rules.proofs.reading.close.Reads as reads
+use Rattle.path_rules.proofs.reading.close.Lts as lts
+use Rattle.path_rules.proofs.reading.choose.Reads as choose-reads
+use Rattle.path_rules.proofs.reading.merge.Reads as merge-reads
+use Rattle.path_rules.proofs.reading.pop.Reads as pop-reads
+use Rattle.path_rules.proofs.reading.spoil.Reads as spoil-reads
+use Rattle.path_rules.proofs.sets.both.Reads as both-reads
+
+-- src/reading.rt:233:8
+both-requires : tie.Need-both-requires
+both-requires c κs = search needs
+
+-- src/reading.rt:234:27
+merge-requires : tie.Need-merge-requires
+merge-requires c κs = search needs
+
+-- src/reading.rt:234:20
+choose-requires : tie.Need-choose-requires
+choose-requires c κs = search needs
+
+-- src/reading.rt:234:9
+pop-requires : tie.Need-pop-requires
+pop-requires c κs = ?
+
+-- src/reading.rt:234:9
+returns : tie.Need-returns
+returns c = ?
+
+-- src/reading.rt:236:5
+spoil-requires : tie.Need-spoil-requires
+spoil-requires c κs = search needs
+
+-- src/reading.rt:229:1
+returns-2 : tie.Need-returns-2
+returns-2 c = ?
+
+pub close-spec : {M : Type 1} → statement M
+close-spec =
+    tie.close
+    (tie.spec
+    both-requires
+    merge-requires
+    choose-requires
+    pop-requires
+    returns
+    spoil-requires
+    returns-2)

@@ -1,0 +1,26 @@
+use borrow.Author.Needs.{needs}
+use Rattle.path_rules.proofs.reading.star.Statement.{statement}
+use Rattle.path_rules.proofs.reading.star.Tie as tie
+use Rattle.path_rules.proofs.reading.star.Reads as reads
+use Rattle.path_rules.proofs.reading.star.Lts as lts
+use Rattle.path_rules.proofs.reading.repeat.Reads as repeat-reads
+use Rattle.path_rules.proofs.reading.spoil.Reads as spoil-reads
+
+-- src/reading.rt:243:9
+repeat-requires : tie.Need-repeat-requires
+repeat-requires c κs = search needs
+
+-- src/reading.rt:243:9
+returns : tie.Need-returns
+returns c = ?
+
+-- src/reading.rt:245:5
+spoil-requires : tie.Need-spoil-requires
+spoil-requires c κs = search needs
+
+-- src/reading.rt:239:1
+returns-2 : tie.Need-returns-2
+returns-2 c = ?
+
+pub star-spec : {M : Type 1} → statement M
+star-spec = tie.close (tie.spec repeat-requires returns spoil-requires returns-2)

@@ -1,0 +1,26 @@
+use borrow.Author.Needs.{needs}
+use Rattle.path_rules.proofs.table.Statement.{statement}
+use Rattle.path_rules.proofs.table.Tie as tie
+use Rattle.path_rules.proofs.table.Reads as reads
+use Rattle.path_rules.proofs.table.Lts as lts
+use Rattle.path_rules.proofs.accept_cells.Reads as accept-cells-reads
+use Rattle.path_rules.proofs.refuse.Reads as refuse-reads
+
+-- src/lib.rt:91:9
+refuse-requires : tie.Need-refuse-requires
+refuse-requires c κs = search needs
+
+-- src/lib.rt:91:9
+returns : tie.Need-returns
+returns c = ?
+
+-- src/lib.rt:95:9
+accept-cells-requires : tie.Need-accept-cells-requires
+accept-cells-requires c κs = search needs
+
+-- src/lib.rt:87:1
+returns-2 : tie.Need-returns-2
+returns-2 c = ?
+
+pub table-spec : {M : Type 1} → statement M
+table-spec = tie.close (tie.spec refuse-requires returns accept-cells-requires returns-2)

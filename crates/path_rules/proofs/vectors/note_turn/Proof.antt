@@ -1,0 +1,47 @@
+use borrow.Author.Needs.{needs}
+use Rattle.path_rules.proofs.vectors.note_turn.Statement.{statement}
+use Rattle.path_rules.proofs.vectors.note_turn.Tie as tie
+use Rattle.path_rules.proofs.vectors.note_turn.Reads as reads
+use Rattle.path_rules.proofs.vectors.note_turn.Lts as lts
+use Rattle.path_rules.proofs.vectors.note.Reads as note-reads
+use Rattle.path_rules.proofs.vectors.positions_before.Reads as positions-before-reads
+
+-- src/vectors.rt:92:17
+mul-v : tie.Need-mul-v
+mul-v c = search needs
+
+-- src/vectors.rt:92:17
+slice-read-v : tie.Need-slice-read-v
+slice-read-v c = search needs
+
+-- src/vectors.rt:93:35
+positions-before-requires : tie.Need-positions-before-requires
+positions-before-requires c κs = search needs
+
+-- src/vectors.rt:93:9
+note-requires : tie.Need-note-requires
+note-requires c κs = search needs
+
+-- src/vectors.rt:93:9
+same-length : tie.Need-same-length
+same-length c = search needs
+
+-- src/vectors.rt:93:9
+returns : tie.Need-returns
+returns c = ?
+
+-- src/vectors.rt:86:1
+returns-2 : tie.Need-returns-2
+returns-2 c = ?
+
+pub note-turn-spec : {M : Type 1} → statement M
+note-turn-spec =
+    tie.close
+    (tie.spec
+    mul-v
+    slice-read-v
+    positions-before-requires
+    note-requires
+    same-length
+    returns
+    returns-2)
