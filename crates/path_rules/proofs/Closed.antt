@@ -17,7 +17,7 @@ use Rattle.scope_graph.specs.Rows.{anyOf}
 use Rattle.scope_graph.proofs.Lists.{Two, here, there, and-left, and-right, and-both, is-not, not-is, true-false}
 use Rattle.scope_graph.proofs.Pigeon.{in-true, not-in, distinct-bounded}
 use Rattle.path_rules.specs.Table.{Over}
-use Rattle.path_rules.specs.Vectors.{endSet, before, Found, isNew, noted, noteTurn, turns, vectors}
+use Rattle.path_rules.specs.Vectors.{endSet, before, Found, isNew, noted, noteTurn, firstFound, turns, vectors}
 use Rattle.path_rules.specs.Rules.{vectorsOf}
 use Rattle.path_rules.proofs.Fill.{below-suc}
 use Rattle.path_rules.proofs.VectorLaws.{vectorOf, before-lt}
@@ -183,8 +183,8 @@ module _ (after labels : List ℕ) where
   closed-turns (suc n) f c = closed-turn n (turns after labels n f) (closed-turns n f c)
 
   pub closed-all : Closed 16384 (vectors after labels)
-  unfolding vectors
-  closed-all = closed-turns 16384 _ (closed-first (replicate 2048 0) (length-replicate {A = ℕ} 2048 0))
+  unfolding vectors firstFound
+  closed-all = closed-turns 16384 firstFound (closed-first (replicate 2048 0) (length-replicate {A = ℕ} 2048 0))
 
   -- all vectors, of words over eight labels
   abbrev pub vectorList : List ℕ

@@ -10,6 +10,7 @@ pub mod Tracks
 pub mod VectorLaws
 pub mod Closed
 pub mod Alike
+pub mod Ends
 pub mod WalkLaws
 pub mod ReadingLaws
 pub mod Fewest

@@ -18,6 +18,7 @@ use Rattle.path_rules.specs.Promises.{AtLeast, RowPromises, Promises}
 use Rattle.path_rules.specs.declared.reading.Reading.{Reading}
 use Rattle.path_rules.specs.declared.walk.Walk.{Walk}
 use Rattle.path_rules.specs.declared.Rules.{Rules}
+use Rattle.path_rules.proofs.Ends.{rules-long, rules-part, rules-whole}
 use Rattle.path_rules.proofs.ReadingLaws.{Ready, ready, taken, one-tree}
 use Rattle.path_rules.proofs.TableLaws.{Below, reads-below, made, table-decides, table-fewest, table-met, table-over, walked-few}
 
@@ -38,32 +39,20 @@ module _ (labels text : List ℕ) where
   abbrev read : Reading
   read = readAll labels fresh text
 
-  rules-long : 64 < length text → rulesOf labels text ≡ refusedBy 12
-  unfolding rulesOf
-  rules-long h = rw (lt-ltb 64 (length text) h, rulesOf)
-
-  rules-part : length text ≤ 64 → isWhole read ≡ false → rulesOf labels text ≡ refusedBy 12
-  unfolding rulesOf readRules
-  rules-part h e = rw (le-ltb 64 (length text) h, rulesOf, e, readRules)
-
-  rules-whole : length text ≤ 64 → isWhole read ≡ true → rulesOf labels text ≡ wholeRules (chosen (merged read))
-  unfolding rulesOf readRules
-  rules-whole h e = rw (le-ltb 64 (length text) h, rulesOf, e, readRules)
-
   taken-both : (¬ (rulesOf labels text .refusal ≡ 12)) ↔ ((e : Expr) × Expression labels e text)
   taken-both = (forth (Two (ltb 64 (length text))) (Two (isWhole read)), back)
     where
       forth : (ltb 64 (length text) ≡ true) ⊎ (ltb 64 (length text) ≡ false) → (isWhole read ≡ true) ⊎ (isWhole read ≡ false)
           → ¬ (rulesOf labels text .refusal ≡ 12) → (e : Expr) × Expression labels e text
-      forth (inl l) w h = absurd (h (ap (λ r. r .refusal) (rules-long (ltb-true _ _ l))))
+      forth (inl l) w h = absurd (h (ap (λ r. r .refusal) (sym (rules-long labels text (ltb-true _ _ l)))))
       forth (inr l) (inl w) h = taken labels text (ltb-false _ _ l) w
-      forth (inr l) (inr w) h = absurd (h (ap (λ r. r .refusal) (rules-part (ltb-false _ _ l) w)))
+      forth (inr l) (inr w) h = absurd (h (ap (λ r. r .refusal) (sym (rules-part labels text (ltb-false _ _ l) w))))
 
       back : (e : Expr) × Expression labels e text → ¬ (rulesOf labels text .refusal ≡ 12)
       back (e, x) h =
           let r = ready labels e text x in
-          ⊎-elim (λ k. omega (arith, k, sym (ap (λ r. r .refusal) (rules-whole (x .bytes) (r .whole))) ∙ h))
-          (λ k. omega (arith, k, sym (ap (λ r. r .refusal) (rules-whole (x .bytes) (r .whole))) ∙ h)) (whole-refusal (chosen (merged read)))
+          ⊎-elim (λ k. omega (arith, k, ap (λ r. r .refusal) (rules-whole labels text (x .bytes) (r .whole)) ∙ h))
+          (λ k. omega (arith, k, ap (λ r. r .refusal) (rules-whole labels text (x .bytes) (r .whole)) ∙ h)) (whole-refusal (chosen (merged read)))
 
   module _ (e : Expr) (eight : length labels ≤ 8) (x : Expression labels e text) where
     low : Below (length labels) e
@@ -78,11 +67,11 @@ module _ (labels text : List ℕ) where
     made-is : (o : walk .over ≡ false)
         → rulesOf labels text ≡ made e whole (ready labels e text x .letters) (ready labels e text x .tracked) (length labels) eight low o
     unfolding wholeRules tableOf
-    made-is o = rules-whole (x .bytes) (ready labels e text x .whole) ∙ rw (o, tableOf)
+    made-is o = sym (rules-whole labels text (x .bytes) (ready labels e text x .whole)) ∙ rw (o, tableOf)
 
     over-is : walk .over ≡ true → rulesOf labels text ≡ refusedBy 13
     unfolding wholeRules tableOf
-    over-is o = rules-whole (x .bytes) (ready labels e text x .whole) ∙ rw (o, tableOf)
+    over-is o = sym (rules-whole labels text (x .bytes) (ready labels e text x .whole)) ∙ rw (o, tableOf)
 
     row-promises : RowPromises labels text e
     row-promises = by (Two (walk .over))
@@ -91,14 +80,14 @@ module _ (labels text : List ℕ) where
         by (inl o) =
             let z = over-is o in
             let many = table-over e whole (ready labels e text x .letters) (ready labels e text x .tracked) (length labels) eight low o in
-            let no : {A : Type 0} → rulesOf labels text .refusal ≡ 0 → A = λ h. absurd (let y : 13 ≡ 0 = sym (ap (λ r. r .refusal) z) ∙ h in omega arith) in
+            let no : rulesOf labels text .refusal ≡ 0 → ⊥ = λ h. (let y : _≡_ {A = ℕ} 13 0 = sym (ap (λ r. r .refusal) z) ∙ h in omega arith) in
             record {
               too-many = ((λ h. many), λ h. ap (λ r. r .refusal) z);
               refused = λ h. absurd (h (ap (λ r. r .refusal) z));
-              decides = λ h. no h;
-              fewest = λ h. no h;
+              decides = λ h. absurd (no h);
+              fewest = λ h. absurd (no h);
               few = rw z (omega arith);
-              numbered = λ h. no h;
+              numbered = λ h. absurd (no h);
             }
         by (inr o) =
             let z = made-is o in
@@ -106,7 +95,7 @@ module _ (labels text : List ℕ) where
             let b = walked-few e whole (ready labels e text x .letters) (ready labels e text x .tracked) (length labels) eight low in
             record {
               too-many =
-                  ((λ h. absurd (let y : 0 ≡ 13 = sym (ap (λ r. r .refusal) z) ∙ h in omega arith)),
+                  ((λ h. absurd (let y : _≡_ {A = ℕ} 0 13 = sym (ap (λ r. r .refusal) z) ∙ h in omega arith)),
                   λ h. absurd (let y = h (walk .states) _ _ d in omega arith));
               refused = λ h. ap (λ r. r .refusal) z;
               decides = λ h. rw z d;

@@ -11,8 +11,8 @@ use lib.ListN.{length}
 use borrow.Author.Tests.{lt-ltb, ltb-true, eq-eqb, eqb-true}
 use Rattle.scope_graph.proofs.Lists.{Two, and-left, and-right, and-both, true-false}
 use Rattle.path_rules.specs.Expression.{Expr, letter, seq, alt, star, size}
-use Rattle.path_rules.specs.Grammar.{Expression, Reads, sides}
-use Rattle.path_rules.specs.Reading.{fresh, spoiled, merged, chosen, popped, placed, opened, closed, starred, barred, lettered, placeOf, byKind, readByte, readAll}
+use Rattle.path_rules.specs.Grammar.{Expression, Reads, sides, placeOf}
+use Rattle.path_rules.specs.Reading.{fresh, spoiled, merged, chosen, popped, placed, opened, closed, starred, barred, lettered, byKind, readByte, readAll}
 use Rattle.path_rules.specs.Rules.{isWhole}
 use Rattle.path_rules.specs.declared.reading.Reading.{Reading}
 use Rattle.path_rules.proofs.Trees.{seqO, altO, Frame, Tree, tree, closeTree, starTree, barTree, letterTree, treeKind, treeByte, treeAll, goes}

@@ -1,5 +1,5 @@
 -- Steps of the code's loops, over plain lists. Assumes nothing.
-use Prim.Native.Nat.{ℕ, zero, suc, _+_, _-_, _<_, _≤_}
+use Prim.Native.Nat.{ℕ, zero, suc, _+_, _-_, _/_, _%_, _<_, _≤_}
 use mathlib.Core.Path.{_≡_, refl, sym, ap, _∙_, subst}
 use mathlib.Core.Bool.{Bool, true, false, not, _&&_, _||_, false≢true}
 use mathlib.Core.Logic.{_⊎_, inl, inr, ⊎-elim}
@@ -7,16 +7,18 @@ use mathlib.Core.List.{List, [], _∷_}
 use native.Mathlib.Omega.{arith}
 use native.Mathlib.Numerals.{add-one}
 use lib.Dec.{eqb, ltb}
-use lib.ListN.{length, getD, drop, set, take, length-set, drop-of-length-le}
+use lib.ListN.{length, getD, drop, set, take, replicate, length-set, drop-of-length-le}
 use lib.Seq.{drop-cons}
 use borrow.Author.Tests.{eq-eqb, ne-eqb, lt-ltb, le-ltb, ltb-true, ltb-false}
 use Rattle.scope_graph.specs.Rows.{anyOf}
 use Rattle.scope_graph.proofs.Lists.{Two, and-left, and-right}
 use Rattle.path_rules.specs.Sets.{gather, meets}
-use Rattle.path_rules.specs.Parts.{emptyPart, noPart}
-use Rattle.path_rules.specs.Reading.{spoiled, merged, chosen, pushed, popped, repeated, placed, opened, closed, starred, barred, lettered, placeOf, byKind, readByte, readAll}
-use Rattle.path_rules.specs.Vectors.{Found, isNew, noted, noteTurn, turns, alikeOn, sameOn, placeSame}
+use Rattle.path_rules.specs.Parts.{emptyPart, noPart, tabulate}
+use Rattle.path_rules.specs.Grammar.{placeOf}
+use Rattle.path_rules.specs.Reading.{spoiled, merged, chosen, pushed, popped, repeated, placed, opened, closed, starred, barred, lettered, byKind, readByte, readAll}
+use Rattle.path_rules.specs.Vectors.{Found, isNew, noted, noteTurn, firstFound, turns, vectors, before, endSet, alikeOn, sameOn, placeSame}
 use Rattle.path_rules.specs.Walk.{startWalk, toState, toNew, tooMany, arrived, reached, walkTurn, walkTo}
+use Rattle.path_rules.specs.Rules.{refusedBy, acceptCell, tableOf}
 use Rattle.path_rules.specs.declared.reading.Reading.{Reading}
 use Rattle.path_rules.specs.declared.walk.Walk.{Walk}
 
@@ -201,7 +203,7 @@ module _ (s : Reading) where
 
   pub starred-not : s .filled ≡ false → spoiled s ≡ starred s
   unfolding starred
-  starred-not h = rw (h, starred)
+  starred-not h = if-false (s .filled) (repeated s) (spoiled s) h
 
   pub barred-so : s .filled ≡ true → chosen (merged s) ≡ barred s
   unfolding barred
@@ -209,7 +211,7 @@ module _ (s : Reading) where
 
   pub barred-not : s .filled ≡ false → spoiled s ≡ barred s
   unfolding barred
-  barred-not h = rw (h, barred)
+  barred-not h = if-false (s .filled) (chosen (merged s)) (spoiled s) h
 
   pub lettered-so : (l : ℕ) → (ltb l 8 && ltb (s .letters) 10) ≡ true → placed (merged s) l ≡ lettered s l
   unfolding lettered
@@ -218,3 +220,92 @@ module _ (s : Reading) where
   pub lettered-not : (l : ℕ) → (ltb l 8 && ltb (s .letters) 10) ≡ false → spoiled s ≡ lettered s l
   unfolding lettered
   lettered-not l h = rw (h, lettered)
+
+  -- what the parts of a byte's work require
+  pub pop-fits : (m k : Reading) (r : Bool) → k ≡ chosen m → m ≡ merged s → r ≡ (s .filled && ltb 0 (s .depth)) → r ≡ true → s .depth ≤ 64
+      → (0 < k .depth) × (k .depth ≤ 64)
+  pop-fits m k r a b d e h =
+      let z : k .depth ≡ s .depth = ap (λ x. x .depth) (a ∙ ap chosen b) in
+      let y = ltb-true 0 (s .depth) (and-right (s .filled) _ (sym d ∙ e)) in
+      (omega arith, omega arith)
+
+  pub letter-fits : (m : Reading) (l : ℕ) (r : Bool) → m ≡ merged s → r ≡ (ltb l 8 && ltb (s .letters) 10) → r ≡ true → m .letters < 10
+  letter-fits m l r b d e =
+      let z : m .letters ≡ s .letters = ap (λ x. x .letters) b in
+      let y = ltb-true (s .letters) 10 (and-right (ltb l 8) _ (sym d ∙ e)) in
+      omega arith
+
+  pub push-fits : (m : Reading) → m ≡ merged s → s .depth < 64 → m .depth < 64
+  push-fits m b h = let z : m .depth ≡ s .depth = ap (λ x. x .depth) b in omega arith
+
+-- which byte it is
+module _ (ls : List ℕ) (s : Reading) (b : ℕ) where
+  pub byte-open : b ≡ 40 → opened s ≡ readByte ls s b
+  unfolding readByte byKind
+  byte-open e = rw (eq-eqb b 40 e, readByte)
+
+  pub byte-close : (b ≡ 40 → ⊥) → b ≡ 41 → closed s ≡ readByte ls s b
+  unfolding readByte byKind
+  byte-close n₁ e = rw (ne-eqb b 40 n₁, eq-eqb b 41 e, readByte)
+
+  pub byte-star : (b ≡ 40 → ⊥) → (b ≡ 41 → ⊥) → b ≡ 42 → starred s ≡ readByte ls s b
+  unfolding readByte byKind
+  byte-star n₁ n₂ e = rw (ne-eqb b 40 n₁, ne-eqb b 41 n₂, eq-eqb b 42 e, readByte)
+
+  pub byte-bar : (b ≡ 40 → ⊥) → (b ≡ 41 → ⊥) → (b ≡ 42 → ⊥) → b ≡ 124 → barred s ≡ readByte ls s b
+  unfolding readByte byKind
+  byte-bar n₁ n₂ n₃ e = rw (ne-eqb b 40 n₁, ne-eqb b 41 n₂, ne-eqb b 42 n₃, eq-eqb b 124 e, readByte)
+
+  pub byte-letter : (b ≡ 40 → ⊥) → (b ≡ 41 → ⊥) → (b ≡ 42 → ⊥) → (b ≡ 124 → ⊥) → lettered s (placeOf 0 b ls) ≡ readByte ls s b
+  unfolding readByte byKind
+  byte-letter n₁ n₂ n₃ n₄ = rw (ne-eqb b 40 n₁, ne-eqb b 41 n₂, ne-eqb b 42 n₃, ne-eqb b 124 n₄, readByte)
+
+-- sets noted
+module _ (f : Found) (v : ℕ) where
+  pub noted-known : anyOf (eqb v) (take (f .count) (f .cells)) ≡ true → f ≡ noted f v
+  unfolding noted isNew
+  noted-known e = at (ltb (f .count) (length (f .cells)))
+    where
+      at : (c : Bool) → f ≡ (elim (c && not (anyOf (eqb v) (take (f .count) (f .cells)))) as (λ _. Found)
+          [ true ↦ record { cells = set (f .cells) (f .count) v; count = f .count + 1 } | false ↦ f ])
+      at true = rw e
+      at false = refl
+
+  pub noted-new : anyOf (eqb v) (take (f .count) (f .cells)) ≡ false → f .count < length (f .cells)
+      → record { cells = set (f .cells) (f .count) v; count = f .count + 1 } ≡ noted f v
+  unfolding noted isNew
+  noted-new e h = rw (lt-ltb (f .count) (length (f .cells)) h, e, noted)
+
+  pub noted-full : length (f .cells) ≤ f .count → f ≡ noted f v
+  unfolding noted isNew
+  noted-full h = rw (le-ltb (f .count) (length (f .cells)) h, noted)
+
+module _ (after labels : List ℕ) (k : ℕ) (f : Found) where
+  pub turn-so : k / 8 < f .count → noted f (before after labels (getD (f .cells) (k / 8) 0) (k % 8)) ≡ noteTurn after labels k f
+  unfolding noteTurn
+  turn-so h = rw (lt-ltb (k / 8) (f .count) h, noteTurn)
+
+  pub turn-not : f .count ≤ k / 8 → f ≡ noteTurn after labels k f
+  unfolding noteTurn
+  turn-not h = rw (le-ltb (k / 8) (f .count) h, noteTurn)
+
+pub room-by : (f g : Found) → f ≡ g → g .count ≤ length (g .cells) → f .count ≤ length (f .cells)
+room-by f g e h = subst (λ x. x .count ≤ length (x .cells)) (sym e) h
+
+pub found-start : (after labels cells : List ℕ) → cells ≡ replicate 2048 0 → record { cells = set cells 0 endSet; count = 1 } ≡ turns after labels 0 firstFound
+unfolding turns firstFound
+found-start after labels cells e = ap (λ l. record { cells = set l 0 endSet; count = 1 }) e
+
+pub found-all : (after labels : List ℕ) (k : ℕ) (f : Found) → f ≡ turns after labels k firstFound → k ≤ 16384 → 16384 ≤ k → f ≡ vectors after labels
+unfolding vectors
+found-all after labels k f e h g = let z : k ≡ 16384 = omega arith in e ∙ ap (λ n. turns after labels n firstFound) z
+
+-- the rows made of a walk
+pub table-refused : (w : Walk) → w .over ≡ true → refusedBy 13 ≡ tableOf w
+unfolding tableOf
+table-refused w e = rw (e, tableOf)
+
+pub table-made : (w : Walk) → w .over ≡ false
+    → record { refusal = 0; states = w .states; next = w .next; accepts = tabulate (acceptCell (w .sets)) 16 } ≡ tableOf w
+unfolding tableOf
+table-made w e = rw (e, tableOf)

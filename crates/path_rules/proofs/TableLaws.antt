@@ -15,11 +15,11 @@ use borrow.Author.Tests.{lt-ltb, le-ltb, ltb-true, ltb-false, eqb-true, eq-eqb}
 use Rattle.scope_graph.specs.Language.{_∈_}
 use Rattle.scope_graph.proofs.Lists.{Two, and-left, and-right, and-both, or-left, or-right, true-false}
 use Rattle.path_rules.specs.Expression.{Expr, letter, seq, alt, star, size, joined, Each, In}
-use Rattle.path_rules.specs.Grammar.{Expression, Reads, item, items, sides, label, starred, bracketed, single, behind, side, barred, Binding}
+use Rattle.path_rules.specs.Grammar.{Expression, Reads, item, items, sides, label, starred, bracketed, single, behind, side, barred, Binding, placeOf}
 use Rattle.path_rules.specs.Table.{leadsTo, Accepted, Over, Decides, Met}
 use Rattle.path_rules.specs.Sets.{has, onlyIf, meets}
 use Rattle.path_rules.specs.Parts.{tabulate, linked, linkCell}
-use Rattle.path_rules.specs.Reading.{fresh, merged, chosen, placeOf, readAll}
+use Rattle.path_rules.specs.Reading.{fresh, merged, chosen, readAll}
 use Rattle.path_rules.specs.Vectors.{endSet, onward, sameOn}
 use Rattle.path_rules.specs.Walk.{walkTo}
 use Rattle.path_rules.specs.Rules.{isWhole, afterEnd, startSet, refusedBy, acceptCell, tableOf, vectorsOf, walkOf, wholeRules, readRules, rulesOf, target, nextIn, acceptsIn}

@@ -11,8 +11,7 @@ use lib.ListN.{length}
 use borrow.Author.Tests.{eqb-true, eq-eqb, ltb-true, lt-ltb}
 use Rattle.scope_graph.proofs.Lists.{Two, and-left, and-right, and-both, true-false}
 use Rattle.path_rules.specs.Expression.{Expr, letter, seq, alt, star, size}
-use Rattle.path_rules.specs.Grammar.{Binding, item, items, sides, isSign, Reads, label, starred, bracketed, single, behind, side, barred}
-use Rattle.path_rules.specs.Reading.{placeOf}
+use Rattle.path_rules.specs.Grammar.{Binding, item, items, sides, isSign, Reads, label, starred, bracketed, single, behind, side, barred, placeOf}
 use Rattle.path_rules.proofs.Trees.{seqO, altO, Frame, Tree, tree, openTree, closeTree, starTree, barTree, letterTree, treeKind, treeByte, treeAll}
 
 module _ (ls : List ℕ) where

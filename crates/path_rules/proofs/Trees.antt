@@ -12,8 +12,7 @@ use lib.ListN.{length}
 use borrow.Author.Tests.{eqb-true, eq-eqb, ltb-true, lt-ltb}
 use Rattle.scope_graph.proofs.Lists.{Two, and-left, and-right, and-both, true-false}
 use Rattle.path_rules.specs.Expression.{Expr, letter, seq, alt, star, size}
-use Rattle.path_rules.specs.Grammar.{Binding, item, items, sides, isSign, Reads, label, starred, bracketed, single, behind, side, barred}
-use Rattle.path_rules.specs.Reading.{placeOf}
+use Rattle.path_rules.specs.Grammar.{Binding, item, items, sides, isSign, Reads, label, starred, bracketed, single, behind, side, barred, placeOf}
 
 -- one behind the other, or a choice, where either may be missing
 abbrev pub seqO : Option Expr → Option Expr → Option Expr

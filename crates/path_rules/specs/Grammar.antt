@@ -1,12 +1,11 @@
 -- Which texts are expressions (02, K6), without any reader. Bytes: 40 and 41 are the round brackets, 42 the star, 124 the bar. Assumes nothing: these are definitions.
-use Prim.Native.Nat.{ℕ, _≤_, _<_}
+use Prim.Native.Nat.{ℕ, suc, _≤_, _<_}
 use mathlib.Core.Path.{_≡_}
-use mathlib.Core.Bool.{Bool, false, _||_}
+use mathlib.Core.Bool.{Bool, true, false, _||_}
 use mathlib.Core.List.{List, [], _∷_, _++_}
 use lib.Dec.{eqb}
 use lib.ListN.{length}
 use Rattle.path_rules.specs.Expression.{Expr, letter, seq, alt, star, size}
-use Rattle.path_rules.specs.Reading.{placeOf}
 
 -- how loosely a text binds: one item, items one after the other, or sides of bars
 pub data Binding : Type 0 where
@@ -15,6 +14,11 @@ pub data Binding : Type 0 where
 -- one of the four signs, which are no labels
 unfoldable pub isSign : ℕ → Bool
 isSign c = eqb c 40 || (eqb c 41 || (eqb c 42 || eqb c 124))
+
+-- a label's number is its place; 8, which is no label's, if the byte is none of them
+unfoldable pub placeOf : ℕ → ℕ → List ℕ → ℕ
+placeOf i b [] = 8
+placeOf i b (l ∷ ls) = elim (eqb b l) [ true ↦ i | false ↦ placeOf (suc i) b ls ]
 
 -- The text is an expression, over labels whose numbers are their places: a star binds closest and may follow a star, a bar loosest; every bracket pair and
 -- each side of a bar holds something, since no text here is empty.

@@ -4,6 +4,7 @@ use mathlib.Core.Bool.{Bool, true, false, _&&_, _||_}
 use mathlib.Core.List.{List, [], _∷_}
 use lib.Dec.{eqb, ltb}
 use lib.ListN.{getD, set, length, replicate, take}
+use Rattle.path_rules.specs.Grammar.{placeOf}
 use Rattle.path_rules.specs.Parts.{emptyPart, noPart, letterPart, seqPart, altPart, starPart, linked}
 use Rattle.path_rules.specs.declared.reading.Part.{Part}
 use Rattle.path_rules.specs.declared.reading.Reading.{Reading}
@@ -89,11 +90,6 @@ barred s = elim (s .filled) [ true ↦ chosen (merged s) | false ↦ spoiled s ]
 
 unfoldable pub lettered : Reading → ℕ → Reading
 lettered s label = elim (ltb label 8 && ltb (s .letters) 10) [ true ↦ placed (merged s) label | false ↦ spoiled s ]
-
--- the place of a byte among the labels, of which at most eight count; 8 if it is none of them
-unfoldable pub placeOf : ℕ → ℕ → List ℕ → ℕ
-placeOf i b [] = 8
-placeOf i b (l ∷ ls) = elim (eqb b l) [ true ↦ i | false ↦ placeOf (suc i) b ls ]
 
 -- which of the four signs a byte is, and what it does; any other is a letter
 unfoldable pub byKind : Bool → Bool → Bool → Bool → Reading → ℕ → Reading

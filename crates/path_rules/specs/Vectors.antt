@@ -39,6 +39,10 @@ isNew f v = ltb (f .count) (length (f .cells)) && not (anyOf (eqb v) (take (f .c
 unfoldable pub noted : Found → ℕ → Found
 noted f v = elim (isNew f v) [ true ↦ record { cells = set (f .cells) (f .count) v; count = f .count + 1 } | false ↦ f ]
 
+-- the end's own set is found first; there are at most 2,048 sets
+unfoldable pub firstFound : Found
+firstFound = record { cells = set (replicate 2048 0) 0 endSet; count = 1 }
+
 module _ (after labels : List ℕ) where
   -- turn k: what label k % 8 leads into set k / 8
   unfoldable pub noteTurn : ℕ → Found → Found
@@ -49,9 +53,9 @@ module _ (after labels : List ℕ) where
   turns zero f = f
   turns (suc k) f = noteTurn k (turns k f)
 
-  -- all of them: there are at most 2,048 sets, and 8 labels
+  -- all of them, by each of 8 labels
   unfoldable pub vectors : Found
-  vectors = turns 16384 (record { cells = set (replicate 2048 0) 0 endSet; count = 1 })
+  vectors = turns 16384 firstFound
 
 -- do two sets meet the same ones of a list of sets?
 unfoldable pub alikeOn : ℕ → ℕ → ℕ → Bool

@@ -9,7 +9,8 @@ ghost use mathlib.Core.Path.{_≡_};
 ghost use Prim.Native.Nat.{_<_, _≤_};
 ghost use lib.ListN.{length, drop};
 ghost use Rattle.path_rules.specs.Parts.{seqPart, altPart, starPart, letterPart, emptyPart, noPart, linkCell, linked};
-ghost use Rattle.path_rules.specs.Reading.{fresh, spoiled, merged, chosen, pushed, popped, repeated, opened, closed, starred, barred, placed, lettered, placeOf, readByte, readAll};
+ghost use Rattle.path_rules.specs.Grammar.{placeOf};
+ghost use Rattle.path_rules.specs.Reading.{fresh, spoiled, merged, chosen, pushed, popped, repeated, opened, closed, starred, barred, placed, lettered, readByte, readAll};
 
 // What is kept of a part.
 pub struct Part {

@@ -1,3 +1,4 @@
+use Rattle.path_rules.specs.Rules.{afterEnd}
 use borrow.Author.Needs.{needs}
 use Rattle.path_rules.proofs.after_end.Statement.{statement}
 use Rattle.path_rules.proofs.after_end.Tie as tie
@@ -11,7 +12,8 @@ link-requires c κs = search needs
 
 -- src/lib.rt:52:1
 returns : tie.Need-returns
-returns c = ?
+unfolding afterEnd
+returns c = c .link .ensures
 
 pub after-end-spec : {M : Type 1} → statement M
 after-end-spec = tie.close (tie.spec link-requires returns)

@@ -1,3 +1,5 @@
+use Rattle.path_rules.proofs.Steps.{table-refused, table-made}
+use mathlib.Core.Path.{_≡_, refl, sym, ap, _∙_}
 use borrow.Author.Needs.{needs}
 use Rattle.path_rules.proofs.table.Statement.{statement}
 use Rattle.path_rules.proofs.table.Tie as tie
@@ -12,7 +14,7 @@ refuse-requires c κs = search needs
 
 -- src/lib.rt:91:9
 returns : tie.Need-returns
-returns c = ?
+returns c = c .refuse .ensures ∙ table-refused _ (c .before .if1 .taken)
 
 -- src/lib.rt:95:9
 accept-cells-requires : tie.Need-accept-cells-requires
@@ -20,7 +22,7 @@ accept-cells-requires c κs = search needs
 
 -- src/lib.rt:87:1
 returns-2 : tie.Need-returns-2
-returns-2 c = ?
+returns-2 c = rw (c .accept-cells .ensures) (table-made _ (c .before .before .before .if1 .left))
 
 pub table-spec : {M : Type 1} → statement M
 table-spec = tie.close (tie.spec refuse-requires returns accept-cells-requires returns-2)

@@ -1,3 +1,6 @@
+use Rattle.path_rules.proofs.Steps.{barred-so, barred-not}
+use Rattle.path_rules.specs.Reading.{chosen}
+use mathlib.Core.Path.{_≡_, refl, sym, ap, _∙_}
 use borrow.Author.Needs.{needs}
 use Rattle.path_rules.proofs.reading.bar.Statement.{statement}
 use Rattle.path_rules.proofs.reading.bar.Tie as tie
@@ -17,7 +20,7 @@ choose-requires c κs = search needs
 
 -- src/reading.rt:252:9
 returns : tie.Need-returns
-returns c = ?
+returns c = c .choose .ensures ∙ ap chosen (c .before .merge .ensures) ∙ barred-so _ (c .before .before .if1 .taken)
 
 -- src/reading.rt:254:5
 spoil-requires : tie.Need-spoil-requires
@@ -25,7 +28,7 @@ spoil-requires c κs = search needs
 
 -- src/reading.rt:248:1
 returns-2 : tie.Need-returns-2
-returns-2 c = ?
+returns-2 c = c .spoil .ensures ∙ barred-not _ (c .before .if1 .left)
 
 pub bar-spec : {M : Type 1} → statement M
 bar-spec = tie.close (tie.spec merge-requires choose-requires returns spoil-requires returns-2)

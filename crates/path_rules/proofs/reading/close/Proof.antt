@@ -1,3 +1,6 @@
+use Rattle.path_rules.proofs.Steps.{pop-fits, closed-so, closed-not}
+use Rattle.path_rules.specs.Reading.{chosen, popped}
+use mathlib.Core.Path.{_≡_, refl, sym, ap, _∙_}
 use borrow.Author.Needs.{needs}
 use Rattle.path_rules.proofs.reading.close.Statement.{statement}
 use Rattle.path_rules.proofs.reading.close.Tie as tie
@@ -23,11 +26,11 @@ choose-requires c κs = search needs
 
 -- src/reading.rt:234:9
 pop-requires : tie.Need-pop-requires
-pop-requires c κs = ?
+pop-requires c κs = pop-fits (c .before .before .before .before .before .args .s) _ _ _ (c .choose .ensures) (c .before .merge .ensures) (c .before .before .before .both .ensures) (c .before .before .if1 .taken) (c .before .before .before .before .before .pre)
 
 -- src/reading.rt:234:9
 returns : tie.Need-returns
-returns c = ?
+returns c = c .pop .ensures ∙ ap popped (c .before .choose .ensures ∙ ap chosen (c .before .before .merge .ensures)) ∙ closed-so _ (sym (c .before .before .before .before .both .ensures) ∙ c .before .before .before .if1 .taken)
 
 -- src/reading.rt:236:5
 spoil-requires : tie.Need-spoil-requires
@@ -35,7 +38,7 @@ spoil-requires c κs = search needs
 
 -- src/reading.rt:229:1
 returns-2 : tie.Need-returns-2
-returns-2 c = ?
+returns-2 c = c .spoil .ensures ∙ closed-not _ (sym (c .before .before .both .ensures) ∙ c .before .if1 .left)
 
 pub close-spec : {M : Type 1} → statement M
 close-spec =

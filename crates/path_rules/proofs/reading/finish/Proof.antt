@@ -1,3 +1,5 @@
+use Rattle.path_rules.specs.Reading.{chosen}
+use mathlib.Core.Path.{_≡_, refl, sym, ap, _∙_}
 use borrow.Author.Needs.{needs}
 use Rattle.path_rules.proofs.reading.finish.Statement.{statement}
 use Rattle.path_rules.proofs.reading.finish.Tie as tie
@@ -16,7 +18,7 @@ choose-requires c κs = search needs
 
 -- src/reading.rt:335:1
 returns : tie.Need-returns
-returns c = ?
+returns c = c .choose .ensures ∙ ap chosen (c .before .merge .ensures)
 
 pub finish-spec : {M : Type 1} → statement M
 finish-spec = tie.close (tie.spec merge-requires choose-requires returns)

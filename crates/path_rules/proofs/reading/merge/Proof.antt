@@ -21,7 +21,7 @@ empty-part-requires c κs = search needs
 
 -- src/reading.rt:124:1
 returns : tie.Need-returns
-returns c = ?
+returns c = rw (c .empty-part .ensures, c .before .seq-part .ensures, c .before .before .link .ensures)
 
 pub merge-spec : {M : Type 1} → statement M
 merge-spec = tie.close (tie.spec link-requires seq-part-requires empty-part-requires returns)

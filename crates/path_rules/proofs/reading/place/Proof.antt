@@ -1,5 +1,5 @@
 use Rattle.path_rules.proofs.Steps.{place-here, place-on, place-end}
-use Rattle.path_rules.specs.Reading.{placeOf}
+use Rattle.path_rules.specs.Grammar.{placeOf}
 use lib.ListN.{length, drop, length-replicate}
 use mathlib.Core.Path.{_≡_, refl, sym, ap, _∙_}
 use native.Mathlib.Omega.{arith}

@@ -16,7 +16,7 @@ star-part-requires c κs = search needs
 
 -- src/reading.rt:193:1
 returns : tie.Need-returns
-returns c = ?
+returns c = rw (c .star-part .ensures, c .before .link .ensures)
 
 pub repeat-spec : {M : Type 1} → statement M
 repeat-spec = tie.close (tie.spec link-requires star-part-requires returns)

@@ -1,3 +1,5 @@
+use Rattle.path_rules.proofs.Steps.{starred-so, starred-not}
+use mathlib.Core.Path.{_≡_, refl, sym, ap, _∙_}
 use borrow.Author.Needs.{needs}
 use Rattle.path_rules.proofs.reading.star.Statement.{statement}
 use Rattle.path_rules.proofs.reading.star.Tie as tie
@@ -12,7 +14,7 @@ repeat-requires c κs = search needs
 
 -- src/reading.rt:243:9
 returns : tie.Need-returns
-returns c = ?
+returns c = c .repeat .ensures ∙ starred-so _ (c .before .if1 .taken)
 
 -- src/reading.rt:245:5
 spoil-requires : tie.Need-spoil-requires
@@ -20,7 +22,7 @@ spoil-requires c κs = search needs
 
 -- src/reading.rt:239:1
 returns-2 : tie.Need-returns-2
-returns-2 c = ?
+returns-2 c = c .spoil .ensures ∙ starred-not _ (c .before .if1 .left)
 
 pub star-spec : {M : Type 1} → statement M
 star-spec = tie.close (tie.spec repeat-requires returns spoil-requires returns-2)

@@ -1,3 +1,5 @@
+use Rattle.path_rules.proofs.Steps.{noted-known, noted-new, noted-full}
+use mathlib.Core.Path.{_≡_, refl, sym, ap, _∙_}
 use borrow.Author.Needs.{needs}
 use Rattle.path_rules.proofs.vectors.note.Statement.{statement}
 use Rattle.path_rules.proofs.vectors.note.Tie as tie
@@ -23,7 +25,7 @@ same-length c = search needs
 
 -- src/vectors.rt:76:9
 returns : tie.Need-returns
-returns c = ?
+returns c = noted-known _ _ (sym (c .before .is-known .ensures) ∙ c .if1 .taken)
 
 -- src/vectors.rt:79:9
 mul-cells : tie.Need-mul-cells
@@ -43,7 +45,7 @@ same-length-2 c = search needs
 
 -- src/vectors.rt:80:9
 returns-2 : tie.Need-returns-2
-returns-2 c = ?
+returns-2 c = noted-new _ _ (sym (c .before .before .is-known .ensures) ∙ c .before .if1 .left) (c .if2 .taken)
 
 -- src/vectors.rt:71:1
 same-length-3 : tie.Need-same-length-3
@@ -51,7 +53,7 @@ same-length-3 c = search needs
 
 -- src/vectors.rt:71:1
 returns-3 : tie.Need-returns-3
-returns-3 c = ?
+returns-3 c = noted-full _ _ (c .if2 .left)
 
 pub note-spec : {M : Type 1} → statement M
 note-spec =

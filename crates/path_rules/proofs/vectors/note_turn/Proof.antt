@@ -1,3 +1,6 @@
+use Rattle.path_rules.proofs.Steps.{turn-so, turn-not}
+use Rattle.path_rules.specs.Vectors.{noted}
+use mathlib.Core.Path.{_≡_, refl, sym, ap, _∙_}
 use borrow.Author.Needs.{needs}
 use Rattle.path_rules.proofs.vectors.note_turn.Statement.{statement}
 use Rattle.path_rules.proofs.vectors.note_turn.Tie as tie
@@ -28,11 +31,11 @@ same-length c = search needs
 
 -- src/vectors.rt:93:9
 returns : tie.Need-returns
-returns c = ?
+returns c = c .before .note .ensures ∙ ap (noted _) (c .before .before .positions-before .ensures) ∙ turn-so _ _ _ _ (c .before .before .before .before .if1 .taken)
 
 -- src/vectors.rt:86:1
 returns-2 : tie.Need-returns-2
-returns-2 c = ?
+returns-2 c = turn-not _ _ _ _ (c .if1 .left)
 
 pub note-turn-spec : {M : Type 1} → statement M
 note-turn-spec =

@@ -23,7 +23,7 @@ to-new-requires c κs = search needs
 
 -- src/walk.rt:66:9
 returns-2 : tie.Need-returns-2
-returns-2 c = c .to-new .ensures ∙ arrived-new _ _ _ _ (c .before .before .if1 .left) (c .before .if2 .taken)
+returns-2 c = c .to-new .ensures ∙ arrived-new _ _ _ _ (c .before .before .before .if1 .left) (c .before .if2 .taken)
 
 -- src/walk.rt:68:5
 too-many-requires : tie.Need-too-many-requires
@@ -31,7 +31,7 @@ too-many-requires c κs = search needs
 
 -- src/walk.rt:58:1
 returns-3 : tie.Need-returns-3
-returns-3 c = c .too-many .ensures ∙ arrived-over _ _ _ _ (c .before .before .if1 .left) (c .before .if2 .left)
+returns-3 c = c .too-many .ensures ∙ arrived-over _ _ _ _ (c .before .before .before .if1 .left) (c .before .if2 .left)
 
 pub arrive-spec : {M : Type 1} → statement M
 arrive-spec =
