@@ -5,15 +5,15 @@ use mathlib.Core.Bool.{Bool, true, false}
 use mathlib.Core.List.{List}
 use native.Mathlib.Omega.{arith}
 use lib.Dec.{ltb}
-use lib.ListN.{length, getD, take}
+use lib.ListN.{length, getD, take, replicate, length-set, length-replicate}
 use borrow.Author.Tests.{lt-ltb, le-ltb}
 use Rattle.path_rules.specs.Reading.{fresh, merged, chosen, readAll}
 use Rattle.path_rules.specs.Vectors.{Found, vectors, onward, sameOn, placeSame}
-use Rattle.path_rules.specs.Walk.{arrived, reached, walkTurn, walkTo}
+use Rattle.path_rules.specs.Walk.{startWalk, arrived, reached, walkTurn, walkTo}
 use Rattle.path_rules.specs.Rules.{isWhole, refusedBy, vectorsOf, walkOf, wholeRules, readRules, rulesOf}
 use Rattle.path_rules.specs.declared.reading.Reading.{Reading}
 use Rattle.path_rules.specs.declared.walk.Walk.{Walk}
-use Rattle.path_rules.proofs.Steps.{few-turn}
+use Rattle.path_rules.proofs.Steps.{few-turn, sets-turn}
 use Rattle.path_rules.proofs.Closed.{closed-all}
 
 module _ (vs : List ℕ) (w : Walk) (k t : ℕ) where
@@ -36,6 +36,15 @@ module _ (vs after labels : List ℕ) (k : ℕ) (w : Walk) where
 
   pub few-next : (v : Walk) → v ≡ walkTurn vs after labels k w → w .states ≤ 16 → v .states ≤ 16
   few-next v e h = subst (λ x. x .states ≤ 16) (sym e) (few-turn vs after labels k w h)
+
+  pub sets-next : (v : Walk) → v ≡ walkTurn vs after labels k w → length (w .sets) ≡ 16 → length (v .sets) ≡ 16
+  sets-next v e h = subst (λ x. length (x .sets) ≡ 16) (sym e) (sets-turn vs after labels k w h)
+
+pub sets-start : (start : ℕ) (w : Walk) → w ≡ startWalk start → length (w .sets) ≡ 16
+sets-start start w e = subst (λ x. length (x .sets) ≡ 16) (sym e) (length-set (replicate 16 0) 0 start ∙ length-replicate {A = ℕ} 16 0)
+
+pub few-start : (start : ℕ) (w : Walk) → w ≡ startWalk start → w .states ≤ 16
+few-start start w e = subst (λ x. x .states ≤ 16) (sym e) (omega arith)
 
 pub walk-all : (vs after labels : List ℕ) (start k : ℕ) (w : Walk) → w ≡ walkTo vs after labels start k → k ≤ 128 → 128 ≤ k
     → w ≡ walkTo vs after labels start 128

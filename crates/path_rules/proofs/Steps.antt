@@ -7,7 +7,7 @@ use mathlib.Core.List.{List, [], _∷_}
 use native.Mathlib.Omega.{arith}
 use native.Mathlib.Numerals.{add-one}
 use lib.Dec.{eqb, ltb}
-use lib.ListN.{length, getD, drop, set, take, replicate, length-set, drop-of-length-le}
+use lib.ListN.{length, getD, drop, set, take, replicate, length-set, length-replicate, drop-of-length-le}
 use lib.Seq.{drop-cons}
 use borrow.Author.Tests.{eq-eqb, ne-eqb, lt-ltb, le-ltb, ltb-true, ltb-false}
 use Rattle.scope_graph.specs.Rows.{anyOf}
@@ -153,6 +153,17 @@ few-turn vs after labels k w h =
     (λ d. pick-few (ltb _ (w .states)) _ _ (λ c. h) (λ c. pick-few (ltb (w .states) 16) _ _ (λ b. let y = ltb-true (w .states) 16 b in omega arith) (λ b. h))))
     (λ e. h)
 
+pick-sets : (c : Bool) (a b : Walk) → length (a .sets) ≡ 16 → length (b .sets) ≡ 16 → length ((elim c as (λ _. Walk) [ true ↦ a | false ↦ b ]) .sets) ≡ 16
+pick-sets true a b h k = h
+pick-sets false a b h k = k
+
+pub sets-turn : (vs after labels : List ℕ) (k : ℕ) (w : Walk) → length (w .sets) ≡ 16 → length ((walkTurn vs after labels k w) .sets) ≡ 16
+unfolding walkTurn reached arrived
+sets-turn vs after labels k w h =
+    pick-sets (ltb (k / 8) (w .states)) _ w
+    (pick-sets (sameOn vs _ 0) w _ h (pick-sets (ltb _ (w .states)) _ _ h (pick-sets (ltb (w .states) 16) _ _ (length-set (w .sets) (w .states) _ ∙ h) h)))
+    h
+
 pub walk-on : (vs after labels : List ℕ) (start k : ℕ) (w v : Walk) → w ≡ walkTo vs after labels start k → v ≡ walkTurn vs after labels k w
     → v ≡ walkTo vs after labels start (k + 1)
 unfolding walkTo
@@ -295,6 +306,9 @@ room-by f g e h = subst (λ x. x .count ≤ length (x .cells)) (sym e) h
 pub found-start : (after labels cells : List ℕ) → cells ≡ replicate 2048 0 → record { cells = set cells 0 endSet; count = 1 } ≡ turns after labels 0 firstFound
 unfolding turns firstFound
 found-start after labels cells e = ap (λ l. record { cells = set l 0 endSet; count = 1 }) e
+
+pub start-length : (cells : List ℕ) → cells ≡ replicate 2048 0 → length (set cells 0 endSet) ≡ 2048
+start-length cells e = length-set cells 0 endSet ∙ ap length e ∙ length-replicate {A = ℕ} 2048 0
 
 pub found-all : (after labels : List ℕ) (k : ℕ) (f : Found) → f ≡ turns after labels k firstFound → k ≤ 16384 → 16384 ≤ k → f ≡ vectors after labels
 unfolding vectors

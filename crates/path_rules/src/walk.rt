@@ -4,6 +4,7 @@ use crate::vectors::positions_after;
 use crate::vectors::same;
 ghost use mathlib.Core.Path.{_≡_};
 ghost use Prim.Native.Nat.{_<_, _≤_};
+ghost use lib.ListN.{length};
 ghost use Rattle.path_rules.specs.Walk.{startWalk, toState, toNew, tooMany, arrived, reached, walkTurn, walkTo};
 
 // States met so far, each with its set of positions, and where each leads by each label, at state * 8 + label, 16 for nowhere; and whether a seventeenth was met.
@@ -70,7 +71,7 @@ fn arrive(w: Walk, k: usize, t: u64, j: usize) -> Walk
 
 // The set t is reached at cell k. A set that meets no vector is dead, and no state.
 fn reach(vs: &[u64], w: Walk, k: usize, t: u64) -> Walk
-    requires { ⌜ (k < 128) × (w .states ≤ 16) ⌝ }
+    requires { ⌜ (k < 128) × (w .states ≤ 16) × (length (w .sets) ≡ 16) ⌝ }
     ensures answer { λ r. ⌜ r ≡ reached (now (vs .entry)) w k t ⌝ }
 {
     if same(vs, t, 0) {
@@ -84,7 +85,7 @@ fn reach(vs: &[u64], w: Walk, k: usize, t: u64) -> Walk
 
 // What cell k leads to, if its state is met already.
 fn walk_turn(vs: &[u64], after: [u64; 10], labels: [u64; 10], w: Walk, k: usize) -> Walk
-    requires { ⌜ (k < 128) × (w .states ≤ 16) ⌝ }
+    requires { ⌜ (k < 128) × (w .states ≤ 16) × (length (w .sets) ≡ 16) ⌝ }
     ensures answer { λ r. ⌜ r ≡ walkTurn (now (vs .entry)) after labels k w ⌝ }
 {
     let q = k / 8;

@@ -1,3 +1,4 @@
+use Rattle.path_rules.proofs.Steps.{start-length}
 use Rattle.path_rules.proofs.Steps.{found-start, found-all, turns-on, room-by, turn-room}
 use Rattle.path_rules.specs.Vectors.{Found, firstFound, turns}
 use lib.ListN.{length, drop, length-replicate}
@@ -12,7 +13,7 @@ use Rattle.path_rules.proofs.vectors.find_vectors.Lts as lts
 use Rattle.path_rules.proofs.vectors.note_turn.Reads as note-turn-reads
 
 abbrev Inv-loop : tie.InvT-loop
-Inv-loop after labels cells₀ count₀ k₀ cells count k = (_≡_ {A = Found} (record { cells = cells; count = count }) (turns after labels k firstFound)) × (count ≤ length cells) × (k ≤ 16384) × (length cells₀ ≡ length cells)
+Inv-loop after labels cells₀ count₀ k₀ cells count k = (_≡_ {A = Found} (record { cells = cells; count = count }) (turns after labels k firstFound)) × (count ≤ length cells) × (k ≤ 16384) × (length cells ≡ 2048)
 
 abbrev μ-loop : tie.MeasureT-loop
 μ-loop after labels cells₀ count₀ k₀ cells count k = 16384 - k
@@ -23,7 +24,7 @@ slice-write-cells c = omega (arith, ap length (c .before .pre), length-replicate
 
 -- src/vectors.rt:106:5
 loop-holds : tie.Need-loop-holds Inv-loop μ-loop
-loop-holds c = (found-start _ _ _ (c .before .pre), omega (arith, ap length (c .before .pre), length-replicate {A = ℕ} 2048 0), omega arith, refl)
+loop-holds c = (found-start _ _ _ (c .before .pre), omega (arith, start-length _ (c .before .pre)), omega arith, start-length _ (c .before .pre))
 
 -- src/vectors.rt:107:9
 note-turn-requires : tie.Need-note-turn-requires Inv-loop μ-loop
@@ -43,7 +44,7 @@ loop-again c = (turns-on _ _ _ _ _ _ (c .before .before .before .before .before 
 
 -- src/vectors.rt:99:1
 same-length : tie.Need-same-length Inv-loop μ-loop
-same-length c = search needs
+same-length c = omega (arith, c .before .loop .inv .3, ap length (c .before .before .before .pre), length-replicate {A = ℕ} 2048 0)
 
 -- src/vectors.rt:99:1
 returns : tie.Need-returns Inv-loop μ-loop

@@ -1,3 +1,5 @@
+use native.Mathlib.Omega.{arith}
+use lib.Seq.{length-take-le}
 use Rattle.path_rules.proofs.Steps.{noted-known, noted-new, noted-full}
 use mathlib.Core.Path.{_≡_, refl, sym, ap, _∙_}
 use borrow.Author.Needs.{needs}
@@ -13,7 +15,7 @@ slice-reshare-prefix-is-known c = search needs
 
 -- src/vectors.rt:75:17
 slice-aggregate-is-known : tie.Need-slice-aggregate-is-known
-slice-aggregate-is-known c = ?
+slice-aggregate-is-known c = sym (length-take-le _ _ (omega arith))
 
 -- src/vectors.rt:75:8
 is-known-requires : tie.Need-is-known-requires

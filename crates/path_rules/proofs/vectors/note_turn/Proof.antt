@@ -31,7 +31,7 @@ same-length c = search needs
 
 -- src/vectors.rt:93:9
 returns : tie.Need-returns
-returns c = c .before .note .ensures ∙ ap (noted _) (c .before .before .positions-before .ensures) ∙ turn-so _ _ _ _ (c .before .before .before .before .if1 .taken)
+returns c = c .before .before .note .ensures ∙ ap (noted _) (c .before .before .before .positions-before .ensures) ∙ turn-so _ _ _ _ (c .before .before .before .before .before .before .if1 .taken)
 
 -- src/vectors.rt:86:1
 returns-2 : tie.Need-returns-2

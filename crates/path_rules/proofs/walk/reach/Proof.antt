@@ -1,3 +1,8 @@
+use native.Mathlib.Omega.{arith}
+use lib.Seq.{length-take-le}
+use Rattle.path_rules.proofs.Ends.{reached-dead, reached-live}
+use Rattle.path_rules.specs.Walk.{arrived}
+use mathlib.Core.Path.{_≡_, refl, sym, ap, _∙_}
 use borrow.Author.Needs.{needs}
 use Rattle.path_rules.proofs.walk.reach.Statement.{statement}
 use Rattle.path_rules.proofs.walk.reach.Tie as tie
@@ -13,15 +18,15 @@ same-requires c κs = search needs
 
 -- src/walk.rt:77:9
 returns : tie.Need-returns
-returns c = ?
+returns c = reached-dead _ _ _ _ (sym (c .before .same .ensures) ∙ c .if1 .taken)
 
 -- src/walk.rt:81:28
 array-share-prefix-sets : tie.Need-array-share-prefix-sets
-array-share-prefix-sets c = ?
+array-share-prefix-sets c = omega arith
 
 -- src/walk.rt:81:28
 slice-aggregate-place-same : tie.Need-slice-aggregate-place-same
-slice-aggregate-place-same c = ?
+slice-aggregate-place-same c = sym (length-take-le _ _ (omega arith))
 
 -- src/walk.rt:81:9
 place-same-requires : tie.Need-place-same-requires
@@ -33,7 +38,7 @@ arrive-requires c κs = search needs
 
 -- src/walk.rt:72:1
 returns-2 : tie.Need-returns-2
-returns-2 c = ?
+returns-2 c = c .arrive .ensures ∙ ap (arrived _ _ _) (c .before .place-same .ensures) ∙ reached-live _ _ _ _ (sym (c .before .before .before .before .before .same .ensures) ∙ c .before .before .before .before .if1 .left)
 
 pub reach-spec : {M : Type 1} → statement M
 reach-spec =

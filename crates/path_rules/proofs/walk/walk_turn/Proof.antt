@@ -1,3 +1,6 @@
+use Rattle.path_rules.proofs.Ends.{turn-on, turn-idle}
+use Rattle.path_rules.specs.Walk.{reached}
+use mathlib.Core.Path.{_≡_, refl, sym, ap, _∙_}
 use borrow.Author.Needs.{needs}
 use Rattle.path_rules.proofs.walk.walk_turn.Statement.{statement}
 use Rattle.path_rules.proofs.walk.walk_turn.Tie as tie
@@ -24,11 +27,11 @@ reach-requires c κs = search needs
 
 -- src/walk.rt:94:9
 returns : tie.Need-returns
-returns c = ?
+returns c = c .reach .ensures ∙ ap (reached _ _ _) (c .before .positions-after .ensures) ∙ turn-on _ _ _ _ _ (c .before .before .before .if1 .taken)
 
 -- src/walk.rt:86:1
 returns-2 : tie.Need-returns-2
-returns-2 c = ?
+returns-2 c = turn-idle _ _ _ _ _ (c .if1 .left)
 
 pub walk-turn-spec : {M : Type 1} → statement M
 walk-turn-spec =
