@@ -35,9 +35,10 @@ in-place v (x ∷ l) m =
 
 distinct-more : (l : List ℕ) (v : ℕ) → Distinct l → ¬ (v ∈ l) → Distinct (l ++ v ∷ [])
 distinct-more [] v d n = ((λ m. List·Memᴰ·not-nil m), tt)
-distinct-more (x ∷ l) v d n =
-    ((λ m. ⊎-elim (d .0) (λ k. n (List·Memᴰ·head (sym (List·Memᴰ·eq-of-singleton k)))) (List·Memᴰ·append-cases l m)),
-    distinct-more l v (d .1) (λ m. n (there m)))
+distinct-more (x ∷ l) v d n = (
+  (λ m. ⊎-elim (d .0) (λ k. n (List·Memᴰ·head (sym (List·Memᴰ·eq-of-singleton k)))) (List·Memᴰ·append-cases l m)),
+  distinct-more l v (d .1) (λ m. n (there m)),
+)
 
 module _ (after labels : List ℕ) where
   pub record Closed (k : ℕ) (f : Found) : Type 0 where
@@ -124,7 +125,7 @@ module _ (after labels : List ℕ) where
     full-known h n =
         let z = size-is in
         let s : (v : ℕ) → v ∈ (new ∷ vectorsOf f) → v < 2048 = λ v m.
-            ⊎-elim (λ e. rw e (before-lt after labels (getD (f .cells) (k / 8) 0) (k % 8))) (c .small v) (List·Memᴰ·cases-cons m) in
+        ⊎-elim (λ e. rw e (before-lt after labels (getD (f .cells) (k / 8) 0) (k % 8))) (c .small v) (List·Memᴰ·cases-cons m) in
         let b : suc (length (vectorsOf f)) ≤ 2048 = distinct-bounded 2048 (new ∷ vectorsOf f) (n, c .once) s in
         omega arith
 

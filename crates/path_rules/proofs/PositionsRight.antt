@@ -185,9 +185,14 @@ module _ (label : ℕ → ℕ) (after : ℕ → ℕ → Bool) (end : ℕ) where
   unfolding first size follow last
   front-sound (letter l) n k h f b [] a = absurd (let z = eqb-true end n a in omega arith)
   front-sound (letter l) n k h f b (c ∷ w) (p, m, lo, e, a) =
-      let z = eqb-true p n m in
-      (c ∷ [], w, refl, omega arith, ap (λ y. y ∷ []) (sym e ∙ ap label z ∙ f),
-      leads-more (after p) k (λ x t. and-right (eqb p n) (k x) (sym (h p (omega arith) (omega arith) x) ∙ t)) w a)
+      let z = eqb-true p n m in (
+        c ∷ [],
+        w,
+        refl,
+        omega arith,
+        ap (λ y. y ∷ []) (sym e ∙ ap label z ∙ f),
+        leads-more (after p) k (λ x t. and-right (eqb p n) (k x) (sym (h p (omega arith) (omega arith) x) ∙ t)) w a,
+      )
   front-sound (seq a b) n k h f t w q =
       let right : (v : List ℕ) → A (first b (n + size a)) v → Front b k v = λ v z. front-sound b (n + size a) k (placed-right a b n k h) (f .1) (omega arith) v z in
       ⊎-elim (λ s. seq-left a b (n + size a) k w right (front-sound a n _ (placed-left a b n k h) (f .0) (omega arith) w s))

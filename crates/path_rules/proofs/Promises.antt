@@ -94,9 +94,10 @@ module _ (labels text : List ℕ) where
             let d = table-decides e whole (ready labels e text x .letters) (ready labels e text x .tracked) (length labels) eight low o in
             let b = walked-few e whole (ready labels e text x .letters) (ready labels e text x .tracked) (length labels) eight low in
             record {
-              too-many =
-                  ((λ h. absurd (let y : _≡_ {A = ℕ} 0 13 = sym (ap (λ r. r .refusal) z) ∙ h in omega arith)),
-                  λ h. absurd (let y = h (walk .states) _ _ d in omega arith));
+              too-many = (
+                (λ h. absurd (let y : _≡_ {A = ℕ} 0 13 = sym (ap (λ r. r .refusal) z) ∙ h in omega arith)),
+                λ h. absurd (let y = h (walk .states) _ _ d in omega arith),
+              );
               refused = λ h. ap (λ r. r .refusal) z;
               decides = λ h. rw z d;
               fewest = λ h. rw z (table-fewest e whole (ready labels e text x .letters) (ready labels e text x .tracked) (length labels) eight low o);

@@ -166,7 +166,7 @@ module _ (ls : List ℕ) where
   unfolding isWhole
   ready-from e a c b n text len h v =
       let k : Tracks (tree c b (some a) [] n) (readAll ls fresh text) =
-          subst (λ o. Follow o (readAll ls fresh text)) h (tracks-all text (tree none none none [] 0) fresh (omega arith) tracks-fresh) in
+      subst (λ o. Follow o (readAll ls fresh text)) h (tracks-all text (tree none none none [] 0) fresh (omega arith) tracks-fresh) in
       record {
         letters = n;
         whole = rw (k .good, k .filled, k .depth);
@@ -195,16 +195,18 @@ module _ (ls : List ℕ) where
           let (e, q₂) = some-alt (u .choice) e₁ in
           let v : altO (u .choice) (seqO (u .before) (some a)) ≡ some e = ap (altO (u .choice)) q₁ ∙ q₂ in
           let f : Tracks (tree (u .choice) (u .before) (some a) (u .stack) (u .letters)) (readAll ls fresh text) =
-              subst (λ o. Tracks (tree (u .choice) (u .before) o (u .stack) (u .letters)) (readAll ls fresh text)) i k in
+          subst (λ o. Tracks (tree (u .choice) (u .before) o (u .stack) (u .letters)) (readAll ls fresh text)) i k in
           let r : Tracks (tree (some e) none none (u .stack) (u .letters)) (chosen (merged (readAll ls fresh text))) =
-              subst (λ o. Tracks (tree o none none (u .stack) (u .letters)) (chosen (merged (readAll ls fresh text)))) v
-              (tracks-whole (u .choice) (u .before) a (u .stack) (u .letters) _ f) in
-          let few = r .few in let sized = r .sized in
-          (e, record {
-            reads = held-whole ls u a e text (held-all ls (tree none none none [] 0) u [] text (held-none ls) g) st i v;
-            bytes = len;
-            letters = omega arith;
-          })
+          subst (λ o. Tracks (tree o none none (u .stack) (u .letters)) (chosen (merged (readAll ls fresh text)))) v
+          (tracks-whole (u .choice) (u .before) a (u .stack) (u .letters) _ f) in
+          let few = r .few in let sized = r .sized in (
+            e,
+            record {
+              reads = held-whole ls u a e text (held-all ls (tree none none none [] 0) u [] text (held-none ls) g) st i v;
+              bytes = len;
+              letters = omega arith;
+            },
+          )
 
   -- each text has one tree
   value : Option Tree → Option Expr

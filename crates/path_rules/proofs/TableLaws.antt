@@ -191,10 +191,12 @@ module _ (e : Expr) (s : Reading) (n : ℕ) (t : Tracks (tree (some e) none none
     aparts : (t₁ t₂ : ℕ) (r₁ : Reached vs posts marks begin t₁) (r₂ : Reached vs posts marks begin t₂) → sameOn vs t₁ t₂ ≡ false → Apart (In e) (r₁ .0) (r₂ .0)
     aparts t₁ t₂ (u₁, o₁, q₁) (u₂, o₂, q₂) h =
         let (v, m, d) = differ vs t₁ t₂ h in
-        let (z, oz, g) = in-vector posts marks v m in
-        (z, ⊎-elim
-        (λ x. inl (in-reached u₁ z (rw (q₁, ← g) (x .0)), λ i. true-false (rw (q₂, ← g) at (reached-in u₂ z i)) (x .1)))
-        (λ x. inr (in-reached u₂ z (rw (q₂, ← g) (x .1)), λ i. true-false (rw (q₁, ← g) at (reached-in u₁ z i)) (x .0))) d)
+        let (z, oz, g) = in-vector posts marks v m in (
+          z,
+          ⊎-elim
+              (λ x. inl (in-reached u₁ z (rw (q₁, ← g) (x .0)), λ i. true-false (rw (q₂, ← g) at (reached-in u₂ z i)) (x .1)))
+              (λ x. inr (in-reached u₂ z (rw (q₂, ← g) (x .1)), λ i. true-false (rw (q₁, ← g) at (reached-in u₁ z i)) (x .0))) d,
+        )
 
     -- sets that are reached, live and told apart, as many as a table needs
     needs : (set : ℕ → ℕ) (count : ℕ) → ((i : ℕ) → i < count → Reached vs posts marks begin (set i)) → ((i : ℕ) → i < count → sameOn vs (set i) 0 ≡ false)
@@ -238,8 +240,11 @@ module _ (e : Expr) (s : Reading) (n : ℕ) (t : Tracks (tree (some e) none none
       leads-cases (l ∷ w) q s b ov h =
           let on = same-onward posts marks (setAt walk q) s l (ov .0) h in
           ⊎-elim
-          (λ x. inl (rw (x .0, leadsTo), dead-after posts marks w (onward posts marks s l) (ov .1)
-          (same-trans vs (onward posts marks s l) (onward posts marks (setAt walk q) l) 0 (same-sym vs (onward posts marks (setAt walk q) l) (onward posts marks s l) on) (x .1))))
+          (λ x. inl (
+            rw (x .0, leadsTo),
+            dead-after posts marks w (onward posts marks s l) (ov .1)
+                (same-trans vs (onward posts marks s l) (onward posts marks (setAt walk q) l) 0 (same-sym vs (onward posts marks (setAt walk q) l) (onward posts marks s l) on) (x .1)),
+          ))
           (λ x. let (r, g, c, k) = x in rw (g, leadsTo)
           (leads-cases w r (onward posts marks s l) c (ov .1) (same-trans vs (setAt walk r) (onward posts marks (setAt walk q) l) (onward posts marks s l) k on)))
           (next-cases q l b (ov .0))

@@ -169,10 +169,11 @@ tracks-chosen c e st n s h =
 frames-set : (fs : List Frame) (alts seqs : List Part) (d : ℕ) (a b : Part) → length fs ≤ d → FramesOf fs alts seqs → FramesOf fs (set alts d a) (set seqs d b)
 frames-set [] alts seqs d a b h g = tt
 frames-set (f ∷ fs) alts seqs d a b h g =
-    let other : length fs ≡ d → ⊥ = λ e. omega arith in
-    (frames-set fs alts seqs d a b (omega arith) (g .0),
-    subst (PartOf false (f .0) (sizes fs)) (sym (getD-set-other alts d (length fs) a noPart other)) (g .1),
-    subst (PartOf true (f .1) (sizes fs + sizeO (f .0))) (sym (getD-set-other seqs d (length fs) b noPart other)) (g .2))
+    let other : length fs ≡ d → ⊥ = λ e. omega arith in (
+      frames-set fs alts seqs d a b (omega arith) (g .0),
+      subst (PartOf false (f .0) (sizes fs)) (sym (getD-set-other alts d (length fs) a noPart other)) (g .1),
+      subst (PartOf true (f .1) (sizes fs + sizeO (f .0))) (sym (getD-set-other seqs d (length fs) b noPart other)) (g .2),
+    )
 
 pub tracks-pushed : (c b : Option Expr) (st : List Frame) (n : ℕ) (s : Reading) → length st < 64 → Tracks (tree c b none st n) s
     → Tracks (tree none none none ((c, b) ∷ st) n) (pushed s)
@@ -180,9 +181,9 @@ unfolding sizes follows
 tracks-pushed c b st n s l h =
     let z = h .sized in let d = h .depth in let ra = h .alts-room in let rs = h .seqs-room in
     let at-a : getD (set (s .alts) (s .depth) (s .alt)) (length st) noPart ≡ s .alt =
-        ap (λ k. getD (set (s .alts) (s .depth) (s .alt)) k noPart) (sym d) ∙ getD-set-same (s .alts) (s .depth) (s .alt) noPart (omega arith) in
+    ap (λ k. getD (set (s .alts) (s .depth) (s .alt)) k noPart) (sym d) ∙ getD-set-same (s .alts) (s .depth) (s .alt) noPart (omega arith) in
     let at-s : getD (set (s .seqs) (s .depth) (s .seq)) (length st) noPart ≡ s .seq =
-        ap (λ k. getD (set (s .seqs) (s .depth) (s .seq)) k noPart) (sym d) ∙ getD-set-same (s .seqs) (s .depth) (s .seq) noPart (omega arith) in
+    ap (λ k. getD (set (s .seqs) (s .depth) (s .seq)) k noPart) (sym d) ∙ getD-set-same (s .seqs) (s .depth) (s .seq) noPart (omega arith) in
     record {
       good = h .good;
       filled = refl;
@@ -193,10 +194,11 @@ tracks-pushed c b st n s l h =
       choice = none-of _;
       before = empty-of _;
       item = empty-of _;
-      frames =
-          (frames-set st (s .alts) (s .seqs) (s .depth) (s .alt) (s .seq) (omega arith) (h .frames),
-          subst (PartOf false c (sizes st)) (sym at-a) (h .choice),
-          subst (PartOf true b (sizes st + sizeO c)) (sym at-s) (h .before));
+      frames = (
+        frames-set st (s .alts) (s .seqs) (s .depth) (s .alt) (s .seq) (omega arith) (h .frames),
+        subst (PartOf false c (sizes st)) (sym at-a) (h .choice),
+        subst (PartOf true b (sizes st + sizeO c)) (sym at-s) (h .before),
+      );
       alts-room = length-set (s .alts) (s .depth) (s .alt) ∙ ra;
       seqs-room = length-set (s .seqs) (s .depth) (s .seq) ∙ rs;
       labels-room = h .labels-room;
@@ -274,9 +276,11 @@ labelsO-more f g (some e) n m b h k = labels-more f g e n m b h k
 labelsS-more : (f g : ℕ → ℕ) (fs : List Frame) (m : ℕ) → sizes fs ≤ m → ((p : ℕ) → p < m → f p ≡ g p) → LabelledS f fs → LabelledS g fs
 unfolding sizes
 labelsS-more f g [] m b h k = tt
-labelsS-more f g (x ∷ fs) m b h k =
-    (labelsS-more f g fs m (omega arith) h (k .0), labelsO-more f g (x .0) (sizes fs) m (omega arith) h (k .1),
-    labelsO-more f g (x .1) (sizes fs + sizeO (x .0)) m (omega arith) h (k .2))
+labelsS-more f g (x ∷ fs) m b h k = (
+  labelsS-more f g fs m (omega arith) h (k .0),
+  labelsO-more f g (x .0) (sizes fs) m (omega arith) h (k .1),
+  labelsO-more f g (x .1) (sizes fs + sizeO (x .0)) m (omega arith) h (k .2),
+)
 
 pub tracks-placed : (c b : Option Expr) (st : List Frame) (n l : ℕ) (s : Reading) → n < 10 → Tracks (tree c b none st n) s
     → Tracks (tree c b (some (letter l)) st (n + 1)) (placed s l)

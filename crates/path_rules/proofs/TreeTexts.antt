@@ -69,9 +69,17 @@ module _ (ls : List ℕ) where
   module _ (t : Tree) (p : List ℕ) (h : Held t p) where
     held-open : Next (openTree t) (p ++ 40 ∷ [])
     held-open =
-        let (p₀, p₁, p₂, p₃, s, c, b, i, e) = h in
-        (p₀ ++ (p₁ ++ ((p₂ ++ p₃) ++ 40 ∷ [])), [], [], [], (p₀, p₁, p₂ ++ p₃, s, c, join-items (t .before) (t .item) p₂ p₃ b i, refl), refl, refl, refl,
-        ap (λ y. y ++ 40 ∷ []) e ∙ simp (append-assoc, append-nil))
+        let (p₀, p₁, p₂, p₃, s, c, b, i, e) = h in (
+          p₀ ++ (p₁ ++ ((p₂ ++ p₃) ++ 40 ∷ [])),
+          [],
+          [],
+          [],
+          (p₀, p₁, p₂ ++ p₃, s, c, join-items (t .before) (t .item) p₂ p₃ b i, refl),
+          refl,
+          refl,
+          refl,
+          ap (λ y. y ++ 40 ∷ []) e ∙ simp (append-assoc, append-nil),
+        )
 
     held-star : (i : Option Expr) → t .item ≡ i → Next (starTree i t) (p ++ 42 ∷ [])
     held-star none g = tt
@@ -83,9 +91,17 @@ module _ (ls : List ℕ) where
     held-bar none g = tt
     held-bar (some a) g =
         let (p₀, p₁, p₂, p₃, s, c, b, i, e) = h in
-        let (v, k, d) = some-value t a p₁ p₂ p₃ c b (subst (λ o. Item o p₃) g i) in
-        (p₀, (p₁ ++ (p₂ ++ p₃)) ++ 124 ∷ [], [], [], s, subst (λ o. Choice o ((p₁ ++ (p₂ ++ p₃)) ++ 124 ∷ [])) (sym k) (p₁ ++ (p₂ ++ p₃), d, refl), refl, refl,
-        ap (λ y. y ++ 124 ∷ []) e ∙ simp (append-assoc, append-nil))
+        let (v, k, d) = some-value t a p₁ p₂ p₃ c b (subst (λ o. Item o p₃) g i) in (
+          p₀,
+          (p₁ ++ (p₂ ++ p₃)) ++ 124 ∷ [],
+          [],
+          [],
+          s,
+          subst (λ o. Choice o ((p₁ ++ (p₂ ++ p₃)) ++ 124 ∷ [])) (sym k) (p₁ ++ (p₂ ++ p₃), d, refl),
+          refl,
+          refl,
+          ap (λ y. y ++ 124 ∷ []) e ∙ simp (append-assoc, append-nil),
+        )
 
     held-close : (i : Option Expr) (st : List Frame) → t .item ≡ i → t .stack ≡ st → Next (closeTree i st t) (p ++ 41 ∷ [])
     held-close none st g k = tt
@@ -93,10 +109,17 @@ module _ (ls : List ℕ) where
     held-close (some a) (f ∷ fs) g k =
         let (p₀, p₁, p₂, p₃, s, c, b, i, e) = h in
         let (v, w, d) = some-value t a p₁ p₂ p₃ c b (subst (λ o. Item o p₃) g i) in
-        let (q₀, q₁, q₂, s′, c′, b′, e′) = subst (λ o. Stack o p₀) k s in
-        (q₀, q₁, q₂, 40 ∷ ((p₁ ++ (p₂ ++ p₃)) ++ 41 ∷ []), s′, c′, b′,
-        subst (λ o. Item o (40 ∷ ((p₁ ++ (p₂ ++ p₃)) ++ 41 ∷ []))) (sym w) (bracketed v (p₁ ++ (p₂ ++ p₃)) _ d refl),
-        ap (λ y. y ++ 41 ∷ []) (e ∙ ap (λ y. y ++ (p₁ ++ (p₂ ++ p₃))) e′) ∙ simp append-assoc)
+        let (q₀, q₁, q₂, s′, c′, b′, e′) = subst (λ o. Stack o p₀) k s in (
+          q₀,
+          q₁,
+          q₂,
+          40 ∷ ((p₁ ++ (p₂ ++ p₃)) ++ 41 ∷ []),
+          s′,
+          c′,
+          b′,
+          subst (λ o. Item o (40 ∷ ((p₁ ++ (p₂ ++ p₃)) ++ 41 ∷ []))) (sym w) (bracketed v (p₁ ++ (p₂ ++ p₃)) _ d refl),
+          ap (λ y. y ++ 41 ∷ []) (e ∙ ap (λ y. y ++ (p₁ ++ (p₂ ++ p₃))) e′) ∙ simp append-assoc,
+        )
 
     held-letter : (so : Bool) (b l : ℕ) → (so ≡ true → Reads ls item (letter l) (b ∷ [])) → Next (letterTree so t l) (p ++ b ∷ [])
     held-letter false b l g = tt

@@ -128,25 +128,30 @@ module _ (ls : List ℕ) where
       (withItem t a) 41 rest (ap (λ y. some (tree (t .choice) (seqO (t .before) (t .item)) y (t .stack) (t .letters + size a))) v)
   goes g e s (single a r d) = λ c st n rest m. (none, a, goes item a r d (tree c none none st n) rest m, refl)
   goes g e s (behind a b r r′ t′ d d′ q) = λ c st n rest m.
-      let (b₁, x, h, v) = goes items a r d c st n (r′ ++ rest) (omega arith) in
-      (some a, b,
-      ap (λ y. treeAll (tree c none none st n) (y ++ rest)) q
-      ∙ ap (treeAll (tree c none none st n)) (append-assoc r r′ rest)
-      ∙ h
-      ∙ goes item b r′ d′ (tree c b₁ (some x) st (n + size a)) rest (omega arith)
-      ∙ ap (λ y. treeAll (tree c y (some b) st (n + size a + size b)) rest) v
-      ∙ ap (λ y. treeAll (tree c (some a) (some b) st y) rest) (add-assoc n (size a) (size b)),
-      refl)
+      let (b₁, x, h, v) = goes items a r d c st n (r′ ++ rest) (omega arith) in (
+        some a,
+        b,
+        ap (λ y. treeAll (tree c none none st n) (y ++ rest)) q
+            ∙ ap (treeAll (tree c none none st n)) (append-assoc r r′ rest)
+            ∙ h
+            ∙ goes item b r′ d′ (tree c b₁ (some x) st (n + size a)) rest (omega arith)
+            ∙ ap (λ y. treeAll (tree c y (some b) st (n + size a + size b)) rest) v
+            ∙ ap (λ y. treeAll (tree c (some a) (some b) st y) rest) (add-assoc n (size a) (size b)),
+        refl,
+      )
   goes g e s (side a r d) = λ st n rest m. let (b, x, h, v) = goes items a r d none st n rest m in (none, b, x, h, v)
   goes g e s (barred a b r r′ t′ d d′ q) = λ st n rest m.
       let (c₁, b₁, x, h, v) = goes sides a r d st n (124 ∷ (r′ ++ rest)) (omega arith) in
-      let (b₂, y, h₂, v₂) = goes items b r′ d′ (some a) st (n + size a) rest (omega arith) in
-      (some a, b₂, y,
-      ap (λ y. treeAll (tree none none none st n) (y ++ rest)) q
-      ∙ ap (treeAll (tree none none none st n)) (append-assoc r (124 ∷ r′) rest)
-      ∙ h
-      ∙ tree-step (tree c₁ b₁ (some x) st (n + size a)) (tree (some a) none none st (n + size a)) 124 (r′ ++ rest)
-      (ap (λ y. some (tree y none none st (n + size a))) v)
-      ∙ h₂
-      ∙ ap (λ k. treeAll (tree (some a) b₂ (some y) st k) rest) (add-assoc n (size a) (size b)),
-      ap (altO (some a)) v₂)
+      let (b₂, y, h₂, v₂) = goes items b r′ d′ (some a) st (n + size a) rest (omega arith) in (
+        some a,
+        b₂,
+        y,
+        ap (λ y. treeAll (tree none none none st n) (y ++ rest)) q
+            ∙ ap (treeAll (tree none none none st n)) (append-assoc r (124 ∷ r′) rest)
+            ∙ h
+            ∙ tree-step (tree c₁ b₁ (some x) st (n + size a)) (tree (some a) none none st (n + size a)) 124 (r′ ++ rest)
+            (ap (λ y. some (tree y none none st (n + size a))) v)
+            ∙ h₂
+            ∙ ap (λ k. treeAll (tree (some a) b₂ (some y) st k) rest) (add-assoc n (size a) (size b)),
+        ap (altO (some a)) v₂,
+      )

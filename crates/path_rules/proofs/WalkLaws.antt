@@ -228,10 +228,14 @@ module _ (vs after labels : List ℕ) (begin : ℕ) where
       walked-arrived alive = at (Two (ltb place (w .states))) (Two (ltb (w .states) 16))
         where
           none : ltb place (w .states) ≡ false → OneMore w (goesTo w k)
-          none e = (reached-here, alive, λ i b.
-              rw (states-at i b) at
-              (place-none vs (take (w .states) (w .sets)) (goesTo w k) (let y = ltb-false place (w .states) e in let z = sets-length in omega arith) i
-              (let z = sets-length in omega arith)))
+          none e = (
+            reached-here,
+            alive,
+            λ i b.
+                rw (states-at i b) at
+                (place-none vs (take (w .states) (w .sets)) (goesTo w k) (let y = ltb-false place (w .states) e in let z = sets-length in omega arith) i
+                (let z = sets-length in omega arith)),
+          )
 
           at : (ltb place (w .states) ≡ true) ⊎ (ltb place (w .states) ≡ false) → (ltb (w .states) 16 ≡ true) ⊎ (ltb (w .states) 16 ≡ false)
               → Walked (suc k) (arrived w k (goesTo w k) place)

@@ -28,51 +28,113 @@ fresh = record {
 -- what was read is no beginning of an expression
 abbrev pub spoiled : Reading → Reading
 spoiled s = record {
-  good = false; filled = s .filled; alt = s .alt; seq = s .seq; atom = s .atom; depth = s .depth; letters = s .letters;
-  after = s .after; labels = s .labels; alts = s .alts; seqs = s .seqs;
+  good = false;
+  filled = s .filled;
+  alt = s .alt;
+  seq = s .seq;
+  atom = s .atom;
+  depth = s .depth;
+  letters = s .letters;
+  after = s .after;
+  labels = s .labels;
+  alts = s .alts;
+  seqs = s .seqs;
 }
 
 -- the item joined to the sequence before it
 abbrev pub merged : Reading → Reading
 merged s = record {
-  good = s .good; filled = false; alt = s .alt; seq = seqPart (s .seq) (s .atom); atom = emptyPart; depth = s .depth; letters = s .letters;
-  after = linked (s .after) (s .seq .last) (s .atom .first); labels = s .labels; alts = s .alts; seqs = s .seqs;
+  good = s .good;
+  filled = false;
+  alt = s .alt;
+  seq = seqPart (s .seq) (s .atom);
+  atom = emptyPart;
+  depth = s .depth;
+  letters = s .letters;
+  after = linked (s .after) (s .seq .last) (s .atom .first);
+  labels = s .labels;
+  alts = s .alts;
+  seqs = s .seqs;
 }
 
 -- and the sequence to the choice before it
 abbrev pub chosen : Reading → Reading
 chosen s = record {
-  good = s .good; filled = false; alt = altPart (s .alt) (s .seq); seq = emptyPart; atom = emptyPart; depth = s .depth; letters = s .letters;
-  after = s .after; labels = s .labels; alts = s .alts; seqs = s .seqs;
+  good = s .good;
+  filled = false;
+  alt = altPart (s .alt) (s .seq);
+  seq = emptyPart;
+  atom = emptyPart;
+  depth = s .depth;
+  letters = s .letters;
+  after = s .after;
+  labels = s .labels;
+  alts = s .alts;
+  seqs = s .seqs;
 }
 
 -- choice and sequence laid aside while a bracket pair is read
 abbrev pub pushed : Reading → Reading
 pushed s = record {
-  good = s .good; filled = false; alt = noPart; seq = emptyPart; atom = emptyPart; depth = s .depth + 1; letters = s .letters;
-  after = s .after; labels = s .labels; alts = set (s .alts) (s .depth) (s .alt); seqs = set (s .seqs) (s .depth) (s .seq);
+  good = s .good;
+  filled = false;
+  alt = noPart;
+  seq = emptyPart;
+  atom = emptyPart;
+  depth = s .depth + 1;
+  letters = s .letters;
+  after = s .after;
+  labels = s .labels;
+  alts = set (s .alts) (s .depth) (s .alt);
+  seqs = set (s .seqs) (s .depth) (s .seq);
 }
 
 -- what was read between brackets is the next item behind what was laid aside
 abbrev pub popped : Reading → Reading
 popped s = record {
-  good = s .good; filled = true; alt = getD (s .alts) (s .depth - 1) noPart; seq = getD (s .seqs) (s .depth - 1) noPart;
-  atom = s .alt; depth = s .depth - 1; letters = s .letters;
-  after = s .after; labels = s .labels; alts = s .alts; seqs = s .seqs;
+  good = s .good;
+  filled = true;
+  alt = getD (s .alts) (s .depth - 1) noPart;
+  seq = getD (s .seqs) (s .depth - 1) noPart;
+  atom = s .alt;
+  depth = s .depth - 1;
+  letters = s .letters;
+  after = s .after;
+  labels = s .labels;
+  alts = s .alts;
+  seqs = s .seqs;
 }
 
 -- the item any number of times
 abbrev pub repeated : Reading → Reading
 repeated s = record {
-  good = s .good; filled = true; alt = s .alt; seq = s .seq; atom = starPart (s .atom); depth = s .depth; letters = s .letters;
-  after = linked (s .after) (s .atom .last) (s .atom .first); labels = s .labels; alts = s .alts; seqs = s .seqs;
+  good = s .good;
+  filled = true;
+  alt = s .alt;
+  seq = s .seq;
+  atom = starPart (s .atom);
+  depth = s .depth;
+  letters = s .letters;
+  after = linked (s .after) (s .atom .last) (s .atom .first);
+  labels = s .labels;
+  alts = s .alts;
+  seqs = s .seqs;
 }
 
 -- a letter is the next item; its position is the number of letters before it
 abbrev pub placed : Reading → ℕ → Reading
 placed s label = record {
-  good = s .good; filled = true; alt = s .alt; seq = s .seq; atom = letterPart (2 ^ s .letters); depth = s .depth; letters = s .letters + 1;
-  after = s .after; labels = set (s .labels) (s .letters) label; alts = s .alts; seqs = s .seqs;
+  good = s .good;
+  filled = true;
+  alt = s .alt;
+  seq = s .seq;
+  atom = letterPart (2 ^ s .letters);
+  depth = s .depth;
+  letters = s .letters + 1;
+  after = s .after;
+  labels = set (s .labels) (s .letters) label;
+  alts = s .alts;
+  seqs = s .seqs;
 }
 
 -- the five kinds of bytes: each says what must stand before it

@@ -3,6 +3,7 @@ pub mod reading;
 pub mod sets;
 pub mod vectors;
 pub mod walk;
+
 use crate::reading::Part;
 use crate::reading::Reading;
 use crate::reading::finish;

@@ -83,14 +83,24 @@ fn note(cells: &mut [u64], count: usize, v: u64) -> usize
 }
 
 // Turn k: the set before set k / 8 by label k % 8 noted.
-fn note_turn(after: [u64; 10], labels: [u64; 10], cells: &mut [u64], count: usize, k: usize) -> usize
+fn note_turn(
+    after: [u64; 10],
+    labels: [u64; 10],
+    cells: &mut [u64],
+    count: usize,
+    k: usize,
+) -> usize
     requires { ⌜ count ≤ length (now cells) ⌝ }
     ensures found { λ r. ⌜ record { cells = now (cells .exit); count = r } ≡ noteTurn after labels k (record { cells = now (cells .entry); count = count }) ⌝ }
 {
     let i = k / 8;
     if i < count {
         let v = cells[i];
-        return note(cells, count, positions_before(after, labels, v, (k % 8) as u64));
+        return note(
+            cells,
+            count,
+            positions_before(after, labels, v, (k % 8) as u64),
+        );
     }
     count
 }

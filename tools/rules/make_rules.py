@@ -1,10 +1,18 @@
 #!/usr/bin/env python3
-"""Path rules of an expression by derivatives and partition refinement: a reference for the crate path_rules, by another method.
+"""Path rules of expressions (02, K6) by another method than the crate path_rules: derivatives of the expression, then refinement of the states by what they accept.
 
-    rules_reference.py < cases > answers       each line: the labels, a space, the expression
-    rules_reference.py random COUNT SEED       random cases
+    make_rules.py             writes crates/trials_rules/stdin, the cases, and stdout, the output that is due
+    make_rules.py list        prints each case and its answer
+
+Each table is also tried word by word: every word up to a length leads to acceptance exactly if Python's own `re` matches it.
 """
-import sys, random
+import itertools
+import os
+import random
+import re
+import sys
+
+SEED, DRAWN = 6, 4000
 
 class No(Exception):
     pass
@@ -92,7 +100,7 @@ def rules(labels, text):
     try:
         e = parse(text, labels)
     except No:
-        return '12'
+        return 12
     # all derivatives, then states that no word tells apart by refinement
     states, todo, next_ = {e: 0}, [e], []
     for s in todo:
@@ -127,9 +135,8 @@ def rules(labels, text):
                 number[t] = len(line)
                 line.append(t)
             rows.append((number[b], l, number[t]))
-    if len(line) > 16: return '13'
-    accept = [number[b] for b in line if nullable(todo[of[b]])]
-    return ' '.join([str(len(line))] + ['%d.%d.%d' % r for r in rows] + ['|'] + [str(q) for q in sorted(accept)])
+    if len(line) > 16: return 13
+    return {(q, l): r for q, l, r in rows}, [nullable(todo[of[b]]) for b in line]
 
 def random_text(r, labels):
     def choice(d): return '|'.join(sequence(d) for _ in range(r.choice([1, 1, 1, 2, 2, 3])))
@@ -143,16 +150,52 @@ def random_text(r, labels):
         t = t[:i] + r.choice('()*|PZ ') + t[i + r.choice([0, 1]):]
     return t
 
-if sys.argv[1:2] == ['random']:
-    r = random.Random(int(sys.argv[3]))
-    n = 0
-    while n < int(sys.argv[2]):
+
+def said(answer):
+    """The lines that the program prints for a table: a state a line, where it leads by each of eight labels, and + if it accepts."""
+    if answer in (12, 13): return 'refused %d\n\n' % answer
+    next_, accepts = answer
+    sign = lambda q, l: '0123456789abcdef'[next_[q, l]] if (q, l) in next_ else '.'
+    return ''.join(''.join(sign(q, l) for l in range(8)) + ('+' if a else ' ') + '\n' for q, a in enumerate(accepts)) + '\n'
+
+def tried(labels, text, answer):
+    """Does the table accept exactly the words that `re` matches, of all words up to a length?"""
+    if answer in (12, 13): return
+    next_, accepts = answer
+    # re takes no star after a star
+    pattern = re.compile(re.sub(r'\*+', '*', text))
+    letters = sorted(set(text) & set(labels)) or [labels[0]]
+    for n in range({1: 10, 2: 6, 3: 4}.get(len(letters), 3) + 1):
+        for word in itertools.product(letters, repeat=n):
+            q = 0
+            for c in word:
+                q = next_.get((q, labels.index(c))) if q is not None else None
+            assert (q is not None and accepts[q]) == bool(pattern.fullmatch(''.join(word))), (labels, text, word)
+
+GIVEN = [('PI', t) for t in [
+    'P*I*', '(P|I)*', 'P**', '((P))', '(P|I)*P(P|I)(P|I)(P|I)', '(P|I)*P(P|I)(P|I)(P|I)P', '()', '|P', 'P|', 'P||I', 'P|*', '*P', '(*P)', 'P)', '(P', '', ' ', 'P I', 'Z',
+    'p', 'P' * 10, 'P' * 11, '(' * 27 + 'PPPPPPPPPP' + ')' * 27, '(' * 27 + 'PPPPPPPPPP*' + ')' * 27, '(' * 31 + 'P*' + ')' * 31, '(' * 31 + 'P**' + ')' * 31, 'P' + '*' * 63, 'P' + '*' * 64,
+]] + [
+    ('IP', 'P*I*'), ('', 'P'), ('', ''), ('P', '(PPPP)*(PPPPP)*'), ('P', '(P*P*P*P*P*P*P*P*P*P*)*'), ('P', '(PP|PPP|PPPPP)*'), ('ABCDEFGH', 'A|B|C|D|E|F|G|H'), ('ABCDEFGH', '(AB|CD)*(EF|GH)*'),
+]
+
+def main():
+    r = random.Random(SEED)
+    cases = list(GIVEN)
+    while len(cases) < len(GIVEN) + DRAWN:
         labels = ''.join(r.sample('PIABCDEFGH', r.choice([1, 2, 2, 3, 8])))
-        t = random_text(r, labels)
-        if sum(c.isalpha() for c in t) > r.choice([10, 10, 10, 12]) or '\n' in t: continue
-        print(labels, t)
-        n += 1
-else:
-    for line in sys.stdin:
-        labels, text = line.rstrip('\n').split(' ', 1)
-        print(rules(labels, text))
+        text = random_text(r, labels)
+        if sum(c.isalpha() for c in text) <= r.choice([10, 10, 10, 12]) and len(text) < 67:
+            cases.append((labels, text))
+    answers = [rules(labels, text) for labels, text in cases]
+    for (labels, text), answer in zip(cases, answers): tried(labels, text, answer)
+    if sys.argv[1:] == ['list']:
+        for (labels, text), answer in zip(cases, answers): print(labels, text, said(answer), sep='\n', end='')
+        return
+    folder = os.path.join(os.path.dirname(os.path.abspath(__file__)), '..', '..', 'crates', 'trials_rules')
+    with open(os.path.join(folder, 'stdin'), 'w') as out:
+        for labels, text in cases: out.write('%d%02d%-8s%-67s\n' % (len(labels), len(text), labels, text))
+    with open(os.path.join(folder, 'stdout'), 'w') as out:
+        for answer in answers: out.write(said(answer))
+
+main()
