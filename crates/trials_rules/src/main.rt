@@ -1,15 +1,21 @@
 // Reads expressions from standard input and prints for each the rows that it becomes, or what refuses it. tools/rules writes the cases and, by another method, the output that is due.
 use path_rules::Rules;
 use path_rules::path_rules;
+ghost use Prim.Native.Nat.{_≤_};
 
 // A case is 79 bytes: the number of labels (a digit), of bytes of the expression (two digits), eight bytes for labels, 67 for the expression, LF.
 const CASE: usize = 79;
 
-fn digit(x: u8) -> usize {
-    if 48 <= x && x <= 57 {
-        return (x - 48) as usize;
+fn digit(x: u8) -> usize
+    ensures small { λ r. ⌜ r ≤ 9 ⌝ }
+{
+    if x < 48 {
+        return 0;
     }
-    0
+    if 57 < x {
+        return 0;
+    }
+    (x - 48) as usize
 }
 
 // The bytes from a place on, as many as there are.
