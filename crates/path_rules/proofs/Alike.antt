@@ -1,17 +1,17 @@
 -- Sets that meet the same vectors accept the same words, and stay alike along every label. Assumes nothing.
-use Prim.Native.Nat.{ℕ, zero, suc, _+_, _<_, _≤_}
-use mathlib.Core.Path.{_≡_, refl, sym, ap, _∙_, subst}
+use Prim.Native.Nat.{ℕ, zero, suc, _<_, _≤_}
+use mathlib.Core.Path.{_≡_, refl, sym, ap, _∙_}
 use mathlib.Core.Bool.{Bool, true, false, not, false≢true}
 use mathlib.Core.Logic.{_⊎_, inl, inr, ⊎-elim}
 use mathlib.Core.List.{List, [], _∷_, List·Memᴰ·cases-cons, List·Memᴰ·not-nil}
 use native.Mathlib.Omega.{arith}
 use lib.ListN.{length, getD}
 use Rattle.scope_graph.specs.Language.{_∈_}
-use Rattle.scope_graph.proofs.Lists.{Two, here, there, true-false}
+use Rattle.scope_graph.proofs.Lists.{here, there, true-false}
 use Rattle.path_rules.specs.Sets.{meets}
 use Rattle.path_rules.specs.Table.{Over}
 use Rattle.path_rules.specs.Vectors.{before, onward, alikeOn, sameOn, placeSame}
-use Rattle.path_rules.proofs.SetLaws.{meets-none, has-none, meets-elim}
+use Rattle.path_rules.proofs.SetLaws.{meets-none, has-none}
 use Rattle.path_rules.proofs.VectorLaws.{dual, setAfter}
 use Rattle.path_rules.proofs.Closed.{vectorList, before-in}
 

@@ -1,20 +1,20 @@
 -- The sets that are found are those of all words: the list holds each once, and whatever a label leads into one of them. Assumes nothing.
 use Prim.Native.Nat.{ℕ, zero, suc, _+_, _*_, _/_, _%_, _<_, _≤_}
-use mathlib.Core.Path.{_≡_, refl, sym, ap, _∙_, subst}
-use mathlib.Core.Bool.{Bool, true, false, not, _&&_, false≢true}
+use mathlib.Core.Path.{_≡_, sym, ap, _∙_, subst}
+use mathlib.Core.Bool.{true, false}
 use mathlib.Core.Logic.{_⊎_, inl, inr, ⊎-elim}
-use mathlib.Core.List.{List, [], _∷_, _++_, List·Memᴰ·head, List·Memᴰ·tail, List·Memᴰ·cases-cons, List·Memᴰ·not-nil, Memᴰ·append-left, Memᴰ·append-right, List·Memᴰ·append-cases, List·Memᴰ·eq-of-singleton}
+use mathlib.Core.List.{List, [], _∷_, _++_, List·Memᴰ·head, List·Memᴰ·cases-cons, List·Memᴰ·not-nil, Memᴰ·append-left, Memᴰ·append-right, List·Memᴰ·append-cases, List·Memᴰ·eq-of-singleton}
 use native.Mathlib.Omega.{arith}
 use native.Mathlib.Numerals.{add-one}
 use lib.Dec.{eqb, ltb}
-use lib.ListN.{length, getD, set, take, replicate, length-append, length-set, length-replicate, List·getD-append}
+use lib.ListN.{length, getD, set, take, replicate, length-set, length-replicate, List·getD-append}
 use lib.Pow.{high, low}
 use lib.Seq.{take-suc-set, length-take-le, getD-take}
-use borrow.Author.Tests.{lt-ltb, le-ltb, ltb-true, ltb-false}
+use borrow.Author.Tests.{ltb-true, ltb-false}
 use Rattle.scope_graph.specs.Language.{_∈_}
 use Rattle.scope_graph.specs.Path.{Distinct}
 use Rattle.scope_graph.specs.Rows.{anyOf}
-use Rattle.scope_graph.proofs.Lists.{Two, here, there, and-left, and-right, and-both, is-not, not-is, true-false}
+use Rattle.scope_graph.proofs.Lists.{Two, here, there}
 use Rattle.scope_graph.proofs.Pigeon.{in-true, not-in, distinct-bounded}
 use Rattle.path_rules.specs.Table.{Over}
 use Rattle.path_rules.specs.Vectors.{endSet, before, Found, isNew, noted, noteTurn, firstFound, turns, vectors}

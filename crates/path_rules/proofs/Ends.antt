@@ -1,17 +1,15 @@
 -- The last steps of the code: the walk, and the whole. Assumes nothing.
-use Prim.Native.Nat.{ℕ, zero, suc, _+_, _/_, _%_, _<_, _≤_}
-use mathlib.Core.Path.{_≡_, refl, sym, ap, _∙_, subst}
-use mathlib.Core.Bool.{Bool, true, false}
+use Prim.Native.Nat.{ℕ, _/_, _%_, _<_, _≤_}
+use mathlib.Core.Path.{_≡_, sym, ap, _∙_, subst}
+use mathlib.Core.Bool.{true, false}
 use mathlib.Core.List.{List}
 use native.Mathlib.Omega.{arith}
-use lib.Dec.{ltb}
 use lib.ListN.{length, getD, take, replicate, length-set, length-replicate}
 use borrow.Author.Tests.{lt-ltb, le-ltb}
 use Rattle.path_rules.specs.Reading.{fresh, merged, chosen, readAll}
 use Rattle.path_rules.specs.Vectors.{Found, vectors, onward, sameOn, placeSame}
 use Rattle.path_rules.specs.Walk.{startWalk, arrived, reached, walkTurn, walkTo}
 use Rattle.path_rules.specs.Rules.{isWhole, refusedBy, vectorsOf, walkOf, wholeRules, readRules, rulesOf}
-use Rattle.path_rules.specs.declared.reading.Reading.{Reading}
 use Rattle.path_rules.specs.declared.walk.Walk.{Walk}
 use Rattle.path_rules.proofs.Steps.{few-turn, sets-turn}
 use Rattle.path_rules.proofs.Closed.{closed-all}

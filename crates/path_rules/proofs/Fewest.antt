@@ -1,8 +1,8 @@
 -- No table that decides a language has fewer states than there are words that the language tells apart and that go on to words of it. Assumes nothing.
 use Prim.Native.Nat.{ℕ, zero, suc, _<_, _≤_}
-use mathlib.Core.Path.{_≡_, refl, sym, ap, _∙_, subst}
-use mathlib.Core.Bool.{Bool, true}
-use mathlib.Core.Logic.{_⊎_, inl, inr, ⊎-elim}
+use mathlib.Core.Path.{_≡_, refl, sym, ap, _∙_}
+use mathlib.Core.Bool.{Bool}
+use mathlib.Core.Logic.{_⊎_, ⊎-elim}
 use mathlib.Core.Option.{Option, some, none}
 use mathlib.Core.List.{List, [], _∷_, _++_, List·Memᴰ·cases-cons, List·Memᴰ·not-nil}
 use native.Mathlib.Omega.{arith}
@@ -10,7 +10,7 @@ use lib.ListN.{length}
 use Rattle.scope_graph.specs.Language.{_∈_}
 use Rattle.scope_graph.specs.Path.{Distinct}
 use Rattle.scope_graph.proofs.Pigeon.{distinct-bounded}
-use Rattle.path_rules.specs.Table.{leadsTo, Accepted, Over, Decides}
+use Rattle.path_rules.specs.Table.{leadsTo, Over, Decides}
 
 -- words over labels, one after the other
 pub over-left : (n : ℕ) (x z : List ℕ) → Over n (x ++ z) → Over n x

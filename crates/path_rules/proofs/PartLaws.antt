@@ -1,16 +1,13 @@
 -- What is kept of a part is what its positions say. Assumes nothing.
-use Prim.Native.Nat.{ℕ, zero, suc, _+_, _^_, _<_, _≤_}
-use mathlib.Core.Path.{_≡_, refl, sym, ap, _∙_, subst}
-use mathlib.Core.Bool.{Bool, true, false, _&&_, _||_, false≢true}
+use Prim.Native.Nat.{ℕ, _+_, _^_}
+use mathlib.Core.Path.{_≡_, refl, sym, ap, _∙_}
+use mathlib.Core.Bool.{Bool, true, false, _&&_, _||_}
 use mathlib.Core.Option.{Option, some, none}
-use mathlib.Core.List.{List, [], _∷_}
 use native.Mathlib.Omega.{arith}
 use native.Mathlib.Nat.{add-zero}
-use lib.Bits.{bitOr}
-use lib.Dec.{eqb}
 use Rattle.path_rules.specs.Sets.{has, onlyIf}
 use Rattle.path_rules.specs.Parts.{emptyPart, noPart, letterPart, seqPart, altPart, starPart}
-use Rattle.path_rules.specs.Expression.{Expr, letter, seq, alt, star, size}
+use Rattle.path_rules.specs.Expression.{Expr, letter, star, size}
 use Rattle.path_rules.specs.declared.reading.Part.{Part}
 use Rattle.path_rules.proofs.SetLaws.{has-or, has-only, has-none, has-one}
 use Rattle.path_rules.proofs.Positions.{nullable, first, last, follow}

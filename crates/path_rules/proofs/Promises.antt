@@ -1,25 +1,23 @@
 -- The value of specs/Promises. Assumes nothing.
-use Prim.Native.Nat.{ℕ, zero, suc, _*_, _<_, _≤_}
-use mathlib.Core.Path.{_≡_, refl, sym, ap, _∙_, subst}
-use mathlib.Core.Bool.{Bool, true, false, false≢true}
+use Prim.Native.Nat.{ℕ, _≤_}
+use mathlib.Core.Path.{_≡_, sym, ap, _∙_}
+use mathlib.Core.Bool.{true, false}
 use mathlib.Core.Logic.{_⊎_, inl, inr, ⊎-elim, _↔_}
 use mathlib.Core.List.{List}
 use native.Mathlib.Omega.{arith}
 use lib.Dec.{ltb}
-use lib.ListN.{length, take}
-use borrow.Author.Tests.{le-ltb, lt-ltb, ltb-true, ltb-false}
-use Rattle.scope_graph.proofs.Lists.{Two, true-false}
-use Rattle.path_rules.specs.Expression.{Expr, In}
+use lib.ListN.{length}
+use borrow.Author.Tests.{ltb-true, ltb-false}
+use Rattle.scope_graph.proofs.Lists.{Two}
+use Rattle.path_rules.specs.Expression.{Expr}
 use Rattle.path_rules.specs.Grammar.{Expression, sides}
-use Rattle.path_rules.specs.Table.{Decides, Met}
 use Rattle.path_rules.specs.Reading.{fresh, merged, chosen, readAll}
-use Rattle.path_rules.specs.Rules.{isWhole, afterEnd, startSet, refusedBy, tableOf, walkOf, wholeRules, readRules, rulesOf, nextIn, acceptsIn}
-use Rattle.path_rules.specs.Promises.{AtLeast, RowPromises, Promises}
+use Rattle.path_rules.specs.Rules.{isWhole, afterEnd, startSet, refusedBy, tableOf, walkOf, wholeRules, rulesOf}
+use Rattle.path_rules.specs.Promises.{RowPromises, Promises}
 use Rattle.path_rules.specs.declared.reading.Reading.{Reading}
 use Rattle.path_rules.specs.declared.walk.Walk.{Walk}
-use Rattle.path_rules.specs.declared.Rules.{Rules}
 use Rattle.path_rules.proofs.Ends.{rules-long, rules-part, rules-whole}
-use Rattle.path_rules.proofs.ReadingLaws.{Ready, ready, taken, one-tree}
+use Rattle.path_rules.proofs.ReadingLaws.{ready, taken, one-tree}
 use Rattle.path_rules.proofs.TableLaws.{Below, reads-below, made, table-decides, table-fewest, table-met, table-over, walked-few}
 
 -- a table is refused by 13 or by nothing

@@ -1,17 +1,16 @@
 -- Both readers take the same texts, and at the end hold the same expression. Assumes nothing.
-use Prim.Native.Nat.{ℕ, zero, suc, _+_, _<_, _≤_}
+use Prim.Native.Nat.{ℕ, suc, _+_, _<_, _≤_}
 use mathlib.Core.Path.{_≡_, refl, sym, ap, _∙_, subst}
 use mathlib.Core.Bool.{Bool, true, false, _&&_, false≢true}
-use mathlib.Core.Logic.{_⊎_, inl, inr, ⊎-elim}
 use mathlib.Core.Option.{Option, some, none}
 use mathlib.Core.List.{List, [], _∷_, append-nil}
 use native.Mathlib.Omega.{arith}
 use lib.Dec.{eqb, ltb}
 use lib.ListN.{length}
-use borrow.Author.Tests.{lt-ltb, ltb-true, eq-eqb, eqb-true}
-use Rattle.scope_graph.proofs.Lists.{Two, and-left, and-right, and-both, true-false}
-use Rattle.path_rules.specs.Expression.{Expr, letter, seq, alt, star, size}
-use Rattle.path_rules.specs.Grammar.{Expression, Reads, sides, placeOf}
+use borrow.Author.Tests.{lt-ltb, ltb-true, eqb-true}
+use Rattle.scope_graph.proofs.Lists.{and-left, and-right, true-false}
+use Rattle.path_rules.specs.Expression.{Expr, seq, alt, size}
+use Rattle.path_rules.specs.Grammar.{Expression, sides, placeOf}
 use Rattle.path_rules.specs.Reading.{fresh, spoiled, merged, chosen, popped, placed, opened, closed, starred, barred, lettered, byKind, readByte, readAll}
 use Rattle.path_rules.specs.Rules.{isWhole}
 use Rattle.path_rules.specs.declared.reading.Reading.{Reading}

@@ -1,23 +1,22 @@
 -- Steps of the code's loops, over plain lists. Assumes nothing.
-use Prim.Native.Nat.{ℕ, zero, suc, _+_, _-_, _/_, _%_, _<_, _≤_}
+use Prim.Native.Nat.{ℕ, _+_, _/_, _%_, _<_, _≤_}
 use mathlib.Core.Path.{_≡_, refl, sym, ap, _∙_, subst}
-use mathlib.Core.Bool.{Bool, true, false, not, _&&_, _||_, false≢true}
-use mathlib.Core.Logic.{_⊎_, inl, inr, ⊎-elim}
-use mathlib.Core.List.{List, [], _∷_}
+use mathlib.Core.Bool.{Bool, true, false, not, _&&_, false≢true}
+use mathlib.Core.List.{List}
 use native.Mathlib.Omega.{arith}
 use native.Mathlib.Numerals.{add-one}
 use lib.Dec.{eqb, ltb}
 use lib.ListN.{length, getD, drop, set, take, replicate, length-set, length-replicate, drop-of-length-le}
 use lib.Seq.{drop-cons}
-use borrow.Author.Tests.{eq-eqb, ne-eqb, lt-ltb, le-ltb, ltb-true, ltb-false}
+use borrow.Author.Tests.{eq-eqb, ne-eqb, lt-ltb, le-ltb, ltb-true}
 use Rattle.scope_graph.specs.Rows.{anyOf}
-use Rattle.scope_graph.proofs.Lists.{Two, and-left, and-right}
+use Rattle.scope_graph.proofs.Lists.{and-left, and-right}
 use Rattle.path_rules.specs.Sets.{gather, meets}
-use Rattle.path_rules.specs.Parts.{emptyPart, noPart, tabulate}
+use Rattle.path_rules.specs.Parts.{tabulate}
 use Rattle.path_rules.specs.Grammar.{placeOf}
 use Rattle.path_rules.specs.Reading.{spoiled, merged, chosen, pushed, popped, repeated, placed, opened, closed, starred, barred, lettered, byKind, readByte, readAll}
 use Rattle.path_rules.specs.Vectors.{Found, isNew, noted, noteTurn, firstFound, turns, vectors, before, endSet, alikeOn, sameOn, placeSame}
-use Rattle.path_rules.specs.Walk.{startWalk, toState, toNew, tooMany, arrived, reached, walkTurn, walkTo}
+use Rattle.path_rules.specs.Walk.{toState, toNew, tooMany, arrived, reached, walkTurn, walkTo}
 use Rattle.path_rules.specs.Rules.{refusedBy, acceptCell, tableOf}
 use Rattle.path_rules.specs.declared.reading.Reading.{Reading}
 use Rattle.path_rules.specs.declared.walk.Walk.{Walk}

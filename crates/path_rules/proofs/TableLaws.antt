@@ -1,43 +1,37 @@
 -- The table of a whole expression decides its language, with the fewest states, numbered as they are met. Assumes nothing.
-use Prim.Native.Nat.{ℕ, zero, suc, _+_, _*_, _/_, _%_, _<_, _≤_, min}
+use Prim.Native.Nat.{ℕ, suc, _+_, _*_, _/_, _%_, _<_, _≤_, min}
 use mathlib.Core.Path.{_≡_, refl, sym, ap, _∙_, subst}
-use mathlib.Core.Bool.{Bool, true, false, _&&_, _||_, false≢true}
-use mathlib.Core.Logic.{_⊎_, inl, inr, ⊎-elim, _↔_}
+use mathlib.Core.Bool.{Bool, true, false, _&&_, _||_}
+use mathlib.Core.Logic.{_⊎_, inl, inr, ⊎-elim}
 use mathlib.Core.Option.{Option, some, none}
 use mathlib.Core.List.{List, [], _∷_, _++_, append-nil}
 use native.Mathlib.Omega.{arith}
-use native.Mathlib.Nat.{zero-add}
-use lib.Bits.{bitOr}
 use lib.Dec.{eqb, ltb}
 use lib.ListN.{length, getD, take}
 use lib.Pow.{high, low}
-use borrow.Author.Tests.{lt-ltb, le-ltb, ltb-true, ltb-false, eqb-true, eq-eqb}
-use Rattle.scope_graph.specs.Language.{_∈_}
-use Rattle.scope_graph.proofs.Lists.{Two, and-left, and-right, and-both, or-left, or-right, true-false}
+use borrow.Author.Tests.{lt-ltb, le-ltb, ltb-true, ltb-false}
+use Rattle.scope_graph.proofs.Lists.{Two, true-false}
 use Rattle.path_rules.specs.Expression.{Expr, letter, seq, alt, star, size, joined, Each, In}
-use Rattle.path_rules.specs.Grammar.{Expression, Reads, item, items, sides, label, starred, bracketed, single, behind, side, barred, Binding, placeOf}
+use Rattle.path_rules.specs.Grammar.{Reads, item, items, sides, label, starred, bracketed, single, behind, side, barred, Binding, placeOf}
 use Rattle.path_rules.specs.Table.{leadsTo, Accepted, Over, Decides, Met}
 use Rattle.path_rules.specs.Sets.{has, onlyIf, meets}
-use Rattle.path_rules.specs.Parts.{tabulate, linked, linkCell}
-use Rattle.path_rules.specs.Reading.{fresh, merged, chosen, readAll}
+use Rattle.path_rules.specs.Parts.{tabulate}
 use Rattle.path_rules.specs.Vectors.{endSet, onward, sameOn}
-use Rattle.path_rules.specs.Walk.{walkTo}
-use Rattle.path_rules.specs.Rules.{isWhole, afterEnd, startSet, refusedBy, acceptCell, tableOf, vectorsOf, walkOf, wholeRules, readRules, rulesOf, target, nextIn, acceptsIn}
+use Rattle.path_rules.specs.Rules.{afterEnd, startSet, acceptCell, walkOf, target, nextIn, acceptsIn}
 use Rattle.path_rules.specs.declared.reading.Reading.{Reading}
 use Rattle.path_rules.specs.declared.walk.Walk.{Walk}
 use Rattle.path_rules.specs.declared.Rules.{Rules}
 use Rattle.path_rules.proofs.Fill.{tabulate-at}
 use Rattle.path_rules.proofs.SetLaws.{has-or, has-only, has-one}
-use Rattle.path_rules.proofs.Positions.{nullable, first, last, follow, Labelled, Leads, Placed}
+use Rattle.path_rules.proofs.Positions.{nullable, first, last, follow, Labelled, Placed}
 use Rattle.path_rules.proofs.PositionsRight.{leads-more, startOf, leads-sound, leads-complete}
 use Rattle.path_rules.proofs.Trees.{tree}
-use Rattle.path_rules.proofs.Tracks.{Tracks, sizes, follows, linked-at, labelIn}
+use Rattle.path_rules.proofs.Tracks.{Tracks, sizes, follows, linked-at}
 use Rattle.path_rules.proofs.VectorLaws.{vectorOf, setAfter, meets-after, meets-end, meets-leads, leads-meets, labelAt, afterAt}
 use Rattle.path_rules.proofs.Closed.{vectorList, vector-in, in-vector}
 use Rattle.path_rules.proofs.Alike.{same-elim, same-trans, same-self, differ, meets-nothing, same-onward, dead-after, same-sym}
-use Rattle.path_rules.proofs.WalkLaws.{setAt, nextAt, Reached, goesTo, Row, OneMore, Walked, walked-to}
-use Rattle.path_rules.proofs.ReadingLaws.{Ready, ready, taken}
-use Rattle.path_rules.proofs.Fewest.{over-left, over-right, over-both, Apart, as-many}
+use Rattle.path_rules.proofs.WalkLaws.{setAt, nextAt, Reached, Walked, walked-to}
+use Rattle.path_rules.proofs.Fewest.{over-both, Apart, as-many}
 
 -- a language is never empty, and its words are over the labels that the expression names
 word-of : (e : Expr) → (w : List ℕ) × In e w

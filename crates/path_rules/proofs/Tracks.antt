@@ -1,17 +1,15 @@
 -- The reader with sets of positions goes along with the reader with trees: what each holds at the same moment. Assumes nothing.
-use Prim.Native.Nat.{ℕ, zero, suc, _+_, _-_, _^_, _<_, _≤_}
+use Prim.Native.Nat.{ℕ, _+_, _-_, _^_, _<_, _≤_}
 use mathlib.Core.Path.{_≡_, refl, sym, ap, _∙_, subst}
-use mathlib.Core.Bool.{Bool, true, false, _&&_, _||_, false≢true}
+use mathlib.Core.Bool.{Bool, true, false, _&&_, _||_}
 use mathlib.Core.Option.{Option, some, none}
 use mathlib.Core.List.{List, [], _∷_}
 use native.Mathlib.Omega.{arith}
-use native.Mathlib.Nat.{add-assoc, add-zero}
-use lib.Bits.{bitOr}
-use lib.Dec.{eqb}
-use lib.ListN.{length, getD, set, length-set, length-replicate, getD-replicate, replicate}
+use native.Mathlib.Nat.{add-zero}
+use lib.ListN.{length, getD, set, length-set, getD-replicate}
 use lib.Seq.{getD-set-same, getD-set-other}
 use Rattle.path_rules.specs.Sets.{has, onlyIf}
-use Rattle.path_rules.specs.Parts.{emptyPart, noPart, linkCell, linked, tabulate}
+use Rattle.path_rules.specs.Parts.{noPart, linkCell, linked}
 use Rattle.path_rules.specs.Expression.{Expr, letter, seq, alt, star, size}
 use Rattle.path_rules.specs.Reading.{fresh, merged, chosen, pushed, popped, repeated, placed}
 use Rattle.path_rules.specs.declared.reading.Part.{Part}
@@ -20,7 +18,7 @@ use Rattle.path_rules.proofs.Fill.{tabulate-at}
 use Rattle.path_rules.proofs.SetLaws.{has-or, has-only, has-none}
 use Rattle.path_rules.proofs.Positions.{nullable, first, last, follow, Labelled}
 use Rattle.path_rules.proofs.Trees.{seqO, altO, Frame, Tree, tree}
-use Rattle.path_rules.proofs.PartLaws.{sizeO, nullO, firstO, lastO, followO, PartOf, or-none, seq-of, alt-of, star-of, letter-of, empty-of, none-of, any-of, follow-seq, follow-alt, size-seq, size-alt}
+use Rattle.path_rules.proofs.PartLaws.{sizeO, firstO, lastO, followO, PartOf, or-none, seq-of, alt-of, star-of, letter-of, empty-of, none-of, any-of, follow-seq, follow-alt, size-seq, size-alt}
 
 abbrev pub there : Option Expr → Bool
 there none = false

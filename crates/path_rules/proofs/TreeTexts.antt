@@ -1,17 +1,15 @@
 -- What the reader with trees takes is a text of the grammar: at each moment what it holds is read from the bytes so far. Assumes nothing.
-use Prim.Native.Nat.{ℕ, zero, suc, _+_, _<_, _≤_}
+use Prim.Native.Nat.{ℕ}
 use mathlib.Core.Path.{_≡_, refl, sym, ap, _∙_, subst}
-use mathlib.Core.Bool.{Bool, true, false, _&&_, _||_, false≢true}
-use mathlib.Core.Logic.{_⊎_, inl, inr, ⊎-elim, _↔_}
+use mathlib.Core.Bool.{Bool, true, false, _&&_}
 use mathlib.Core.Option.{Option, some, none}
 use mathlib.Core.List.{List, [], _∷_, _++_, append-assoc, append-nil}
 use native.Mathlib.Omega.{arith}
 use lib.Dec.{eqb, ltb}
-use lib.ListN.{length}
-use borrow.Author.Tests.{eqb-true, eq-eqb, ltb-true, lt-ltb}
-use Rattle.scope_graph.proofs.Lists.{Two, and-left, and-right, and-both, true-false}
-use Rattle.path_rules.specs.Expression.{Expr, letter, seq, alt, star, size}
-use Rattle.path_rules.specs.Grammar.{Binding, item, items, sides, isSign, Reads, label, starred, bracketed, single, behind, side, barred, placeOf}
+use borrow.Author.Tests.{eqb-true, ltb-true}
+use Rattle.scope_graph.proofs.Lists.{and-left}
+use Rattle.path_rules.specs.Expression.{Expr, letter, seq, alt}
+use Rattle.path_rules.specs.Grammar.{item, items, sides, isSign, Reads, label, starred, bracketed, single, behind, side, barred, placeOf}
 use Rattle.path_rules.proofs.Trees.{seqO, altO, Frame, Tree, tree, openTree, closeTree, starTree, barTree, letterTree, treeKind, treeByte, treeAll}
 
 module _ (ls : List ℕ) where

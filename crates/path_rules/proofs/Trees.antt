@@ -1,16 +1,13 @@
 -- The reader of expressions, with trees in place of sets of positions: what it takes is exactly what the grammar has, and each text has one tree. Assumes nothing.
-use Prim.Native.Nat.{ℕ, zero, suc, _+_, _<_, _≤_}
-use mathlib.Core.Path.{_≡_, refl, sym, ap, _∙_, subst}
+use Prim.Native.Nat.{ℕ, _+_, _<_, _≤_}
+use mathlib.Core.Path.{_≡_, refl, sym, ap, _∙_}
 use mathlib.Core.Bool.{Bool, true, false, _&&_, _||_, false≢true}
-use mathlib.Core.Logic.{_⊎_, inl, inr, ⊎-elim}
 use mathlib.Core.Option.{Option, some, none}
-use mathlib.Core.List.{List, [], _∷_, _++_, append-assoc, append-nil}
+use mathlib.Core.List.{List, [], _∷_, _++_, append-assoc}
 use native.Mathlib.Omega.{arith}
 use native.Mathlib.Nat.{add-assoc}
 use lib.Dec.{eqb, ltb}
-use lib.ListN.{length}
-use borrow.Author.Tests.{eqb-true, eq-eqb, ltb-true, lt-ltb}
-use Rattle.scope_graph.proofs.Lists.{Two, and-left, and-right, and-both, true-false}
+use borrow.Author.Tests.{lt-ltb}
 use Rattle.path_rules.specs.Expression.{Expr, letter, seq, alt, star, size}
 use Rattle.path_rules.specs.Grammar.{Binding, item, items, sides, isSign, Reads, label, starred, bracketed, single, behind, side, barred, placeOf}
 

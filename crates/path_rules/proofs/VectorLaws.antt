@@ -1,19 +1,18 @@
 -- What the sets found backwards from the end say: from which positions a word leads to its end. Assumes nothing.
-use Prim.Native.Nat.{ℕ, zero, suc, _+_, _^_, _<_, _≤_}
-use mathlib.Core.Path.{_≡_, refl, sym, ap, _∙_, subst}
-use mathlib.Core.Bool.{Bool, true, false, _&&_, _||_, false≢true}
-use mathlib.Core.Logic.{_⊎_, inl, inr, ⊎-elim, _↔_}
+use Prim.Native.Nat.{ℕ, zero, suc, _^_, _<_}
+use mathlib.Core.Path.{_≡_, refl, sym, _∙_}
+use mathlib.Core.Bool.{Bool, true, false, _&&_}
 use mathlib.Core.List.{List, [], _∷_, _++_}
 use native.Mathlib.Omega.{arith}
-use lib.Bits.{bitOr, or-lt}
+use lib.Bits.{or-lt}
 use lib.Dec.{eqb}
 use lib.ListN.{getD}
 use lib.Pow.{pow-pos, pow-lt}
 use borrow.Author.Tests.{eqb-true, eq-eqb}
-use Rattle.scope_graph.proofs.Lists.{Two, and-left, and-right, and-both, true-false, not-true}
+use Rattle.scope_graph.proofs.Lists.{and-left, and-right, and-both}
 use Rattle.path_rules.specs.Sets.{has, onlyIf, gather, meets}
 use Rattle.path_rules.specs.Vectors.{endSet, beforeCell, before, onwardCell, onward}
-use Rattle.path_rules.proofs.SetLaws.{has-only, has-one, has-none, has-gather, some-intro, some-elim, meets-elim, meets-intro, someBelow}
+use Rattle.path_rules.proofs.SetLaws.{has-only, has-one, has-gather, some-intro, some-elim, meets-elim, meets-intro}
 use Rattle.path_rules.proofs.Positions.{Leads}
 
 -- two tests that follow from one another are the same

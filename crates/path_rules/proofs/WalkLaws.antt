@@ -1,7 +1,7 @@
 -- What holds of the walk at each cell: its states are reached, live and told apart, and its cells lead where the sets say. Assumes nothing.
 use Prim.Native.Nat.{ℕ, zero, suc, _+_, _*_, _/_, _%_, _<_, _≤_, min}
-use mathlib.Core.Path.{_≡_, refl, sym, ap, _∙_, subst}
-use mathlib.Core.Bool.{Bool, true, false, false≢true}
+use mathlib.Core.Path.{_≡_, refl, sym, ap, _∙_}
+use mathlib.Core.Bool.{true, false, false≢true}
 use mathlib.Core.Logic.{_⊎_, inl, inr, ⊎-elim}
 use mathlib.Core.List.{List, [], _∷_, _++_}
 use native.Mathlib.Omega.{arith}
@@ -10,7 +10,7 @@ use lib.Dec.{ltb}
 use lib.ListN.{length, getD, set, take, replicate, length-set, length-replicate, getD-replicate}
 use lib.Seq.{take-suc, take-suc-set, length-take-le, getD-take, getD-set-same, getD-set-other}
 use borrow.Author.Tests.{ltb-true, ltb-false}
-use Rattle.scope_graph.proofs.Lists.{Two, true-false}
+use Rattle.scope_graph.proofs.Lists.{Two}
 use Rattle.path_rules.specs.Table.{Over, Met, start, nowhere, again, new}
 use Rattle.path_rules.specs.Vectors.{onward, sameOn, placeSame}
 use Rattle.path_rules.specs.Walk.{startWalk, toState, toNew, tooMany, arrived, reached, walkTurn, walkTo}

@@ -1,7 +1,7 @@
 -- What is kept of a part of an expression while it is read: may it be the empty word, which positions may come first and last. Positions are
 -- the part's label letters in the text's sequence. Which position may follow which stands in one table for all parts. Assumes nothing: these are definitions.
 use Prim.Native.Nat.{ℕ, zero, suc}
-use mathlib.Core.Bool.{Bool, true, false, _&&_, _||_}
+use mathlib.Core.Bool.{true, false, _&&_, _||_}
 use mathlib.Core.List.{List, [], _∷_, _++_}
 use lib.Bits.{bitOr}
 use lib.ListN.{getD}

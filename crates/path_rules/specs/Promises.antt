@@ -1,5 +1,5 @@
 -- What is proved of the rows that an expression becomes (02, K6): each field is a statement, and proofs/Promises.antt has the value. Assumes nothing: these are statements.
-use Prim.Native.Nat.{ℕ, _*_, _<_, _≤_}
+use Prim.Native.Nat.{ℕ, _*_, _≤_}
 use mathlib.Core.Path.{_≡_}
 use mathlib.Core.Bool.{Bool}
 use mathlib.Core.Logic.{_↔_}

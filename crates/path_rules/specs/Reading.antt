@@ -1,12 +1,11 @@
 -- An expression read byte by byte (02, K6): what is known after the bytes so far. Assumes nothing: these are definitions.
-use Prim.Native.Nat.{ℕ, zero, suc, _+_, _-_, _^_}
-use mathlib.Core.Bool.{Bool, true, false, _&&_, _||_}
+use Prim.Native.Nat.{ℕ, _+_, _-_, _^_}
+use mathlib.Core.Bool.{Bool, true, false, _&&_}
 use mathlib.Core.List.{List, [], _∷_}
 use lib.Dec.{eqb, ltb}
-use lib.ListN.{getD, set, length, replicate, take}
+use lib.ListN.{getD, set, replicate}
 use Rattle.path_rules.specs.Grammar.{placeOf}
 use Rattle.path_rules.specs.Parts.{emptyPart, noPart, letterPart, seqPart, altPart, starPart, linked}
-use Rattle.path_rules.specs.declared.reading.Part.{Part}
 use Rattle.path_rules.specs.declared.reading.Reading.{Reading}
 
 -- nothing read yet

@@ -1,26 +1,19 @@
+-- `table` meets its contract. Assumes nothing.
 use Rattle.path_rules.proofs.Steps.{table-refused, table-made}
-use mathlib.Core.Path.{_≡_, refl, sym, ap, _∙_}
+use mathlib.Core.Path.{_∙_}
 use borrow.Author.Needs.{needs}
 use Rattle.path_rules.proofs.table.Statement.{statement}
 use Rattle.path_rules.proofs.table.Tie as tie
-use Rattle.path_rules.proofs.table.Reads as reads
-use Rattle.path_rules.proofs.table.Lts as lts
-use Rattle.path_rules.proofs.accept_cells.Reads as accept-cells-reads
-use Rattle.path_rules.proofs.refuse.Reads as refuse-reads
 
--- src/lib.rt:91:9
 refuse-requires : tie.Need-refuse-requires
 refuse-requires c κs = search needs
 
--- src/lib.rt:91:9
 returns : tie.Need-returns
 returns c = c .refuse .ensures ∙ table-refused _ (c .before .if1 .taken)
 
--- src/lib.rt:95:9
 accept-cells-requires : tie.Need-accept-cells-requires
 accept-cells-requires c κs = search needs
 
--- src/lib.rt:87:1
 returns-2 : tie.Need-returns-2
 returns-2 c = rw (c .accept-cells .ensures) (table-made _ (c .before .before .before .if1 .left))
 

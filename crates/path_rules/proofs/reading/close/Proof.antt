@@ -1,42 +1,29 @@
+-- `close` meets its contract. Assumes nothing.
 use Rattle.path_rules.proofs.Steps.{pop-fits, closed-so, closed-not}
 use Rattle.path_rules.specs.Reading.{chosen, popped}
-use mathlib.Core.Path.{_≡_, refl, sym, ap, _∙_}
+use mathlib.Core.Path.{sym, ap, _∙_}
 use borrow.Author.Needs.{needs}
 use Rattle.path_rules.proofs.reading.close.Statement.{statement}
 use Rattle.path_rules.proofs.reading.close.Tie as tie
-use Rattle.path_rules.proofs.reading.close.Reads as reads
-use Rattle.path_rules.proofs.reading.close.Lts as lts
-use Rattle.path_rules.proofs.reading.choose.Reads as choose-reads
-use Rattle.path_rules.proofs.reading.merge.Reads as merge-reads
-use Rattle.path_rules.proofs.reading.pop.Reads as pop-reads
-use Rattle.path_rules.proofs.reading.spoil.Reads as spoil-reads
-use Rattle.path_rules.proofs.sets.both.Reads as both-reads
 
--- src/reading.rt:233:8
 both-requires : tie.Need-both-requires
 both-requires c κs = search needs
 
--- src/reading.rt:234:27
 merge-requires : tie.Need-merge-requires
 merge-requires c κs = search needs
 
--- src/reading.rt:234:20
 choose-requires : tie.Need-choose-requires
 choose-requires c κs = search needs
 
--- src/reading.rt:234:9
 pop-requires : tie.Need-pop-requires
 pop-requires c κs = pop-fits (c .before .before .before .before .before .args .s) _ _ _ (c .choose .ensures) (c .before .merge .ensures) (c .before .before .before .both .ensures) (c .before .before .if1 .taken) (c .before .before .before .before .before .pre)
 
--- src/reading.rt:234:9
 returns : tie.Need-returns
 returns c = c .pop .ensures ∙ ap popped (c .before .choose .ensures ∙ ap chosen (c .before .before .merge .ensures)) ∙ closed-so _ (sym (c .before .before .before .before .both .ensures) ∙ c .before .before .before .if1 .taken)
 
--- src/reading.rt:236:5
 spoil-requires : tie.Need-spoil-requires
 spoil-requires c κs = search needs
 
--- src/reading.rt:229:1
 returns-2 : tie.Need-returns-2
 returns-2 c = c .spoil .ensures ∙ closed-not _ (sym (c .before .before .both .ensures) ∙ c .before .if1 .left)
 

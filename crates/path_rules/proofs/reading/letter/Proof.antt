@@ -1,37 +1,26 @@
+-- `letter` meets its contract. Assumes nothing.
 use Rattle.path_rules.proofs.Steps.{letter-fits, lettered-so, lettered-not}
 use Rattle.path_rules.specs.Reading.{placed}
-use mathlib.Core.Path.{_≡_, refl, sym, ap, _∙_}
+use mathlib.Core.Path.{sym, ap, _∙_}
 use borrow.Author.Needs.{needs}
 use Rattle.path_rules.proofs.reading.letter.Statement.{statement}
 use Rattle.path_rules.proofs.reading.letter.Tie as tie
-use Rattle.path_rules.proofs.reading.letter.Reads as reads
-use Rattle.path_rules.proofs.reading.letter.Lts as lts
-use Rattle.path_rules.proofs.reading.merge.Reads as merge-reads
-use Rattle.path_rules.proofs.reading.put_letter.Reads as put-letter-reads
-use Rattle.path_rules.proofs.reading.spoil.Reads as spoil-reads
-use Rattle.path_rules.proofs.sets.both.Reads as both-reads
 
--- src/reading.rt:260:8
 both-requires : tie.Need-both-requires
 both-requires c κs = search needs
 
--- src/reading.rt:261:27
 merge-requires : tie.Need-merge-requires
 merge-requires c κs = search needs
 
--- src/reading.rt:261:9
 put-letter-requires : tie.Need-put-letter-requires
 put-letter-requires c κs = letter-fits (c .before .before .before .before .args .s) _ (c .before .before .before .before .args .label) _ (c .merge .ensures) (c .before .before .both .ensures) (c .before .if1 .taken)
 
--- src/reading.rt:261:9
 returns : tie.Need-returns
 returns c = c .put-letter .ensures ∙ ap (λ m. placed m (c .before .before .before .before .before .args .label)) (c .before .merge .ensures) ∙ lettered-so _ _ (sym (c .before .before .before .both .ensures) ∙ c .before .before .if1 .taken)
 
--- src/reading.rt:263:5
 spoil-requires : tie.Need-spoil-requires
 spoil-requires c κs = search needs
 
--- src/reading.rt:257:1
 returns-2 : tie.Need-returns-2
 returns-2 c = c .spoil .ensures ∙ lettered-not _ _ (sym (c .before .before .both .ensures) ∙ c .before .if1 .left)
 

@@ -1,13 +1,11 @@
+-- `link` meets its contract. Assumes nothing.
 use Rattle.path_rules.proofs.Fill.{Filled, filled-none, filled-next, filled-all}
 use Rattle.path_rules.specs.Parts.{linkCell, linked}
-use lib.ListN.{length, drop, length-replicate}
+use lib.ListN.{length-replicate}
 use native.Mathlib.Omega.{arith}
-use Prim.Native.Nat.{ℕ, _-_, _+_, _≤_, _<_}
+use Prim.Native.Nat.{ℕ, _-_}
 use Rattle.path_rules.proofs.reading.link.Statement.{statement}
 use Rattle.path_rules.proofs.reading.link.Tie as tie
-use Rattle.path_rules.proofs.reading.link.Reads as reads
-use Rattle.path_rules.proofs.reading.link.Lts as lts
-use Rattle.path_rules.proofs.reading.link_cell.Reads as link-cell-reads
 
 abbrev Inv-loop : tie.InvT-loop
 Inv-loop after lasts firsts t₀ p₀ t p = Filled (linkCell after lasts firsts) 10 p t
@@ -15,35 +13,27 @@ Inv-loop after lasts firsts t₀ p₀ t p = Filled (linkCell after lasts firsts)
 abbrev μ-loop : tie.MeasureT-loop
 μ-loop after lasts firsts t₀ p₀ t p = 10 - p
 
--- src/reading.rt:109:5
 loop-holds : tie.Need-loop-holds Inv-loop μ-loop
 loop-holds c = filled-none _ 10 _ (length-replicate {A = ℕ} 10 0)
 
--- src/reading.rt:110:16
 link-cell-requires : tie.Need-link-cell-requires Inv-loop μ-loop
 link-cell-requires c κs = omega arith
 
--- src/reading.rt:110:9
 mul-t : tie.Need-mul-t Inv-loop μ-loop
 mul-t c = omega arith
 
--- src/reading.rt:110:9
 array-write-t : tie.Need-array-write-t Inv-loop μ-loop
 array-write-t c = omega arith
 
--- src/reading.rt:111:9
 add-p : tie.Need-add-p Inv-loop μ-loop
 add-p c = omega arith
 
--- src/reading.rt:109:5
 loop-less : tie.Need-loop-less Inv-loop μ-loop
 loop-less c = omega arith
 
--- src/reading.rt:109:5
 loop-again : tie.Need-loop-again Inv-loop μ-loop
 loop-again c = filled-next _ _ _ _ _ (c .before .before .loop .inv) (c .before .loop-test .taken) (c .link-cell .ensures)
 
--- src/reading.rt:104:1
 returns : tie.Need-returns Inv-loop μ-loop
 unfolding linked
 returns c = filled-all _ _ _ _ (c .before .loop .inv) (c .loop-test .left)

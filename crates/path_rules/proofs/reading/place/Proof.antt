@@ -1,13 +1,12 @@
+-- `place` meets its contract. Assumes nothing.
 use Rattle.path_rules.proofs.Steps.{place-here, place-on, place-end}
 use Rattle.path_rules.specs.Grammar.{placeOf}
-use lib.ListN.{length, drop, length-replicate}
-use mathlib.Core.Path.{_≡_, refl, sym, ap, _∙_}
+use lib.ListN.{length, drop}
+use mathlib.Core.Path.{_≡_, refl, _∙_}
 use native.Mathlib.Omega.{arith}
-use Prim.Native.Nat.{ℕ, _-_, _+_, _≤_, _<_}
+use Prim.Native.Nat.{_-_, _≤_}
 use Rattle.path_rules.proofs.reading.place.Statement.{statement}
 use Rattle.path_rules.proofs.reading.place.Tie as tie
-use Rattle.path_rules.proofs.reading.place.Reads as reads
-use Rattle.path_rules.proofs.reading.place.Lts as lts
 
 abbrev Inv-loop : tie.InvT-loop
 Inv-loop labels b i₀ i = (i ≤ length labels) × (placeOf i b (drop i labels) ≡ placeOf 0 b labels)
@@ -15,31 +14,24 @@ Inv-loop labels b i₀ i = (i ≤ length labels) × (placeOf i b (drop i labels)
 abbrev μ-loop : tie.MeasureT-loop
 μ-loop labels b i₀ i = length labels - i
 
--- src/reading.rt:271:5
 loop-holds : tie.Need-loop-holds Inv-loop μ-loop
 loop-holds c = (omega arith, refl)
 
--- src/reading.rt:272:17
 shared-slice-read-if1 : tie.Need-shared-slice-read-if1 Inv-loop μ-loop
 shared-slice-read-if1 c = omega arith
 
--- src/reading.rt:273:13
 returns : tie.Need-returns Inv-loop μ-loop
 returns c = place-here _ _ _ (c .before .before .loop-test .taken) (c .if1 .taken) ∙ c .before .before .before .loop .inv .1
 
--- src/reading.rt:275:9
 add-i : tie.Need-add-i Inv-loop μ-loop
 add-i c = omega arith
 
--- src/reading.rt:271:5
 loop-less : tie.Need-loop-less Inv-loop μ-loop
 loop-less c = omega arith
 
--- src/reading.rt:271:5
 loop-again : tie.Need-loop-again Inv-loop μ-loop
 loop-again c = (omega arith, place-on _ _ _ (c .before .before .loop-test .taken) (c .if1 .left) ∙ c .before .before .before .loop .inv .1)
 
--- src/reading.rt:267:1
 returns-2 : tie.Need-returns-2 Inv-loop μ-loop
 returns-2 c = place-end _ _ _ (c .loop-test .left) ∙ c .before .loop .inv .1
 

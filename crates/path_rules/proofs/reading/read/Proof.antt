@@ -1,16 +1,13 @@
+-- `read` meets its contract. Assumes nothing.
 use Rattle.path_rules.proofs.Steps.{read-on, read-end, depth-byte}
 use Rattle.path_rules.specs.Reading.{fresh, readAll}
-use lib.ListN.{length, drop, length-replicate}
-use mathlib.Core.Path.{_≡_, refl, sym, ap, _∙_}
+use lib.ListN.{length, drop}
+use mathlib.Core.Path.{_≡_, _∙_}
 use borrow.Author.Needs.{needs}
 use native.Mathlib.Omega.{arith}
-use Prim.Native.Nat.{ℕ, _-_, _+_, _≤_, _<_}
+use Prim.Native.Nat.{_-_, _≤_}
 use Rattle.path_rules.proofs.reading.read.Statement.{statement}
 use Rattle.path_rules.proofs.reading.read.Tie as tie
-use Rattle.path_rules.proofs.reading.read.Reads as reads
-use Rattle.path_rules.proofs.reading.read.Lts as lts
-use Rattle.path_rules.proofs.reading.nothing.Reads as nothing-reads
-use Rattle.path_rules.proofs.reading.read_byte.Reads as read-byte-reads
 
 abbrev Inv-loop : tie.InvT-loop
 Inv-loop labels text s₀ i₀ s i = (readAll labels s (drop i text) ≡ readAll labels fresh text) × (s .depth ≤ 64) × (i ≤ length text)
@@ -18,36 +15,28 @@ Inv-loop labels text s₀ i₀ s i = (readAll labels s (drop i text) ≡ readAll
 abbrev μ-loop : tie.MeasureT-loop
 μ-loop labels text s₀ i₀ s i = length text - i
 
--- src/reading.rt:325:9
 nothing-requires : tie.Need-nothing-requires Inv-loop μ-loop
 nothing-requires c κs = search needs
 
--- src/reading.rt:327:5
 loop-holds : tie.Need-loop-holds Inv-loop μ-loop
 unfolding fresh
 loop-holds c = (rw (c .nothing .ensures), rw (c .nothing .ensures) (omega arith), omega arith)
 
--- src/reading.rt:328:34
 shared-slice-read-read-byte : tie.Need-shared-slice-read-read-byte Inv-loop μ-loop
 shared-slice-read-read-byte c = omega arith
 
--- src/reading.rt:328:9
 read-byte-requires : tie.Need-read-byte-requires Inv-loop μ-loop
 read-byte-requires c κs = c .before .before .loop .inv .1
 
--- src/reading.rt:329:9
 add-i : tie.Need-add-i Inv-loop μ-loop
 add-i c = omega arith
 
--- src/reading.rt:327:5
 loop-less : tie.Need-loop-less Inv-loop μ-loop
 loop-less c = omega arith
 
--- src/reading.rt:327:5
 loop-again : tie.Need-loop-again Inv-loop μ-loop
 loop-again c = (rw (c .read-byte .ensures) (read-on _ _ _ _ (c .before .before .loop-test .taken) ∙ c .before .before .before .loop .inv .0), rw (c .read-byte .ensures) (depth-byte _ _ _ (c .before .before .before .loop .inv .1)), omega arith)
 
--- src/reading.rt:322:1
 returns : tie.Need-returns Inv-loop μ-loop
 returns c = read-end _ _ _ _ (c .loop-test .left) ∙ c .before .loop .inv .0
 

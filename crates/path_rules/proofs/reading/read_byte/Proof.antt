@@ -1,59 +1,41 @@
+-- `read_byte` meets its contract. Assumes nothing.
 use Rattle.path_rules.proofs.Steps.{byte-open, byte-close, byte-star, byte-bar, byte-letter}
 use Rattle.path_rules.specs.Reading.{lettered}
-use mathlib.Core.Path.{_≡_, refl, sym, ap, _∙_}
+use mathlib.Core.Path.{ap, _∙_}
 use borrow.Author.Needs.{needs}
 use Rattle.path_rules.proofs.reading.read_byte.Statement.{statement}
 use Rattle.path_rules.proofs.reading.read_byte.Tie as tie
-use Rattle.path_rules.proofs.reading.read_byte.Reads as reads
-use Rattle.path_rules.proofs.reading.read_byte.Lts as lts
-use Rattle.path_rules.proofs.reading.bar.Reads as bar-reads
-use Rattle.path_rules.proofs.reading.close.Reads as close-reads
-use Rattle.path_rules.proofs.reading.letter.Reads as letter-reads
-use Rattle.path_rules.proofs.reading.open.Reads as open-reads
-use Rattle.path_rules.proofs.reading.place.Reads as place-reads
-use Rattle.path_rules.proofs.reading.star.Reads as star-reads
 
--- src/reading.rt:285:9
 open-requires : tie.Need-open-requires
 open-requires c κs = search needs
 
--- src/reading.rt:285:9
 returns : tie.Need-returns
 returns c = c .open .ensures ∙ byte-open _ _ _ (c .before .if1 .taken)
 
--- src/reading.rt:288:9
 close-requires : tie.Need-close-requires
 close-requires c κs = search needs
 
--- src/reading.rt:288:9
 returns-2 : tie.Need-returns-2
 returns-2 c = c .close .ensures ∙ byte-close _ _ _ (c .before .before .if1 .left) (c .before .if2 .taken)
 
--- src/reading.rt:291:9
 star-requires : tie.Need-star-requires
 star-requires c κs = search needs
 
--- src/reading.rt:291:9
 returns-3 : tie.Need-returns-3
 returns-3 c = c .star .ensures ∙ byte-star _ _ _ (c .before .before .before .if1 .left) (c .before .before .if2 .left) (c .before .if3 .taken)
 
--- src/reading.rt:294:9
 bar-requires : tie.Need-bar-requires
 bar-requires c κs = search needs
 
--- src/reading.rt:294:9
 returns-4 : tie.Need-returns-4
 returns-4 c = c .bar .ensures ∙ byte-bar _ _ _ (c .before .before .before .before .if1 .left) (c .before .before .before .if2 .left) (c .before .before .if3 .left) (c .before .if4 .taken)
 
--- src/reading.rt:296:15
 place-requires : tie.Need-place-requires
 place-requires c κs = search needs
 
--- src/reading.rt:296:5
 letter-requires : tie.Need-letter-requires
 letter-requires c κs = search needs
 
--- src/reading.rt:280:1
 returns-5 : tie.Need-returns-5
 returns-5 c = c .letter .ensures ∙ ap (lettered _) (c .before .place .ensures) ∙ byte-letter _ _ _ (c .before .before .before .before .before .if1 .left) (c .before .before .before .before .if2 .left) (c .before .before .before .if3 .left) (c .before .before .if4 .left)
 

@@ -1,26 +1,19 @@
+-- `star` meets its contract. Assumes nothing.
 use Rattle.path_rules.proofs.Steps.{starred-so, starred-not}
-use mathlib.Core.Path.{_≡_, refl, sym, ap, _∙_}
+use mathlib.Core.Path.{_∙_}
 use borrow.Author.Needs.{needs}
 use Rattle.path_rules.proofs.reading.star.Statement.{statement}
 use Rattle.path_rules.proofs.reading.star.Tie as tie
-use Rattle.path_rules.proofs.reading.star.Reads as reads
-use Rattle.path_rules.proofs.reading.star.Lts as lts
-use Rattle.path_rules.proofs.reading.repeat.Reads as repeat-reads
-use Rattle.path_rules.proofs.reading.spoil.Reads as spoil-reads
 
--- src/reading.rt:243:9
 repeat-requires : tie.Need-repeat-requires
 repeat-requires c κs = search needs
 
--- src/reading.rt:243:9
 returns : tie.Need-returns
 returns c = c .repeat .ensures ∙ starred-so _ (c .before .if1 .taken)
 
--- src/reading.rt:245:5
 spoil-requires : tie.Need-spoil-requires
 spoil-requires c κs = search needs
 
--- src/reading.rt:239:1
 returns-2 : tie.Need-returns-2
 returns-2 c = c .spoil .ensures ∙ starred-not _ (c .before .if1 .left)
 

@@ -1,16 +1,13 @@
+-- `has_bit` meets its contract. Assumes nothing.
 use Rattle.path_rules.specs.Sets.{has}
 use mathlib.Core.Path.{refl}
 use borrow.Author.Needs.{needs}
 use Rattle.path_rules.proofs.sets.has_bit.Statement.{statement}
 use Rattle.path_rules.proofs.sets.has_bit.Tie as tie
-use Rattle.path_rules.proofs.sets.has_bit.Reads as reads
-use Rattle.path_rules.proofs.sets.has_bit.Lts as lts
 
--- src/sets.rt:12:6
 shr-result : tie.Need-shr-result
 shr-result c = search needs
 
--- src/sets.rt:8:1
 returns : tie.Need-returns
 unfolding has
 returns c = refl

@@ -1,14 +1,11 @@
+-- `only_if` meets its contract. Assumes nothing.
 use Rattle.path_rules.proofs.SetLaws.{only-so, only-not}
 use Rattle.path_rules.proofs.sets.only_if.Statement.{statement}
 use Rattle.path_rules.proofs.sets.only_if.Tie as tie
-use Rattle.path_rules.proofs.sets.only_if.Reads as reads
-use Rattle.path_rules.proofs.sets.only_if.Lts as lts
 
--- src/sets.rt:24:1
 returns : tie.Need-returns
 returns c = only-so _ _ (c .if1 .taken)
 
--- src/sets.rt:24:1
 returns-2 : tie.Need-returns-2
 returns-2 c = only-not _ _ (c .if1 .left)
 

@@ -1,14 +1,13 @@
+-- `is_known` meets its contract. Assumes nothing.
 use Rattle.path_rules.proofs.Steps.{known-here, known-on, known-end}
 use Rattle.scope_graph.specs.Rows.{anyOf}
 use lib.Dec.{eqb}
-use lib.ListN.{length, drop, length-replicate}
-use mathlib.Core.Path.{_≡_, refl, sym, ap, _∙_}
+use lib.ListN.{length, drop}
+use mathlib.Core.Path.{_≡_, refl, _∙_}
 use native.Mathlib.Omega.{arith}
-use Prim.Native.Nat.{ℕ, _-_, _+_, _≤_, _<_}
+use Prim.Native.Nat.{_-_, _≤_}
 use Rattle.path_rules.proofs.vectors.is_known.Statement.{statement}
 use Rattle.path_rules.proofs.vectors.is_known.Tie as tie
-use Rattle.path_rules.proofs.vectors.is_known.Reads as reads
-use Rattle.path_rules.proofs.vectors.is_known.Lts as lts
 
 abbrev Inv-loop : tie.InvT-loop
 Inv-loop cells v i₀ i = (i ≤ length cells) × (anyOf (eqb v) (drop i cells) ≡ anyOf (eqb v) cells)
@@ -16,35 +15,27 @@ Inv-loop cells v i₀ i = (i ≤ length cells) × (anyOf (eqb v) (drop i cells) 
 abbrev μ-loop : tie.MeasureT-loop
 μ-loop cells v i₀ i = length cells - i
 
--- src/vectors.rt:61:5
 loop-holds : tie.Need-loop-holds Inv-loop μ-loop
 loop-holds c = (omega arith, refl)
 
--- src/vectors.rt:62:17
 mul-if1 : tie.Need-mul-if1 Inv-loop μ-loop
 mul-if1 c = omega arith
 
--- src/vectors.rt:62:17
 shared-slice-read-if1 : tie.Need-shared-slice-read-if1 Inv-loop μ-loop
 shared-slice-read-if1 c = omega arith
 
--- src/vectors.rt:63:13
 returns : tie.Need-returns Inv-loop μ-loop
 returns c = known-here _ _ _ (c .before .before .loop-test .taken) (c .if1 .taken) ∙ c .before .before .before .loop .inv .1
 
--- src/vectors.rt:65:9
 add-i : tie.Need-add-i Inv-loop μ-loop
 add-i c = omega arith
 
--- src/vectors.rt:61:5
 loop-less : tie.Need-loop-less Inv-loop μ-loop
 loop-less c = omega arith
 
--- src/vectors.rt:61:5
 loop-again : tie.Need-loop-again Inv-loop μ-loop
 loop-again c = (omega arith, known-on _ _ _ (c .before .before .loop-test .taken) (c .if1 .left) ∙ c .before .before .before .loop .inv .1)
 
--- src/vectors.rt:57:1
 returns-2 : tie.Need-returns-2 Inv-loop μ-loop
 returns-2 c = known-end _ _ _ (c .loop-test .left) ∙ c .before .loop .inv .1
 

@@ -1,39 +1,29 @@
+-- `note_turn` meets its contract. Assumes nothing.
 use Rattle.path_rules.proofs.Steps.{turn-so, turn-not}
 use Rattle.path_rules.specs.Vectors.{noted}
-use mathlib.Core.Path.{_≡_, refl, sym, ap, _∙_}
+use mathlib.Core.Path.{ap, _∙_}
 use borrow.Author.Needs.{needs}
 use Rattle.path_rules.proofs.vectors.note_turn.Statement.{statement}
 use Rattle.path_rules.proofs.vectors.note_turn.Tie as tie
-use Rattle.path_rules.proofs.vectors.note_turn.Reads as reads
-use Rattle.path_rules.proofs.vectors.note_turn.Lts as lts
-use Rattle.path_rules.proofs.vectors.note.Reads as note-reads
-use Rattle.path_rules.proofs.vectors.positions_before.Reads as positions-before-reads
 
--- src/vectors.rt:92:17
 mul-v : tie.Need-mul-v
 mul-v c = search needs
 
--- src/vectors.rt:92:17
 slice-read-v : tie.Need-slice-read-v
 slice-read-v c = search needs
 
--- src/vectors.rt:93:35
 positions-before-requires : tie.Need-positions-before-requires
 positions-before-requires c κs = search needs
 
--- src/vectors.rt:93:9
 note-requires : tie.Need-note-requires
 note-requires c κs = search needs
 
--- src/vectors.rt:93:9
 same-length : tie.Need-same-length
 same-length c = search needs
 
--- src/vectors.rt:93:9
 returns : tie.Need-returns
 returns c = c .before .before .note .ensures ∙ ap (noted _) (c .before .before .before .positions-before .ensures) ∙ turn-so _ _ _ _ (c .before .before .before .before .before .before .if1 .taken)
 
--- src/vectors.rt:86:1
 returns-2 : tie.Need-returns-2
 returns-2 c = turn-not _ _ _ _ (c .if1 .left)
 

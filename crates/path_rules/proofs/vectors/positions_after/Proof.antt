@@ -1,15 +1,13 @@
+-- `positions_after` meets its contract. Assumes nothing.
 use Rattle.path_rules.proofs.Steps.{gather-none, gather-all}
 use Rattle.path_rules.proofs.SetLaws.{gather-next}
 use Rattle.path_rules.specs.Vectors.{onwardCell, onward}
 use Rattle.path_rules.specs.Sets.{gather}
-use mathlib.Core.Path.{_≡_, refl, sym, ap, _∙_}
+use mathlib.Core.Path.{_≡_}
 use native.Mathlib.Omega.{arith}
-use Prim.Native.Nat.{ℕ, _-_, _+_, _≤_, _<_}
+use Prim.Native.Nat.{_-_, _≤_}
 use Rattle.path_rules.proofs.vectors.positions_after.Statement.{statement}
 use Rattle.path_rules.proofs.vectors.positions_after.Tie as tie
-use Rattle.path_rules.proofs.vectors.positions_after.Reads as reads
-use Rattle.path_rules.proofs.vectors.positions_after.Lts as lts
-use Rattle.path_rules.proofs.vectors.onward_cell.Reads as onward-cell-reads
 
 abbrev Inv-loop : tie.InvT-loop
 Inv-loop after labels s l out₀ p₀ out p = (out ≡ gather (onwardCell after labels s l) p) × (p ≤ 10)
@@ -17,27 +15,21 @@ Inv-loop after labels s l out₀ p₀ out p = (out ≡ gather (onwardCell after 
 abbrev μ-loop : tie.MeasureT-loop
 μ-loop after labels s l out₀ p₀ out p = 10 - p
 
--- src/vectors.rt:49:5
 loop-holds : tie.Need-loop-holds Inv-loop μ-loop
 loop-holds c = (gather-none _, omega arith)
 
--- src/vectors.rt:50:21
 onward-cell-requires : tie.Need-onward-cell-requires Inv-loop μ-loop
 onward-cell-requires c κs = omega arith
 
--- src/vectors.rt:51:9
 add-p : tie.Need-add-p Inv-loop μ-loop
 add-p c = omega arith
 
--- src/vectors.rt:49:5
 loop-less : tie.Need-loop-less Inv-loop μ-loop
 loop-less c = omega arith
 
--- src/vectors.rt:49:5
 loop-again : tie.Need-loop-again Inv-loop μ-loop
 loop-again c = (gather-next _ _ _ _ (c .before .before .loop .inv .0) (c .onward-cell .ensures), omega arith)
 
--- src/vectors.rt:44:1
 returns : tie.Need-returns Inv-loop μ-loop
 unfolding onward
 returns c = gather-all _ 10 _ _ (c .before .loop .inv .0) (c .before .loop .inv .1) (c .loop-test .left)
