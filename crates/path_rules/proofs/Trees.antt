@@ -104,9 +104,6 @@ module _ (ls : List ℕ) where
       let m : t .letters < 10 = omega arith in
       rw (h .0, i .0, j .0, j .1, e, lt-ltb l 8 b, lt-ltb (t .letters) 10 m)
 
-  some-same : {a b : Expr} → _≡_ {A = Option Expr} (some a) (some b) → a ≡ b
-  some-same e = cc
-
   pub goes : (g : Binding) (e : Expr) (s : List ℕ) → Reads ls g e s → Goes g e s
   unfolding treeByte size
   goes g e s (label c l k p b) = λ t rest n. tree-step t (withItem t (letter l)) c rest (letter-byte t c l k p b n)

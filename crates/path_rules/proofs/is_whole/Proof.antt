@@ -12,7 +12,7 @@ both-requires-2 c κs = search needs
 
 returns : tie.Need-returns
 unfolding isWhole
-returns c = cc
+returns c = rw (c .both2 .ensures, c .before .both .ensures)
 
 pub is-whole-spec : {M : Type 1} → statement M
 is-whole-spec = tie.close (tie.spec both-requires both-requires-2 returns)

@@ -10,7 +10,7 @@ empty-part-requires : tie.Need-empty-part-requires
 empty-part-requires c κs = search needs
 
 returns : tie.Need-returns
-returns c = cc
+returns c = rw (c .empty-part .ensures, c .before .alt-part .ensures)
 
 pub choose-spec : {M : Type 1} → statement M
 choose-spec = tie.close (tie.spec alt-part-requires empty-part-requires returns)

@@ -18,7 +18,7 @@ only-if-requires c κs = search needs
 
 returns : tie.Need-returns
 unfolding linkCell
-returns c = cc
+returns c = rw (c .only-if .ensures, c .before .has-bit .ensures)
 
 pub link-cell-spec : {M : Type 1} → statement M
 link-cell-spec =
