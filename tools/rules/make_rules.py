@@ -138,7 +138,16 @@ def rules(labels, text):
     if len(line) > 16: return 13
     return {(q, l): r for q, l, r in rows}, [nullable(todo[of[b]]) for b in line]
 
+def remembering(r, labels):
+    """What came some letters ago decides: such an expression needs many states."""
+    a, b = labels[0], labels[1]
+    both = '(%s|%s)' % (a, b)
+    t = both + '*'
+    while sum(c.isalpha() for c in t) < 9: t += r.choice([a, both, both, b + '*'])
+    return t
+
 def random_text(r, labels):
+    if len(labels) > 1 and r.random() < 0.1: return remembering(r, labels)
     def choice(d): return '|'.join(sequence(d) for _ in range(r.choice([1, 1, 1, 2, 2, 3])))
     def sequence(d): return ''.join(item(d) for _ in range(r.choice([1, 1, 2, 2, 3, 4])))
     def item(d):
