@@ -160,7 +160,7 @@ uint64_t tewhoranu_compare(const uint8_t *text, size_t text_length, const uint8_
                            size_t first_steps_length, tewhoranu_step *second_steps, size_t second_steps_length);
 
 /* Writes the summary of the file: how many queries it has, how many are found one, several and none, and the share of
- * those found one.
+ * those found one, in whole per cent to the nearest, an exact half to the even one.
  * Answers 64 and the number of bytes, at most TEWHORANU_SUMMARY; bytes behind them stay as they were.
  * Refuses by 1 to 6 as tewhoranu_read does, then 9. */
 uint64_t tewhoranu_summary(const uint8_t *text, size_t text_length, uint8_t *out, size_t out_length);

@@ -1,6 +1,7 @@
 // The summary: how many queries are found one, several and none, and the share of those found one.
 use crate::parts::row_count;
 use crate::parts::row_value;
+use crate::share::share_of;
 use crate::tables::hint_table;
 use crate::tables::tables_of;
 use crate::walks::found_of;
@@ -15,10 +16,10 @@ ghost use mathlib.Core.Path.{_≡_};
 ghost use Prim.Native.Nat.{_+_, _<_};
 ghost use lib.ListN.{length};
 ghost use Rattle.text_field.specs.Buffer.{Buf, puts};
-ghost use Rattle.follow.specs.Text.{shareText, summaryText};
 ghost use Rattle.text_field.specs.Outcome.{done};
 ghost use Rattle.text_field.specs.Answer.{answer, leaves, answerOf};
 ghost use Rattle.graph_file.specs.Decode.{queriesOf};
+ghost use Rattle.resolution.specs.Summary.{shareText, summaryText};
 ghost use Rattle.resolution.specs.Listing.{summaryOf, summaryFor};
 ghost use Rattle.graph_file.specs.Decode.{WasRead};
 ghost use Rattle.resolution.specs.Figures.{figuresAfter, noFigures, figuresOver, fieldText, countsText};
@@ -112,7 +113,7 @@ fn put_share(out: &mut [u8], k: usize, n: u64, one: u64) -> usize
     if n == 0 {
         return put_byte(out, k, 45);
     }
-    put_number(out, k, one * 100 / n)
+    put_number(out, k, share_of(one, n))
 }
 
 // The summary's text.

@@ -85,6 +85,17 @@ pub fn count(rules: &Rules, query: Query) -> u8 {
 /// How many queries found none, one and several.
 pub type Figures = [u64; 3];
 
+/// Whole per cent to the nearest, an exact half to the even one: half up, and one back from an odd number at the half.
+fn share(one: u64, queries: u64) -> u64 {
+    let up = (200 * one + queries) / (2 * queries);
+    let half = (200 * one + queries) % (2 * queries) == 0;
+    if half && up % 2 == 1 {
+        up - 1
+    } else {
+        up
+    }
+}
+
 pub fn push_summary(figures: &Figures, out: &mut Vec<u8>) {
     let [none, one, several] = *figures;
     let queries = none + one + several;
@@ -96,7 +107,7 @@ pub fn push_summary(figures: &Figures, out: &mut Vec<u8>) {
     if queries == 0 {
         out.push(b'-');
     } else {
-        push_number(out, one * 100 / queries);
+        push_number(out, share(one, queries));
     }
     out.push(b'\n');
 }

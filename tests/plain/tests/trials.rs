@@ -112,6 +112,30 @@ fn unmarked() {
 }
 
 #[test]
+fn shares() {
+    let summed = |one: u64, queries: u64| {
+        let mut out = Vec::new();
+        answers::push_summary(&[queries - one, one, 0], &mut out);
+        String::from_utf8(out).unwrap()
+    };
+    let due = [
+        (1, 8, 12),
+        (3, 8, 38),
+        (5, 8, 62),
+        (7, 8, 88),
+        (1, 3, 33),
+        (2, 3, 67),
+        (0, 3, 0),
+        (1, 200, 0),
+        (3, 200, 2),
+        (256, 256, 100),
+    ];
+    for (one, queries, share) in due {
+        assert!(summed(one, queries).ends_with(&format!(" {share}\n")));
+    }
+}
+
+#[test]
 fn rows() {
     let good = ["0 0", "65535 63", "10 3P1", "1 0A0A0"];
     let bad = [

@@ -1,5 +1,7 @@
 """What a query sees, from document 01 ("Paths", "The listing"): all simple paths of a query are enumerated, kept where they are lawful and end at the
 name, and compared with each other, two by two; `awaits` is decided by completions that are built."""
+from fractions import Fraction
+
 from reference.gym_file import ACCEPT, DECLARED, EDGE, OPEN, ORDER, QUERY, SCOPES, STEP, Refused, read
 from reference.path_row import more_specific
 
@@ -97,7 +99,8 @@ class Gym:
     def summary(self):
         words = [found(self.entries(start, name)) for start, name in self.queries]
         one, several, none = (words.count(w) for w in (b"one", b"several", b"none"))
-        share = b"%d" % (one * 100 // len(words)) if words else b"-"
+        # 02, K1: `round` takes a fraction's half to the even number
+        share = b"%d" % round(Fraction(one * 100, len(words))) if words else b"-"
         return b"queries one several none share\n%d %d %d %d %s\n" % (len(words), one, several, none, share)
 
 
