@@ -1,4 +1,5 @@
--- Sets that meet the same vectors accept the same words, and stay alike along every label. Assumes nothing.
+-- Sets that meet the same vectors accept the same words, and stay alike along every label. Assumes
+-- nothing.
 use Prim.Native.Nat.{ℕ, zero, suc, _<_, _≤_}
 use mathlib.Core.Path.{_≡_, refl, sym, ap, _∙_}
 use mathlib.Core.Bool.{Bool, true, false, not, false≢true}

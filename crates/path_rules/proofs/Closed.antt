@@ -1,4 +1,5 @@
--- The sets that are found are those of all words: the list holds each once, and whatever a label leads into one of them. Assumes nothing.
+-- The sets that are found are those of all words: the list holds each once, and whatever a label
+-- leads into one of them. Assumes nothing.
 use Prim.Native.Nat.{ℕ, zero, suc, _+_, _*_, _/_, _%_, _<_, _≤_}
 use mathlib.Core.Path.{_≡_, sym, ap, _∙_, subst}
 use mathlib.Core.Bool.{true, false}

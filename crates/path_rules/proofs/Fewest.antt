@@ -1,4 +1,5 @@
--- No table that decides a language has fewer states than there are words that the language tells apart and that go on to words of it. Assumes nothing.
+-- No table that decides a language has fewer states than there are words that the language tells
+-- apart and that go on to words of it. Assumes nothing.
 use Prim.Native.Nat.{ℕ, zero, suc, _<_, _≤_}
 use mathlib.Core.Path.{_≡_, refl, sym, ap, _∙_}
 use mathlib.Core.Bool.{Bool}

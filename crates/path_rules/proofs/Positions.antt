@@ -1,5 +1,6 @@
--- The label letters of an expression as positions, numbered from n on in the text's sequence: which may come first, last, after one another; and what it means that a word
--- leads along them to its end. Assumes nothing: these are definitions.
+-- The label letters of an expression as positions, numbered from n on in the text's sequence: which
+-- may come first, last, after one another; and what it means that a word leads along them to its
+-- end. Assumes nothing: these are definitions.
 use Prim.Native.Nat.{ℕ, _+_, _<_, _≤_}
 use mathlib.Core.Path.{_≡_}
 use mathlib.Core.Bool.{Bool, true, false, _&&_, _||_}
@@ -39,7 +40,8 @@ Labelled f (seq a b) n = Labelled f a n × Labelled f b (n + size a)
 Labelled f (alt a b) n = Labelled f a n × Labelled f b (n + size a)
 Labelled f (star a) n = Labelled f a n
 
--- with each position's label, the positions after it, and a number past all positions that stands for the word's end
+-- with each position's label, the positions after it, and a number past all positions that stands
+-- for the word's end
 module _ (label : ℕ → ℕ) (after : ℕ → ℕ → Bool) (end : ℕ) where
   -- from one of the positions of a set the word leads to its end
   abbrev pub Leads : (ℕ → Bool) → List ℕ → Type 0

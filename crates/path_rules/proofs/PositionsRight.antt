@@ -1,4 +1,5 @@
--- The positions of an expression lead exactly the words of its language to their end. Assumes nothing.
+-- The positions of an expression lead exactly the words of its language to their end. Assumes
+-- nothing.
 use Prim.Native.Nat.{ℕ, zero, suc, _+_, _<_, _≤_}
 use mathlib.Core.Path.{_≡_, refl, sym, ap, _∙_, subst}
 use mathlib.Core.Bool.{Bool, true, false, _&&_, _||_, false≢true}

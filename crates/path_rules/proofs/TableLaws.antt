@@ -1,4 +1,5 @@
--- The table of a whole expression decides its language, with the fewest states, numbered as they are met. Assumes nothing.
+-- The table of a whole expression decides its language, with the fewest states, numbered as they
+-- are met. Assumes nothing.
 use Prim.Native.Nat.{ℕ, suc, _+_, _*_, _/_, _%_, _<_, _≤_, min}
 use mathlib.Core.Path.{_≡_, refl, sym, ap, _∙_, subst}
 use mathlib.Core.Bool.{Bool, true, false, _&&_, _||_}
@@ -215,7 +216,8 @@ module _ (e : Expr) (s : Reading) (n : ℕ) (t : Tracks (tree (some e) none none
       abbrev pub made : Rules
       made = record { refusal = 0; states = walk .states; next = walk .next; accepts = tabulate (acceptCell (walk .sets)) 16 }
 
-      -- by a listed label a state leads to the state of the set behind it, or to none if that is dead
+      -- by a listed label a state leads to the state of the set behind it, or to none if that is
+      -- dead
       next-cases : (q l : ℕ) → q < walk .states → l < 8
           → ((nextIn made q l ≡ none) × (sameOn vs (onward posts marks (setAt walk q) l) 0 ≡ true))
           ⊎ ((r : ℕ) × (nextIn made q l ≡ some r) × (r < walk .states) × (sameOn vs (setAt walk r) (onward posts marks (setAt walk q) l) ≡ true))

@@ -1,4 +1,5 @@
--- The reader with sets of positions goes along with the reader with trees: what each holds at the same moment. Assumes nothing.
+-- The reader with sets of positions goes along with the reader with trees: what each holds at the
+-- same moment. Assumes nothing.
 use Prim.Native.Nat.{ℕ, _+_, _-_, _^_, _<_, _≤_}
 use mathlib.Core.Path.{_≡_, refl, sym, ap, _∙_, subst}
 use mathlib.Core.Bool.{Bool, true, false, _&&_, _||_}

@@ -1,4 +1,5 @@
--- What the reader with trees takes is a text of the grammar: at each moment what it holds is read from the bytes so far. Assumes nothing.
+-- What the reader with trees takes is a text of the grammar: at each moment what it holds is read
+-- from the bytes so far. Assumes nothing.
 use Prim.Native.Nat.{ℕ}
 use mathlib.Core.Path.{_≡_, refl, sym, ap, _∙_, subst}
 use mathlib.Core.Bool.{Bool, true, false, _&&_}
@@ -13,7 +14,8 @@ use Rattle.path_rules.specs.Grammar.{item, items, sides, isSign, Reads, 
 use Rattle.path_rules.proofs.Trees.{seqO, altO, Frame, Tree, tree, openTree, closeTree, starTree, barTree, letterTree, treeKind, treeByte, treeAll}
 
 module _ (ls : List ℕ) where
-  -- the text of a choice with its bar behind it, of a sequence, of an item, where each may be missing
+  -- the text of a choice with its bar behind it, of a sequence, of an item, where each may be
+  -- missing
   abbrev pub Choice : Option Expr → List ℕ → Type 0
   Choice none p = p ≡ []
   Choice (some a) p = (s : List ℕ) × Reads ls sides a s × (p ≡ s ++ 124 ∷ [])

@@ -1,4 +1,5 @@
--- The reader of expressions, with trees in place of sets of positions: what it takes is exactly what the grammar has, and each text has one tree. Assumes nothing.
+-- The reader of expressions, with trees in place of sets of positions: what it takes is exactly
+-- what the grammar has, and each text has one tree. Assumes nothing.
 use Prim.Native.Nat.{ℕ, _+_, _<_, _≤_}
 use mathlib.Core.Path.{_≡_, refl, sym, ap, _∙_}
 use mathlib.Core.Bool.{Bool, true, false, _&&_, _||_, false≢true}

@@ -1,4 +1,5 @@
--- What the sets found backwards from the end say: from which positions a word leads to its end. Assumes nothing.
+-- What the sets found backwards from the end say: from which positions a word leads to its end.
+-- Assumes nothing.
 use Prim.Native.Nat.{ℕ, zero, suc, _^_, _<_}
 use mathlib.Core.Path.{_≡_, refl, sym, _∙_}
 use mathlib.Core.Bool.{Bool, true, false, _&&_}

@@ -1,4 +1,5 @@
--- What holds of the walk at each cell: its states are reached, live and told apart, and its cells lead where the sets say. Assumes nothing.
+-- What holds of the walk at each cell: its states are reached, live and told apart, and its cells
+-- lead where the sets say. Assumes nothing.
 use Prim.Native.Nat.{ℕ, zero, suc, _+_, _*_, _/_, _%_, _<_, _≤_, min}
 use mathlib.Core.Path.{_≡_, refl, sym, ap, _∙_}
 use mathlib.Core.Bool.{true, false, false≢true}

@@ -1,4 +1,5 @@
--- Expressions over label numbers and the words of their language (02, K6), without any table. Assumes nothing: these are definitions.
+-- Expressions over label numbers and the words of their language (02, K6), without any table.
+-- Assumes nothing: these are definitions.
 use Prim.Native.Nat.{ℕ, _+_}
 use mathlib.Core.Path.{_≡_}
 use mathlib.Core.Logic.{_⊎_}

@@ -1,4 +1,5 @@
--- Which texts are expressions (02, K6), without any reader. Bytes: 40 and 41 are the round brackets, 42 the star, 124 the bar. Assumes nothing: these are definitions.
+-- Which texts are expressions (02, K6), without any reader. Bytes: 40 and 41 are the round
+-- brackets, 42 the star, 124 the bar. Assumes nothing: these are definitions.
 use Prim.Native.Nat.{ℕ, suc, _≤_, _<_}
 use mathlib.Core.Path.{_≡_}
 use mathlib.Core.Bool.{Bool, true, false, _||_}
@@ -20,8 +21,9 @@ unfoldable pub placeOf : ℕ → ℕ → List ℕ → ℕ
 placeOf i b [] = 8
 placeOf i b (l ∷ ls) = elim (eqb b l) [ true ↦ i | false ↦ placeOf (suc i) b ls ]
 
--- The text is an expression, over labels whose numbers are their places: a star binds closest and may follow a star, a bar loosest; every bracket pair and
--- each side of a bar holds something, since no text here is empty.
+-- The text is an expression, over labels whose numbers are their places: a star binds closest and
+-- may follow a star, a bar loosest; every bracket pair and each side of a bar holds something,
+-- since no text here is empty.
 pub data Reads (labels : List ℕ) : Binding → Expr → List ℕ → Type 0 where
   label : (c l : ℕ) → isSign c ≡ false → placeOf 0 c labels ≡ l → l < 8 → Reads labels item (letter l) (c ∷ [])
   starred : (e : Expr) (s t : List ℕ) → Reads labels item e s → t ≡ s ++ 42 ∷ [] → Reads labels item (star e) t

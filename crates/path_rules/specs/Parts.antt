@@ -1,5 +1,7 @@
--- What is kept of a part of an expression while it is read: may it be the empty word, which positions may come first and last. Positions are
--- the part's label letters in the text's sequence. Which position may follow which stands in one table for all parts. Assumes nothing: these are definitions.
+-- What is kept of a part of an expression while it is read: may it be the empty word, which
+-- positions may come first and last. Positions are the part's label letters in the text's sequence.
+-- Which position may follow which stands in one table for all parts. Assumes nothing: these are
+-- definitions.
 use Prim.Native.Nat.{ℕ, zero, suc}
 use mathlib.Core.Bool.{true, false, _&&_, _||_}
 use mathlib.Core.List.{List, [], _∷_, _++_}
@@ -8,7 +10,8 @@ use lib.ListN.{getD}
 use Rattle.path_rules.specs.Sets.{has, onlyIf}
 use Rattle.path_rules.specs.declared.reading.Part.{Part}
 
--- the part that is the empty word only, and the part that is no word: nothing stands before the first item of a sequence, or of a choice
+-- the part that is the empty word only, and the part that is no word: nothing stands before the
+-- first item of a sequence, or of a choice
 abbrev pub emptyPart : Part
 emptyPart = record { nullable = true; first = 0; last = 0 }
 

@@ -1,4 +1,5 @@
--- What is proved of the rows that an expression becomes (02, K6): each field is a statement, and proofs/Promises.antt has the value. Assumes nothing: these are statements.
+-- What is proved of the rows that an expression becomes (02, K6): each field is a statement, and
+-- proofs/Promises.antt has the value. Assumes nothing: these are statements.
 use Prim.Native.Nat.{ℕ, _*_, _≤_}
 use mathlib.Core.Path.{_≡_}
 use mathlib.Core.Bool.{Bool}
@@ -20,7 +21,8 @@ pub record RowPromises (labels text : List ℕ) (e : Expr) : Type 0 where
   -- 13 exactly if every table of the language needs more than 16 states; else nothing refuses
   pub too-many : (rulesOf labels text .refusal ≡ 13) ↔ AtLeast (length labels) (In e) 17
   pub refused : ¬ (rulesOf labels text .refusal ≡ 13) → rulesOf labels text .refusal ≡ 0
-  -- the table leads to acceptance on precisely the words of the language, no table that does has fewer states, and there are at most 16
+  -- the table leads to acceptance on precisely the words of the language, no table that does has
+  -- fewer states, and there are at most 16
   pub decides : rulesOf labels text .refusal ≡ 0
       → Decides (length labels) (In e) (rulesOf labels text .states) (nextIn (rulesOf labels text)) (acceptsIn (rulesOf labels text))
   pub fewest : rulesOf labels text .refusal ≡ 0 → AtLeast (length labels) (In e) (rulesOf labels text .states)

@@ -1,4 +1,5 @@
--- An expression read byte by byte (02, K6): what is known after the bytes so far. Assumes nothing: these are definitions.
+-- An expression read byte by byte (02, K6): what is known after the bytes so far. Assumes nothing:
+-- these are definitions.
 use Prim.Native.Nat.{ℕ, _+_, _-_, _^_}
 use mathlib.Core.Bool.{Bool, true, false, _&&_}
 use mathlib.Core.List.{List, [], _∷_}

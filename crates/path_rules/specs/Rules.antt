@@ -1,4 +1,5 @@
--- The rows that an expression becomes, or its refusal (02, K6). Assumes nothing: these are definitions.
+-- The rows that an expression becomes, or its refusal (02, K6). Assumes nothing: these are
+-- definitions.
 use Prim.Native.Nat.{ℕ, _+_, _*_}
 use mathlib.Core.Bool.{Bool, true, false, _&&_}
 use mathlib.Core.List.{List}

@@ -1,4 +1,5 @@
--- Sets of small numbers as the bits of a number: positions of an expression's letters, and the word's end. Assumes nothing: these are definitions.
+-- Sets of small numbers as the bits of a number: positions of an expression's letters, and the
+-- word's end. Assumes nothing: these are definitions.
 use Prim.Native.Nat.{ℕ, zero, suc, _/_, _%_, _^_}
 use mathlib.Core.Bool.{Bool, true, false, not}
 use lib.Dec.{eqb}

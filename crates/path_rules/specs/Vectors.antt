@@ -1,5 +1,6 @@
--- For each word the positions from which it leads to the end, gathered backwards from the end (02, K6). `after` has the set of positions behind each of
--- ten positions, `labels` their labels; the word's end is number 10. Assumes nothing: these are definitions.
+-- For each word the positions from which it leads to the end, gathered backwards from the end (02,
+-- K6). `after` has the set of positions behind each of ten positions, `labels` their labels; the
+-- word's end is number 10. Assumes nothing: these are definitions.
 use Prim.Native.Nat.{ℕ, zero, suc, _+_, _/_, _%_, _^_}
 use mathlib.Core.Bool.{Bool, true, false, not, _&&_}
 use mathlib.Core.List.{List, [], _∷_}

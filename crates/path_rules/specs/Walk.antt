@@ -1,4 +1,5 @@
--- The states of the smallest table, met breadth-first by label number (02, K6). Assumes nothing: these are definitions.
+-- The states of the smallest table, met breadth-first by label number (02, K6). Assumes nothing:
+-- these are definitions.
 use Prim.Native.Nat.{ℕ, zero, suc, _+_, _/_, _%_}
 use mathlib.Core.Bool.{true, false}
 use mathlib.Core.List.{List}
@@ -26,7 +27,8 @@ unfoldable pub arrived : Walk → ℕ → ℕ → ℕ → Walk
 arrived w k t j =
     elim (ltb j (w .states)) [ true ↦ toState w k j | false ↦ elim (ltb (w .states) 16) [ true ↦ toNew w k t | false ↦ tooMany w ] ]
 
--- the set t is reached at cell k; a set that meets none of `vs`, the sets of positions from which words lead to the end, is dead and no state
+-- the set t is reached at cell k; a set that meets none of `vs`, the sets of positions from which
+-- words lead to the end, is dead and no state
 unfoldable pub reached : List ℕ → Walk → ℕ → ℕ → Walk
 reached vs w k t = elim (sameOn vs t 0) [ true ↦ w | false ↦ arrived w k t (placeSame vs (take (w .states) (w .sets)) t) ]
 

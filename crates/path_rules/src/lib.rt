@@ -1,4 +1,5 @@
-// Path rules as an expression (02, K6): an expression's text and the file's labels make a transition table and its accepting states.
+// Path rules as an expression (02, K6): an expression's text and the file's labels make a
+// transition table and its accepting states.
 pub mod reading;
 pub mod sets;
 pub mod vectors;
@@ -20,8 +21,9 @@ ghost use Prim.Native.Nat.{_<_, _≤_};
 ghost use Rattle.path_rules.specs.Parts.{tabulate};
 ghost use Rattle.path_rules.specs.Rules.{isWhole, afterEnd, startSet, refusedBy, acceptCell, tableOf, walkOf, wholeRules, rulesOf};
 
-// The rows that an expression becomes: how many states there are, where each leads by each label, at state * 8 + label, 16 for nowhere, and 1 for each state that accepts;
-// or what the expression is refused by, 12 or 13, else 0.
+// The rows that an expression becomes: how many states there are, where each leads by each label,
+// at state * 8 + label, 16 for nowhere, and 1 for each state that accepts; or what the expression
+// is refused by, 12 or 13, else 0.
 pub struct Rules {
     pub refusal: u64,
     pub states: usize,
@@ -119,7 +121,8 @@ fn whole_rules(s: Reading) -> Rules
     table(walk_of(after_end(s), labels, start_set(e)))
 }
 
-// 02, K6: the rows of an expression over the labels, whose numbers are their places; 12 or 13 refuses.
+// 02, K6: the rows of an expression over the labels, whose numbers are their places; 12 or 13
+// refuses.
 pub fn path_rules(labels: &[u8], text: &[u8]) -> Rules
     ensures answer { λ r. ⌜ r ≡ rulesOf (now (labels .entry)) (now (text .entry)) ⌝ }
 {

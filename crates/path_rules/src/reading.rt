@@ -1,5 +1,6 @@
-// An expression read byte by byte (02, K6), with no tree in memory: of each part that is read only which positions may come first and last, and whether it may be empty,
-// and of all positions which may follow which.
+// An expression read byte by byte (02, K6), with no tree in memory: of each part that is read only
+// which positions may come first and last, and whether it may be empty, and of all positions which
+// may follow which.
 use crate::sets::bit;
 use crate::sets::both;
 use crate::sets::either;
@@ -19,7 +20,8 @@ pub struct Part {
     pub last: u64,
 }
 
-// What is known after the bytes so far: the choice, the sequence and the item being read, whether there is an item, and those of the brackets around; where a position may go on to, and its label.
+// What is known after the bytes so far: the choice, the sequence and the item being read, whether
+// there is an item, and those of the brackets around; where a position may go on to, and its label.
 pub struct Reading {
     pub good: bool,
     pub filled: bool,

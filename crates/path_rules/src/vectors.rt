@@ -1,4 +1,5 @@
-// For each word the set of positions from which it leads to the end: all such sets, found backwards from the end.
+// For each word the set of positions from which it leads to the end: all such sets, found backwards
+// from the end.
 use crate::sets::bit;
 use crate::sets::both;
 use crate::sets::has_bit;

@@ -7,7 +7,8 @@ ghost use Prim.Native.Nat.{_<_, _≤_};
 ghost use lib.ListN.{length};
 ghost use Rattle.path_rules.specs.Walk.{startWalk, toState, toNew, tooMany, arrived, reached, walkTurn, walkTo};
 
-// States met so far, each with its set of positions, and where each leads by each label, at state * 8 + label, 16 for nowhere; and whether a seventeenth was met.
+// States met so far, each with its set of positions, and where each leads by each label, at state *
+// 8 + label, 16 for nowhere; and whether a seventeenth was met.
 pub struct Walk {
     pub over: bool,
     pub states: usize,

@@ -17,7 +17,7 @@ use Rattle.scope_graph.proofs.Lists.{Two, and-right}
 use Rattle.text_field.specs.Bytes.{within, isCapital}
 use Rattle.graph_file.specs.Format.{labelSection, form}
 use Rattle.graph_file.specs.Admission.{Row, value, blank, Sofar, begun, nothing, taken}
-use Rattle.graph_file.specs.Decode.{rowsIn, lettersOf, rulesOf, graphOf, scopesOf}
+use Rattle.graph_file.specs.Decode.{rowsIn, lettersOf, rulesOf, graphOf, scopesOf, WasRead}
 use Rattle.graph_file.specs.Accepted.{EndListed, AcceptedTable}
 use Rattle.graph_file.proofs.DecodeAccepted.{read-accepted}
 use Rattle.graph_file.proofs.DecodeWay.{AdmittedRows, cellsOf, tableCells, takenAll, AdmittedSections, AdmittedTable, read-admitted}
@@ -28,7 +28,7 @@ use Rattle.prepared.specs.Promises.{Sound}
 use Rattle.prepared.proofs.SectionLaws.{rows-in-part}
 use Rattle.prepared.proofs.Board.{board-is, order-is, open-is}
 use Rattle.prepared.proofs.Fill.{tabulate-at, tabulate-length}
-use Rattle.resolution.specs.Asked.{WasRead, letterTable}
+use Rattle.resolution.specs.Asked.{letterTable}
 use Rattle.resolution.proofs.Walked.{TablesAre}
 use Rattle.resolution.proofs.Capitals.{capitals}
 use Rattle.resolution.proofs.Demand.{getD-in}

@@ -1,9 +1,11 @@
-// Reads expressions from standard input and prints for each the rows that it becomes, or what refuses it. tools/rules writes the cases and, by another method, the output that is due.
+// Reads expressions from standard input and prints for each the rows that it becomes, or what
+// refuses it. tests/rules writes the cases and, by another method, the output that is due.
 use path_rules::Rules;
 use path_rules::path_rules;
 ghost use Prim.Native.Nat.{_≤_};
 
-// A case is 79 bytes: the number of labels (a digit), of bytes of the expression (two digits), eight bytes for labels, 67 for the expression, LF.
+// A case is 79 bytes: the number of labels (a digit), of bytes of the expression (two digits),
+// eight bytes for labels, 67 for the expression, LF.
 const CASE: usize = 79;
 
 fn digit(x: u8) -> usize
@@ -112,7 +114,8 @@ fn next_case(line: &mut [u8]) -> bool {
     true
 }
 
-// Nothing says that the input ends, so the loop counts its turns down from a number that no run uses up.
+// Nothing says that the input ends, so the loop counts its turns down from a number that no run
+// uses up.
 fn cases(line: &mut [u8]) {
     let mut turns = u64::MAX;
     while turns > 0 && next_case(line) {
