@@ -56,7 +56,7 @@ fn too_many(mut w: Walk) -> Walk
     w
 }
 
-// The set t is reached at cell k, and j is the place of a state like it.
+// The set t is reached at cell k; j is the place of a state like it, or the number of states.
 fn arrive(w: Walk, k: usize, t: u64, j: usize) -> Walk
     requires cell { ⌜ k < 128 ⌝ }
     ensures answer { λ r. ⌜ r ≡ arrived w k t j ⌝ }
