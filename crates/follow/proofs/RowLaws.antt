@@ -10,7 +10,7 @@ use lib.ListN.{length, getD, set, drop, length-drop}
 use lib.Seq.{drop-cons, getD-set-same, getD-set-other}
 use borrow.Author.Tests.{eq-eqb, ne-eqb}
 use Rattle.scope_graph.specs.Path.{HopOf}
-use Rattle.search.specs.Steps.{hopTo}
+use Rattle.edge_rows.specs.Rows.{hopTo}
 use Rattle.text_field.specs.Number.{numberText}
 use Rattle.follow.specs.Text.{letterOf, hopsText, rowText}
 use Rattle.follow.specs.Walk.{declaredHere, matches, marksIn, entryBytes, entriesBytes}
