@@ -1,5 +1,6 @@
 /* Lists every query of a gym file, given as the one argument or on standard input, and then the summary: what the program
- * `resolve` prints. For a refused file it prints the line `refused N` alone. */
+ * `resolve` prints. For a refused file it prints the line `refused N` alone. What was refused is said in words on standard
+ * error. */
 #include "tewhoranu.h"
 
 #include <stdio.h>
@@ -10,10 +11,12 @@ static uint8_t out[TEWHORANU_LISTING];
 
 static void print_answer(uint64_t answer)
 {
-    if (tewhoranu_refused(answer))
+    if (tewhoranu_refused(answer)) {
         printf("refused %d\n", (int)answer);
-    else
+        fprintf(stderr, "refused %d: %s\n", (int)answer, tewhoranu_refusal_text(answer));
+    } else {
         fwrite(out, 1, tewhoranu_written(answer), stdout);
+    }
 }
 
 int main(int argc, char **argv)

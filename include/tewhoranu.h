@@ -2,11 +2,15 @@
  *
  * Every function is total: any bytes, any query number, memory of any length. Each answers one number:
  *
- *   1 to 9        a refusal (TEWHORANU_TOO_LONG and so on); nothing that was lent has changed
- *   16 and more   the call was carried out; what is above 16 is its result: how many cells or bytes were
- *                 written, or which case holds (TEWHORANU_FIRST and so on)
+ *   1 to 63       a refusal (TEWHORANU_TOO_LONG and so on); nothing that was lent has changed
+ *   64 and more   the call was carried out; an output is 64 + how many cells or bytes were written, a comparison or a
+ *                 judgement is 64 * (1 + case) + n, the case being TEWHORANU_FIRST and so on, n from 0 to 63; n is 0
+ *                 for now, and has room for a number of equal steps
  *
- * Only tewhoranu_name_sought differs: it answers a length, and 0 for any refusal.
+ * tewhoranu_refused, tewhoranu_written, tewhoranu_case and tewhoranu_equal_steps take an answer apart, and
+ * tewhoranu_refusal_text says in words what was refused.
+ *
+ * Only tewhoranu_name_sought differs: it answers a length, and 0 for any refusal. None of the five is for its answer.
  *
  * What a caller owes, for every call:
  *   - A pointer is followed by its length: bytes for text, cells for a graph table, records for a step table.
@@ -18,7 +22,7 @@
  * No call keeps a pointer, allocates, or has state: calls on different memory may run at the same time.
  *
  * The contracts are proved: see crates/host/src and docs/PROMISES.md. Nothing checks these declarations against them
- * but the test beside this file.
+ * but the host test, tests/host.
  */
 #ifndef TEWHORANU_H
 #define TEWHORANU_H
@@ -34,33 +38,34 @@ extern "C" {
  * 8, the host 7 and 9. */
 #define TEWHORANU_TOO_LONG 1      /* the file is longer than 32,768 bytes */
 #define TEWHORANU_MALFORMED 2     /* a line, or a row of a graph table, not of its section's form; a missing section */
-#define TEWHORANU_OUT_OF_RANGE 3  /* a scope, state, mark, count or label outside its range or list */
-#define TEWHORANU_NOT_ASCENDING 4 /* a row that repeats or does not ascend */
-#define TEWHORANU_TOO_MANY_ROWS 5 /* a row past its section's limit */
-#define TEWHORANU_NO_ORDER 6      /* an order pair with equal ends, or pairs a, b and b, c without a, c */
-#define TEWHORANU_NO_QUERY 7      /* a query number at or past the number of queries */
+#define TEWHORANU_OUT_OF_RANGE 3  /* a value that the file has no room for, or a label that it does not list */
+#define TEWHORANU_NOT_ASCENDING 4 /* a row out of its sequence, or there twice */
+#define TEWHORANU_TOO_MANY_ROWS 5 /* a section has more rows than it may */
+#define TEWHORANU_NO_ORDER 6      /* the order prefers an end to itself, or lacks a pair that follows from two others */
+#define TEWHORANU_NO_QUERY 7      /* the file has no query of this number */
 #define TEWHORANU_NO_PATH_ROW 8   /* a path row not of its form */
 #define TEWHORANU_NO_ROOM 9       /* an output longer than the memory lent for it, or more steps than records */
 
-/* An answer of this and more is no refusal. */
-#define TEWHORANU_DONE 16
+/* An answer of this and more is no refusal. Cases are as far apart. */
+#define TEWHORANU_DONE 64
 
-/* tewhoranu_compare */
-#define TEWHORANU_FIRST 16   /* the first row is more specific */
-#define TEWHORANU_SECOND 17  /* the second row is more specific */
-#define TEWHORANU_NEITHER 18 /* neither is */
+/* The cases of tewhoranu_compare */
+#define TEWHORANU_FIRST 0   /* the first row is more specific */
+#define TEWHORANU_SECOND 1  /* the second row is more specific */
+#define TEWHORANU_NEITHER 2 /* neither is */
 
-/* tewhoranu_judge */
-#define TEWHORANU_VISIBLE 16   /* an entry of the query */
-#define TEWHORANU_SHADOWED 17  /* reached, and another reached path is more specific */
-#define TEWHORANU_UNREACHED 18 /* neither */
+/* The cases of tewhoranu_judge */
+#define TEWHORANU_VISIBLE 0   /* an entry of the query */
+#define TEWHORANU_SHADOWED 1  /* reached, and another reached path is more specific */
+#define TEWHORANU_UNREACHED 2 /* neither */
 
-/* Sizes that always serve: cells of a graph table, bytes of a file, records of a step table, bytes of a summary. A
- * listing has no such size: 65,536 bytes is what the program lends. */
+/* Sizes that always serve: cells of a graph table, bytes of a file, records of a step table, bytes of a summary. */
 #define TEWHORANU_CELLS 12271
 #define TEWHORANU_TEXT 32768
 #define TEWHORANU_STEPS 63
 #define TEWHORANU_SUMMARY 64
+
+/* What the program lends for a listing. No size serves every listing. */
 #define TEWHORANU_LISTING 65536
 
 /* Stack that serves every call, in bytes. The walk is at most 64 + 512 calls deep, of about 2,000 bytes each, and a search
@@ -78,17 +83,50 @@ typedef struct {
 /* Was the call refused? */
 static inline int tewhoranu_refused(uint64_t answer) { return answer < TEWHORANU_DONE; }
 
-/* How many cells or bytes were written by a call that was not refused. */
+/* How many cells or bytes were written, of an output that was not refused. */
 static inline size_t tewhoranu_written(uint64_t answer) { return (size_t)(answer - TEWHORANU_DONE); }
+
+/* Which case holds, of a comparison or a judgement that was not refused. */
+static inline unsigned tewhoranu_case(uint64_t answer) { return (unsigned)(answer / TEWHORANU_DONE - 1); }
+
+/* How many equal steps come with the case: none are counted for now, so 0. This is not how many records were filled. */
+static inline unsigned tewhoranu_equal_steps(uint64_t answer) { return (unsigned)(answer % TEWHORANU_DONE); }
+
+/* What was refused, in words. */
+static inline const char *tewhoranu_refusal_text(uint64_t answer)
+{
+    switch (answer) {
+    case TEWHORANU_TOO_LONG:
+        return "the file is longer than 32,768 bytes";
+    case TEWHORANU_MALFORMED:
+        return "a line or a table's row is not of its section's form, or a section is missing";
+    case TEWHORANU_OUT_OF_RANGE:
+        return "a scope, state, mark, count or label is outside its range or list";
+    case TEWHORANU_NOT_ASCENDING:
+        return "a row repeats or does not ascend";
+    case TEWHORANU_TOO_MANY_ROWS:
+        return "a section has a row past its limit";
+    case TEWHORANU_NO_ORDER:
+        return "the order has a pair with equal ends, or pairs a, b and b, c without a, c";
+    case TEWHORANU_NO_QUERY:
+        return "there is no query of this number";
+    case TEWHORANU_NO_PATH_ROW:
+        return "a path row is not of its form";
+    case TEWHORANU_NO_ROOM:
+        return "the memory lent is too short for the output or the steps";
+    default:
+        return "no refusal that this header knows";
+    }
+}
 
 /* Reads a gym file's text into a graph table: cell 0 is the file's form, 0, then come six cells for each row
  * (docs/ARCHITECTURE.md, "The graph table").
- * Answers 16 and the number of cells, at most TEWHORANU_CELLS; cells behind them stay as they were.
+ * Answers 64 and the number of cells, at most TEWHORANU_CELLS; cells behind them stay as they were.
  * Refuses by 1; then from the top line by line 2, 5, 3, 4; then 6; then 9. */
 uint64_t tewhoranu_read(const uint8_t *text, size_t text_length, uint64_t *table, size_t table_length);
 
 /* Writes a graph table as a gym file's text: the inverse of reading.
- * Answers 16 and the number of bytes, at most TEWHORANU_TEXT; bytes behind them stay as they were.
+ * Answers 64 and the number of bytes, at most TEWHORANU_TEXT; bytes behind them stay as they were.
  * Refuses by 2 where cell 0 is missing or no form of file; then from the first row, row by row, by 2, 5, 3, 4; then by
  * 6; then by 9. */
 uint64_t tewhoranu_write(const uint64_t *table, size_t table_length, uint8_t *out, size_t out_length);
@@ -96,25 +134,25 @@ uint64_t tewhoranu_write(const uint64_t *table, size_t table_length, uint8_t *ou
 /* Finds the name that a query of the file seeks.
  * Answers its length, 1 to 16, and puts the place of its first byte in the text into *place: the name is
  * text[*place] to text[*place + length - 1].
- * Answers 0 where the file or the query number is refused, and leaves *place as it was; tewhoranu_listing of the same
- * query tells the refusal. */
+ * Answers 0 if there is no such name, since a refusal by 1 to 7 stands in the way, and leaves *place as it was;
+ * tewhoranu_listing of the same query tells which. The answer is a length: do not hand it to tewhoranu_refused. */
 uint64_t tewhoranu_name_sought(const uint8_t *text, size_t text_length, size_t query, uint64_t *place);
 
 /* Writes the listing of a query of the file: what it sees, and whether rows still to come could change that.
- * Answers 16 and the number of bytes; bytes behind them stay as they were.
+ * Answers 64 and the number of bytes; bytes behind them stay as they were.
  * Refuses by 1 to 6 as tewhoranu_read does, then 7, then 9. */
 uint64_t tewhoranu_listing(const uint8_t *text, size_t text_length, size_t query, uint8_t *out, size_t out_length);
 
 /* Judges a path row for a query of the file.
- * Answers TEWHORANU_VISIBLE, TEWHORANU_SHADOWED or TEWHORANU_UNREACHED, and puts the row's steps into the table;
- * records behind them stay as they were.
+ * Answers by a case, TEWHORANU_VISIBLE, TEWHORANU_SHADOWED or TEWHORANU_UNREACHED, and puts the row's steps into the
+ * table; records behind them stay as they were.
  * Refuses by 1 to 6 as tewhoranu_read does, then 7, then 8, then 9 where the steps outnumber the records. */
 uint64_t tewhoranu_judge(const uint8_t *text, size_t text_length, size_t query, const uint8_t *row, size_t row_length,
                          tewhoranu_step *steps, size_t steps_length);
 
 /* Compares two path rows by the order of the file, by their letters and scopes alone.
- * Answers TEWHORANU_FIRST, TEWHORANU_SECOND or TEWHORANU_NEITHER, and puts each row's steps into the table lent for
- * it; records behind them stay as they were.
+ * Answers by a case, TEWHORANU_FIRST, TEWHORANU_SECOND or TEWHORANU_NEITHER, and puts each row's steps into the table
+ * lent for it; records behind them stay as they were.
  * Refuses by 1 to 6 as tewhoranu_read does, then 8 for the first row, 8 for the second, then 9 where the steps of one
  * outnumber its records. */
 uint64_t tewhoranu_compare(const uint8_t *text, size_t text_length, const uint8_t *first, size_t first_length,
@@ -122,8 +160,8 @@ uint64_t tewhoranu_compare(const uint8_t *text, size_t text_length, const uint8_
                            size_t first_steps_length, tewhoranu_step *second_steps, size_t second_steps_length);
 
 /* Writes the summary of the file: how many queries it has, how many are found one, several and none, and the share of
- * those found one.
- * Answers 16 and the number of bytes, at most TEWHORANU_SUMMARY; bytes behind them stay as they were.
+ * those found one, in whole per cent to the nearest, an exact half to the even one.
+ * Answers 64 and the number of bytes, at most TEWHORANU_SUMMARY; bytes behind them stay as they were.
  * Refuses by 1 to 6 as tewhoranu_read does, then 9. */
 uint64_t tewhoranu_summary(const uint8_t *text, size_t text_length, uint8_t *out, size_t out_length);
 

@@ -71,7 +71,7 @@ module _ (l : List ℕ) (s p : ℕ) where
 
   -- the row at p, and those behind it
   module _ (h : p + 6 ≤ length l) where
-    six : drop p l ≡ getD l p 0 ∷ getD l (p + 1) 0 ∷ getD l (p + 2) 0 ∷ getD l (p + 3) 0 ∷ getD l (p + 4) 0 ∷ getD l (p + 5) 0 ∷ drop (p + 6) l
+    pub six : drop p l ≡ getD l p 0 ∷ getD l (p + 1) 0 ∷ getD l (p + 2) 0 ∷ getD l (p + 3) 0 ∷ getD l (p + 4) 0 ∷ getD l (p + 5) 0 ∷ drop (p + 6) l
     six =
         drop-cons l p 0 (omega arith)
         ∙ ap (λ (x : List ℕ). getD l p 0 ∷ x) (drop-cons l (suc p) 0 (omega arith)

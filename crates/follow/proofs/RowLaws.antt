@@ -4,13 +4,14 @@ use mathlib.Core.Bool.{true, false, and-false}
 use mathlib.Core.List.{List, [], _∷_, _++_, flatMap, append-assoc, append-nil}
 use Prim.Native.Nat.{ℕ, zero, suc, _+_, _%_, _≤_, _<_}
 use native.Mathlib.Omega.{arith}
-use native.Mathlib.Numerals.{add-one, towards-suc}
+use native.Mathlib.Numerals.{add-one}
 use lib.Dec.{eqb}
 use lib.ListN.{length, getD, set, drop, length-drop}
-use lib.Seq.{drop-cons, getD-set-same, getD-set-other}
+use lib.Seq.{getD-set-same, getD-set-other}
 use borrow.Author.Tests.{eq-eqb, ne-eqb}
 use Rattle.scope_graph.specs.Path.{HopOf}
 use Rattle.edge_rows.specs.Rows.{hopTo}
+use Rattle.edge_rows.proofs.Laws.{six}
 use Rattle.text_field.specs.Number.{numberText}
 use Rattle.follow.specs.Text.{letterOf, hopsText, rowText}
 use Rattle.follow.specs.Walk.{declaredHere, matches, marksIn, entryBytes, entriesBytes}
@@ -93,20 +94,10 @@ module _ (cells : List ℕ) (s high low p : ℕ) where
 
   -- the row at p, and those after it
   module _ (h : p + 6 ≤ length cells) where
-    six : drop p cells ≡ getD cells p 0 ∷ getD cells (p + 1) 0 ∷ getD cells (p + 2) 0 ∷ getD cells (p + 3) 0 ∷ getD cells (p + 4) 0 ∷ getD cells (p + 5) 0 ∷ drop (p + 6) cells
-    six =
-        drop-cons cells p 0 (omega arith)
-        ∙ ap (λ (x : List ℕ). getD cells p 0 ∷ x) (drop-cons cells (suc p) 0 (omega arith)
-        ∙ ap (λ (x : List ℕ). getD cells (suc p) 0 ∷ x) (drop-cons cells (suc (suc p)) 0 (omega arith)
-        ∙ ap (λ (x : List ℕ). getD cells (suc (suc p)) 0 ∷ x) (drop-cons cells (suc (suc (suc p))) 0 (omega arith)
-        ∙ ap (λ (x : List ℕ). getD cells (suc (suc (suc p))) 0 ∷ x) (drop-cons cells (suc (suc (suc (suc p)))) 0 (omega arith)
-        ∙ ap (λ (x : List ℕ). getD cells (suc (suc (suc (suc p)))) 0 ∷ x) (drop-cons cells (suc (suc (suc (suc (suc p))))) 0 (omega arith))))))
-        ∙ sym (simp towards-suc)
-
     marks-row : marksIn (drop p cells) s high low
         ≡ declaredHere (matches s high low (getD cells (p + 1) 0) (getD cells (p + 2) 0) (getD cells (p + 3) 0)) (getD cells (p + 4) 0) (marksIn (drop (p + 6) cells) s high low)
     unfolding marksIn
-    marks-row = ap (λ (x : List ℕ). marksIn x s high low) six
+    marks-row = ap (λ (x : List ℕ). marksIn x s high low) (six cells s p h)
 
     pub marks-here : matches s high low (getD cells (p + 1) 0) (getD cells (p + 2) 0) (getD cells (p + 3) 0) ≡ true
         → marksIn (drop p cells) s high low ≡ getD cells (p + 4) 0 ∷ marksIn (drop (p + 6) cells) s high low

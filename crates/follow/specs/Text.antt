@@ -1,21 +1,18 @@
--- The text of a listing and of the summary (01, "The listing"), from what the rules say. Assumes nothing: these are definitions.
-use Prim.Native.Nat.{ℕ, zero, suc, _+_, _*_, _/_, _%_}
-use mathlib.Core.List.{List, [], _∷_, _++_, flatMap}
-use lib.ListN.{length, getD}
+-- The text of a listing (01, "The listing"), from what the rules say. Assumes nothing: these are definitions.
+use Prim.Native.Nat.{ℕ}
+use mathlib.Core.List.{List, [], _∷_, _++_}
+use lib.ListN.{getD}
 use Rattle.scope_graph.specs.Language.{End, stop, by}
 use Rattle.scope_graph.specs.Path.{HopOf}
 use Rattle.scope_graph.specs.Computed.{Found, found-none, found-one, found-several}
 use Rattle.text_field.specs.Number.{numberText}
 
--- the fixed lines: `start seek found awaits`, `mark path`, `queries one several none share`
+-- the fixed lines: `start seek found awaits`, `mark path`
 abbrev pub headLine : List ℕ
 headLine = 115 ∷ 116 ∷ 97 ∷ 114 ∷ 116 ∷ 32 ∷ 115 ∷ 101 ∷ 101 ∷ 107 ∷ 32 ∷ 102 ∷ 111 ∷ 117 ∷ 110 ∷ 100 ∷ 32 ∷ 97 ∷ 119 ∷ 97 ∷ 105 ∷ 116 ∷ 115 ∷ 10 ∷ []
 
 abbrev pub rowsLine : List ℕ
 rowsLine = 109 ∷ 97 ∷ 114 ∷ 107 ∷ 32 ∷ 112 ∷ 97 ∷ 116 ∷ 104 ∷ 10 ∷ []
-
-abbrev pub summaryLine : List ℕ
-summaryLine = 113 ∷ 117 ∷ 101 ∷ 114 ∷ 105 ∷ 101 ∷ 115 ∷ 32 ∷ 111 ∷ 110 ∷ 101 ∷ 32 ∷ 115 ∷ 101 ∷ 118 ∷ 101 ∷ 114 ∷ 97 ∷ 108 ∷ 32 ∷ 110 ∷ 111 ∷ 110 ∷ 101 ∷ 32 ∷ 115 ∷ 104 ∷ 97 ∷ 114 ∷ 101 ∷ 10 ∷ []
 
 -- `none`, `one`, `several`
 unfoldable pub foundText : Found → List ℕ
@@ -41,18 +38,3 @@ module _ (letters : List ℕ) where
   unfoldable pub endText : End ℕ → ℕ
   endText stop = 36
   endText (by l) = letterOf l
-
--- the share of queries found one; `-` without queries
-unfoldable pub shareText : ℕ → ℕ → List ℕ
-shareText zero one = 45 ∷ []
-shareText (suc n) one = numberText (one * 100 / suc n)
-
--- four numbers and the share, with its line's end
-unfoldable pub summaryText : ℕ → ℕ → ℕ → ℕ → List ℕ
-summaryText n one several none =
-    summaryLine
-    ++ (numberText n
-    ++ (32 ∷ (numberText one
-    ++ (32 ∷ (numberText several
-    ++ (32 ∷ (numberText none
-    ++ (32 ∷ (shareText n one ++ (10 ∷ []))))))))))

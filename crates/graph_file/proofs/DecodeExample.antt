@@ -1,4 +1,5 @@
--- The scope graph of document 01's example, computed from its table by the definitions. Assumes nothing.
+-- The scope graph of document 01's example, computed from its table by the definitions. Assumes
+-- nothing.
 use mathlib.Core.Path.{_≡_, refl}
 use mathlib.Core.List.{[], _∷_}
 use Rattle.scope_graph.specs.Language.{stop, by}

@@ -1,4 +1,5 @@
--- The rows of each section of an admitted table stand together, at the section's place. Assumes nothing.
+-- The rows of each section of an admitted table stand together, at the section's place. Assumes
+-- nothing.
 use Prim.Native.Nat.{ℕ, zero, suc, _+_, _*_, _≤_, _<_}
 use mathlib.Core.Path.{_≡_, refl, sym, ap, _∙_}
 use mathlib.Core.List.{List, [], _∷_, _++_, append-nil, append-assoc}
@@ -15,7 +16,7 @@ use Rattle.graph_file.proofs.DecodeSections.{joinedIf, gathered, gather
 use Rattle.graph_file.proofs.DecodeTable.{rows-are, section-in, table-limit}
 
 -- six cells to a row
-cells-length : (k : ℕ) (st : Sofar) (rows : List Row) → AdmittedRows k st rows → length (cellsOf k rows) ≡ 6 * length rows
+pub cells-length : (k : ℕ) (st : Sofar) (rows : List Row) → AdmittedRows k st rows → length (cellsOf k rows) ≡ 6 * length rows
 unfolding cellsOf
 cells-length k st [] h = refl
 cells-length k st (row ∷ rows) h =

@@ -77,7 +77,8 @@ item-in f [] i m h = absurd (List·Memᴰ·not-nil m)
 item-in f (x ∷ items) i m h =
     ⊎-elim (λ e. ap f e ∙ and-left _ _ h) (λ k. item-in f items i k (and-right (f x) _ h)) (List·Memᴰ·cases-cons m)
 
--- Labels and scopes are only added: the count of scopes has one row, so it is not yet read, or no other row of it is admitted.
+-- Labels and scopes are only added: the count of scopes has one row, so it is not yet read, or no
+-- other row of it is admitted.
 abbrev pub Fresh : ℕ → Sofar → Type 0
 Fresh k st = (st .scopes ≡ 0) ⊎ ((countSection < k) ⊎ ((k ≡ countSection) × (1 ≤ st .rows)))
 

@@ -25,7 +25,7 @@ gathered j k [] = []
 gathered j k (rows ∷ rest) = joinedIf (eqb k j) rows (gathered j (suc k) rest)
 
 -- the table's cells hold just these rows
-among-row : (j k : ℕ) (row more : List ℕ) → length row ≡ 5 → rowsAmong j (k ∷ (row ++ more)) ≡ keptIf (eqb k j) row (rowsAmong j more)
+pub among-row : (j k : ℕ) (row more : List ℕ) → length row ≡ 5 → rowsAmong j (k ∷ (row ++ more)) ≡ keptIf (eqb k j) row (rowsAmong j more)
 unfolding rowsAmong
 among-row j k [] more h = absurd (omega arith)
 among-row j k (a ∷ []) more h = absurd (omega arith)
@@ -35,12 +35,12 @@ among-row j k (a ∷ b ∷ c ∷ d ∷ []) more h = absurd (omega arith)
 among-row j k (a ∷ b ∷ c ∷ d ∷ e ∷ []) more h = refl
 among-row j k (a ∷ b ∷ c ∷ d ∷ e ∷ f ∷ l) more h = absurd (omega arith)
 
-kept-joined : (t : Bool) (row : Row) (rows more : List Row) → keptIf t row (joinedIf t rows more) ≡ joinedIf t (row ∷ rows) more
+pub kept-joined : (t : Bool) (row : Row) (rows more : List Row) → keptIf t row (joinedIf t rows more) ≡ joinedIf t (row ∷ rows) more
 unfolding keptIf joinedIf
 kept-joined true row rows more = refl
 kept-joined false row rows more = refl
 
-joined-none : (t : Bool) (more : List Row) → more ≡ joinedIf t [] more
+pub joined-none : (t : Bool) (more : List Row) → more ≡ joinedIf t [] more
 unfolding joinedIf
 joined-none true more = refl
 joined-none false more = refl
@@ -119,7 +119,8 @@ section-at j k st (rows ∷ rest) h f l m =
     (λ e. rw e (section-at j (suc k) after rest (h .2) n (let d = eqb-false k j e in omega arith) (omega arith)))
     (Two (eqb k j))
 
--- What the table's end has of some field of the rows so far is what the rows of one section, number s, bring to it one by one.
+-- What the table's end has of some field of the rows so far is what the rows of one section, number
+-- s, bring to it one by one.
 unfoldable pub fold : {A : Type 0} → (A → Row → A) → A → List Row → A
 fold step a [] = a
 fold step a (row ∷ rows) = fold step (step a row) rows

@@ -11,7 +11,7 @@ use lib.ListN.{length, drop}
 use lib.Seq.{sets, length-sets}
 use borrow.Author.Tests.{ltb-false, eqb-true}
 use Rattle.graph_file.specs.Format.{Item, sectionAt, form}
-use Rattle.graph_file.specs.Outcome.{Outcome, refused, done, andThen, refuseIf}
+use Rattle.text_field.specs.Outcome.{Outcome, refused, done, andThen, refuseIf}
 use Rattle.graph_file.specs.Admission.{Row, rowOf, blank, Sofar, nothing, begun, taken, admission}
 use Rattle.graph_file.specs.Line.{Reading, readItem, placeOf, readItems}
 use Rattle.graph_file.specs.Order.{orderFault}
@@ -205,7 +205,8 @@ module _ (w : Way) (Told : List ℕ → List ℕ → List ℕ → Type 0) (tells
 Made : List ℕ → List ℕ → List ℕ → Type 0
 Made made rest cells = made ≡ cells
 
-read-length : (letters : List ℕ) (items : List Item) (row text : List ℕ) (r : Reading) → readItems letters items row text ≡ done r
+-- a line that is read fills the row it is read into
+pub read-length : (letters : List ℕ) (items : List Item) (row text : List ℕ) (r : Reading) → readItems letters items row text ≡ done r
     → length (r .values) ≡ length row
 unfolding readItems
 read-length letters [] row text r e = ap (λ (x : Reading). length (x .values)) (sym (done-is e))
@@ -213,13 +214,14 @@ read-length letters (i ∷ items) row text r e =
     let c = andThen-done (readItem letters i text) _ e in
     read-length letters items (sets row (placeOf i) (c .0 .values)) (c .0 .rest) r (c .2) ∙ length-sets row (placeOf i) (c .0 .values)
 
-names-made : (k : ℕ) (rest : List ℕ) (p : Piece) → readNames k rest ≡ done p → p .made ≡ []
+-- what reading a names line, and a row, makes
+pub names-made : (k : ℕ) (rest : List ℕ) (p : Piece) → readNames k rest ≡ done p → p .made ≡ []
 unfolding readNames
 names-made k rest p e =
     let c = andThen-done (readItems [] _ blank rest) _ e in
     ap (λ (x : Piece). x .made) (sym (done-is (c .2)))
 
-row-made : (k : ℕ) (letters rest : List ℕ) (p : Piece) → readRow k letters rest ≡ done p → (length (p .row) ≡ 5) × (p .made ≡ k ∷ p .row)
+pub row-made : (k : ℕ) (letters rest : List ℕ) (p : Piece) → readRow k letters rest ≡ done p → (length (p .row) ≡ 5) × (p .made ≡ k ∷ p .row)
 unfolding readRow
 row-made k letters rest p e =
     let c = andThen-done (readItems letters (sectionAt k .row) blank rest) _ e in
@@ -233,8 +235,8 @@ reading-tells = record {
   row = λ k letters made rest cells p m e t. let r = row-made k letters rest p e in (r .0, rw (r .1, t));
 }
 
--- Writing tells of the cells that it has left behind.
-split-six : (k : ℕ) (l : List ℕ) → cellsFollow k l ≡ true → 6 ≤ length l → l ≡ (k ∷ rowOf l) ++ drop 6 l
+-- the six cells of a row of section k, and what stands behind them
+pub split-six : (k : ℕ) (l : List ℕ) → cellsFollow k l ≡ true → 6 ≤ length l → l ≡ (k ∷ rowOf l) ++ drop 6 l
 unfolding cellsFollow rowOf
 split-six k [] c h = absurd (omega arith)
 split-six k (s ∷ []) c h = absurd (omega arith)
@@ -244,6 +246,7 @@ split-six k (s ∷ a ∷ b ∷ d ∷ []) c h = absurd (omega arith)
 split-six k (s ∷ a ∷ b ∷ d ∷ e ∷ []) c h = absurd (omega arith)
 split-six k (s ∷ a ∷ b ∷ d ∷ e ∷ f ∷ l) c h = ap (λ x. x ∷ a ∷ b ∷ d ∷ e ∷ f ∷ l) (eqb-true s k c)
 
+-- Writing tells of the cells that it has left behind.
 module _ (all : List ℕ) where
   Behind : List ℕ → List ℕ → List ℕ → Type 0
   Behind made rest cells = all ≡ cells ++ rest
@@ -277,7 +280,7 @@ pub record AdmittedTable (cells : List ℕ) : Type 0 where
   pub admitted : AdmittedSections 0 nothing sections
   pub order : orderFault (sofarAfter 0 nothing sections .pairs) ≡ false
 
-whole-split : (w : Way) (made rest : List ℕ) (h : Stage) → whole w made rest ≡ done h
+pub whole-split : (w : Way) (made rest : List ℕ) (h : Stage) → whole w made rest ≡ done h
     → (throughSections w 9 0 (record { sofar = nothing; made = made; rest = rest }) ≡ done h) × (orderFault (h .sofar .pairs) ≡ false)
 unfolding whole ordered atStart
 whole-split w made rest h e =

@@ -1,4 +1,5 @@
--- The fixed string holds the nine sections' names lines, rows and keys, at the places given. Assumes nothing.
+-- The fixed string holds the nine sections' names lines, rows and keys, at the places given.
+-- Assumes nothing.
 use Prim.Native.Nat.{ℕ, zero, suc, _+_, _-_, _/_, _%_, _≤_, _<_}
 use mathlib.Core.Path.{_≡_, refl, sym, ap, _∙_}
 use mathlib.Core.List.{List, [], _∷_, _++_, map}

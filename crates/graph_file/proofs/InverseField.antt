@@ -14,20 +14,21 @@ use Rattle.text_field.specs.declared.NumberRead.the-variants.{Number, NoNumber}
 use Rattle.text_field.specs.declared.NameRead.{NameRead}
 use Rattle.text_field.specs.declared.NameRead.the-variants.{Name, NoName}
 use Rattle.text_field.specs.Bytes.{within, isCapital, isDigit, isNameByte}
-use Rattle.text_field.specs.Number.{numberText, numberHere}
-use Rattle.text_field.specs.Name.{nameText, nameHere, isNameCells}
+use Rattle.text_field.specs.Number.{numberText, numberHere, numberMeaning}
+use Rattle.text_field.specs.Name.{nameText, nameHere, isNameCells, nameMeaning}
 use Rattle.text_field.proofs.ByteLaws.{clash, within-bounds}
 use Rattle.text_field.proofs.NumberLaws.{number-back, number-found}
 use Rattle.text_field.proofs.NameLaws.{name-back, name-found}
 use Rattle.graph_file.specs.Format.{Kind, state, scope, mark, count, letter, label, end, name, valuesOf}
-use Rattle.graph_file.specs.Outcome.{done}
+use Rattle.text_field.specs.Outcome.{done, andThen}
 use Rattle.graph_file.specs.Admission.{kindInRange}
 use Rattle.graph_file.specs.Line.{Reading, numberTaken, nameTaken, byteTaken, place, endTaken, first, readField, asByte, endByte, fieldText, fieldFormed}
-use Rattle.graph_file.proofs.InverseOutcome.{done-same, not-done}
+use Rattle.text_field.proofs.OutcomeLaws.{done-same, not-done}
 use Rattle.graph_file.proofs.InverseLetters.{Letters, letter-there}
 use Rattle.graph_file.proofs.InverseTable.{closes}
 
--- what a reading of a field of kind k tells of the text, for the value v, and w where the field has a second one
+-- what a reading of a field of kind k tells of the text, for the value v, and w where the field has
+-- a second one
 pub record FieldFound (letters : List ℕ) (k : Kind) (text : List ℕ) (r : Reading) (v w : ℕ) : Type 0 where
   pub whole : text ≡ fieldText letters k v w ++ r .rest
   pub formed : fieldFormed k v w ≡ true
@@ -51,12 +52,12 @@ byte-found true x text r e = let q = done-same (record { values = x ∷ []; rest
 byte-found false x text r e = absurd (not-done 2 r e)
 
 number-count : (n : NumberRead) (text : List ℕ) (r : Reading) → numberTaken n text ≡ done r → length (r .values) ≡ 1
-unfolding numberTaken
+unfolding numberTaken numberMeaning andThen
 number-count (Number v w) text r e = sym (ap (λ (z : Reading). length (z .values)) (done-same (record { values = v ∷ []; rest = drop w text }) r e))
 number-count NoNumber text r e = absurd (not-done 2 r e)
 
 name-count : (n : NameRead) (text : List ℕ) (r : Reading) → nameTaken n text ≡ done r → length (r .values) ≡ 2
-unfolding nameTaken
+unfolding nameTaken nameMeaning andThen
 name-count (Name h l w) text r e = sym (ap (λ (z : Reading). length (z .values)) (done-same (record { values = h ∷ l ∷ []; rest = drop w text }) r e))
 name-count NoName text r e = absurd (not-done 2 r e)
 
@@ -97,7 +98,7 @@ record NumberFound (text : List ℕ) (r : Reading) (v : ℕ) : Type 0 where
 
 found-number : (n : NumberRead) (text : List ℕ) (r : Reading) (v : ℕ) → numberHere text ≡ n → numberTaken n text ≡ done r → v ≡ getD (r .values) 0 0
     → NumberFound text r v
-unfolding numberTaken
+unfolding numberTaken numberMeaning andThen
 found-number (Number u w) text r v h e p =
     let q = done-same (record { values = u ∷ []; rest = drop w text }) r e
     in let s = number-found text u w h
@@ -112,7 +113,7 @@ record NameFound (text : List ℕ) (r : Reading) (v w : ℕ) : Type 0 where
 
 found-name : (n : NameRead) (text : List ℕ) (r : Reading) (v w : ℕ) → nameHere text ≡ n → nameTaken n text ≡ done r → v ≡ getD (r .values) 0 0
     → w ≡ getD (r .values) 1 0 → NameFound text r v w
-unfolding nameTaken
+unfolding nameTaken nameMeaning andThen
 found-name (Name a b n) text r v w h e p p′ =
     let q = done-same (record { values = a ∷ b ∷ []; rest = drop n text }) r e
     in let s = name-found text a b n h
@@ -183,12 +184,12 @@ field-found letters scopes name text r v w e p q g = let f = found-name (nameHer
 
 number-again : (v : ℕ) (rest : List ℕ) → leb v 99999 ≡ true → not (isDigit (first rest)) ≡ true
     → numberTaken (numberHere (numberText v ++ rest)) (numberText v ++ rest) ≡ done (record { values = v ∷ []; rest = rest })
-unfolding numberTaken
+unfolding numberTaken numberMeaning andThen
 number-again v rest f c = rw (number-back v rest (leb-true v 99999 f) (not-true (isDigit (first rest)) c), drop-append-seam (numberText v) rest)
 
 name-again : (v w : ℕ) (rest : List ℕ) → isNameCells v w ≡ true → not (isNameByte (first rest)) ≡ true
     → nameTaken (nameHere (nameText v w ++ rest)) (nameText v w ++ rest) ≡ done (record { values = v ∷ w ∷ []; rest = rest })
-unfolding nameTaken
+unfolding nameTaken nameMeaning andThen
 name-again v w rest f c = rw (name-back v w rest f (not-true (isNameByte (first rest)) c), drop-append-seam (nameText v w) rest)
 
 module _ (letters : List ℕ) (L : Letters letters) where

@@ -9,10 +9,10 @@ use lib.ListN.{length, drop}
 use borrow.Author.Tests.{eqb-true, leb-true, le-ltb}
 use Rattle.text_field.proofs.ByteLaws.{clash}
 use Rattle.graph_file.specs.Format.{form}
-use Rattle.graph_file.specs.Outcome.{Outcome, refused, done, andThen}
+use Rattle.text_field.specs.Outcome.{Outcome, refused, done, andThen}
 use Rattle.graph_file.specs.File.{Stage, whole, reading, writing, readStage, madeOf, readCells, hasForm, writeText}
 use Rattle.graph_file.specs.Inverse.{ReadThenWritten, WrittenThenRead}
-use Rattle.graph_file.proofs.InverseOutcome.{done-same, not-done, went}
+use Rattle.text_field.proofs.OutcomeLaws.{done-same, not-done, went}
 use Rattle.graph_file.proofs.InverseTable.{room, room-enough}
 use Rattle.graph_file.proofs.InverseWays.{whole-back}
 use Rattle.graph_file.proofs.InverseReading.{reading-mirrored}

@@ -1,4 +1,5 @@
--- The labels' letters: each is a capital and stands once, so that a label's number and its letter tell each other. Assumes nothing.
+-- The labels' letters: each is a capital and stands once, so that a label's number and its letter
+-- tell each other. Assumes nothing.
 use Prim.Native.Nat.{ℕ, suc, _≤_, _<_}
 use mathlib.Core.Path.{_≡_, refl, sym, ap, _∙_}
 use mathlib.Core.List.{List, [], _∷_, _++_}

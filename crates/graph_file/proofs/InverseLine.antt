@@ -1,4 +1,5 @@
--- A row and its line tell each other: the law of lines, over any items that pass the test of the format. Assumes nothing.
+-- A row and its line tell each other: the law of lines, over any items that pass the test of the
+-- format. Assumes nothing.
 use Prim.Native.Nat.{ℕ, _+_}
 use mathlib.Core.Path.{_≡_, refl, sym, ap, _∙_}
 use mathlib.Core.List.{List, [], _∷_, _++_, append-assoc}
@@ -10,10 +11,10 @@ use lib.Seq.{sets, length-sets}
 use borrow.Author.Tests.{eqb-true, eq-eqb}
 use Rattle.text_field.proofs.ByteLaws.{both, clash}
 use Rattle.graph_file.specs.Format.{Kind, Item, byte, field, valuesOf, everyItem}
-use Rattle.graph_file.specs.Outcome.{done, andThen}
+use Rattle.text_field.specs.Outcome.{done, andThen}
 use Rattle.graph_file.specs.Admission.{Row, value, blank, kindInRange, itemInRange, inRange}
 use Rattle.graph_file.specs.Line.{Reading, first, readField, startsWith, readItem, placeOf, readItems, fieldText, itemText, lineText, itemFormed, sparesPlace, idleZeros, formed}
-use Rattle.graph_file.proofs.InverseOutcome.{done-same, not-done, went}
+use Rattle.text_field.proofs.OutcomeLaws.{done-same, not-done, went}
 use Rattle.graph_file.proofs.InverseLetters.{Letters}
 use Rattle.graph_file.proofs.InverseTable.{closes, bounded, lastPlace, clear, orderly, Clear, field-clear}
 use Rattle.graph_file.proofs.InverseField.{field-count, field-found, field-again}
@@ -36,7 +37,8 @@ byte-again : (letters : List ℕ) (b : ℕ) (rest : List ℕ) → readItem lette
 unfolding readItem startsWith
 byte-again letters b rest = rw (eq-eqb b b refl, readItem)
 
--- what reading a line tells: the text is the row's line and what is left, the row is of the form, and other places are as they were
+-- what reading a line tells: the text is the row's line and what is left, the row is of the form,
+-- and other places are as they were
 record Found (letters : List ℕ) (items : List Item) (acc : Row) (text : List ℕ) (r : Reading) : Type 0 where
   whole : text ≡ lineText letters items (r .values) ++ r .rest
   fields : everyItem (itemFormed (r .values)) items ≡ true
@@ -87,7 +89,8 @@ found letters scopes (i ∷ items) acc text r h o e g =
     step (byte b) t e o g f = found-byte letters b items acc text t r e f
     step (field k c) t e o g f = found-field letters scopes k c items acc text t r h (field-clear k c items o) e g f
 
--- What a row's line tells: the text is the line of the row that was read and what is left, and the row can be written.
+-- What a row's line tells: the text is the line of the row that was read and what is left, and the
+-- row can be written.
 pub record LineFound (letters : List ℕ) (items : List Item) (text : List ℕ) (r : Reading) : Type 0 where
   pub whole : text ≡ lineText letters items (r .values) ++ r .rest
   pub formed : formed items (r .values) ≡ true

@@ -1,10 +1,11 @@
--- A names line is read exactly where it stands byte for byte: the law of lines, for a line without fields. Assumes nothing.
+-- A names line is read exactly where it stands byte for byte: the law of lines, for a line without
+-- fields. Assumes nothing.
 use Prim.Native.Nat.{ℕ}
 use mathlib.Core.Path.{_≡_, refl, ap, _∙_}
 use mathlib.Core.List.{List, [], _∷_, _++_, map}
 use mathlib.Core.Bool.{true}
 use Rattle.graph_file.specs.Format.{byte}
-use Rattle.graph_file.specs.Outcome.{done}
+use Rattle.text_field.specs.Outcome.{done}
 use Rattle.graph_file.specs.Admission.{Row, blank, itemInRange, inRange}
 use Rattle.graph_file.specs.Line.{Reading, readItems, itemText, lineText, itemFormed, formed}
 use Rattle.graph_file.proofs.InverseLetters.{no-letters}

@@ -1,4 +1,5 @@
--- Writing mirrors reading: the cells that a text was read into are written as that text. Assumes nothing.
+-- Writing mirrors reading: the cells that a text was read into are written as that text. Assumes
+-- nothing.
 use Prim.Native.Nat.{ℕ, suc, _<_}
 use mathlib.Core.Path.{_≡_, refl, sym, ap, _∙_}
 use mathlib.Core.List.{List, [], _∷_, _++_, map}
@@ -7,11 +8,11 @@ use native.Mathlib.Omega.{arith}
 use lib.ListN.{length}
 use borrow.Author.Tests.{eq-eqb, ne-eqb, le-ltb}
 use Rattle.graph_file.specs.Format.{byte, sectionAt}
-use Rattle.graph_file.specs.Outcome.{done, refuseIf}
+use Rattle.text_field.specs.Outcome.{done, refuseIf}
 use Rattle.graph_file.specs.Admission.{Row, rowOf, blank, Sofar}
 use Rattle.graph_file.specs.Line.{Reading, readItems, lineText, formed}
 use Rattle.graph_file.specs.File.{Piece, readNames, readRow, reading, writeNames, cellsFollow, writeRow, writing}
-use Rattle.graph_file.proofs.InverseOutcome.{done-same, went}
+use Rattle.text_field.proofs.OutcomeLaws.{done-same, went}
 use Rattle.graph_file.proofs.InverseTable.{section-fine}
 use Rattle.graph_file.proofs.InverseLine.{line-found}
 use Rattle.graph_file.proofs.InverseNames.{names-found}

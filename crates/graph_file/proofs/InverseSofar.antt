@@ -1,5 +1,5 @@
--- What the rows so far are known to be: the letters tell the labels' numbers, and the scopes are at most 64. Each admitted row keeps that.
--- Assumes nothing.
+-- What the rows so far are known to be: the letters tell the labels' numbers, and the scopes are at
+-- most 64. Each admitted row keeps that. Assumes nothing.
 use Prim.Native.Nat.{ℕ, _+_, _≤_}
 use mathlib.Core.Path.{_≡_, refl}
 use mathlib.Core.List.{List, [], _∷_}

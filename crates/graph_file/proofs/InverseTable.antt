@@ -1,5 +1,5 @@
--- What the lines of the format must be like, so that a row and its line tell each other: a test over a line's items, which every section's
--- row passes by computing it. Assumes nothing.
+-- What the lines of the format must be like, so that a row and its line tell each other: a test
+-- over a line's items, which every section's row passes by computing it. Assumes nothing.
 use Prim.Native.Nat.{ℕ, zero, suc, _+_, _-_, _*_, _<_}
 use mathlib.Core.Path.{_≡_, refl}
 use mathlib.Core.List.{List, [], _∷_, map}
@@ -34,7 +34,8 @@ bounded k (field j c ∷ items) = false
 unfoldable pub lastPlace : Kind → ℕ → ℕ
 lastPlace k c = c + (valuesOf k - 1)
 
--- A field's places are in the row, a byte that ends it follows, and no later field fills its places.
+-- A field's places are in the row, a byte that ends it follows, and no later field fills its
+-- places.
 unfoldable pub clear : Item → List Item → Bool
 clear (byte b) items = true
 clear (field k c) items = ltb (lastPlace k c) 5 && (bounded k items && (everyItem (sparesPlace c) items && everyItem (sparesPlace (lastPlace k c)) items))
@@ -117,7 +118,8 @@ section-fine k h =
     in let q = both (startsRow (sectionAt k .row)) (startsNames (sectionAt k .names)) (p .1)
     in record { line = p .0; row-first = q .0; names-first = q .1 }
 
--- how many bytes the sections from section k on take at most: each its names line, and its limit of longest lines
+-- how many bytes the sections from section k on take at most: each its names line, and its limit of
+-- longest lines
 unfoldable pub room : ℕ → ℕ → ℕ
 room zero k = 0
 room (suc left) k = length (sectionAt k .names) + (sectionAt k .most * longest (sectionAt k .row) + room left (suc k))

@@ -1,5 +1,6 @@
--- Going through a file one way can be gone through the other way, and gives back what was used up. Said once for any two ways that mirror each
--- other row by row; reading and writing are then the two instances. Assumes nothing.
+-- Going through a file one way can be gone through the other way, and gives back what was used up.
+-- Said once for any two ways that mirror each other row by row; reading and writing are then the
+-- two instances. Assumes nothing.
 use Prim.Native.Nat.{ℕ, zero, suc, _+_, _<_}
 use mathlib.Core.Path.{_≡_, refl, sym, ap, _∙_}
 use mathlib.Core.List.{List, [], _∷_, _++_, append-assoc, append-nil}
@@ -8,15 +9,17 @@ use native.Mathlib.Omega.{arith}
 use lib.Dec.{ltb}
 use Rattle.text_field.proofs.ByteLaws.{clash}
 use Rattle.graph_file.specs.Format.{sectionAt}
-use Rattle.graph_file.specs.Outcome.{done, andThen, refuseIf}
+use Rattle.text_field.specs.Outcome.{done, andThen, refuseIf}
 use Rattle.graph_file.specs.Admission.{blank, Sofar, nothing, taken, admission}
 use Rattle.graph_file.specs.Line.{formed}
 use Rattle.graph_file.specs.Order.{orderFault}
 use Rattle.graph_file.specs.File.{Piece, Way, Stage, ifAdmitted, afterRow, oneRow, throughRows, afterNames, enough, throughSection, isEmpty, throughSections, ordered, atStart, whole}
-use Rattle.graph_file.proofs.InverseOutcome.{done-same, not-done, went, passed, admitted}
+use Rattle.graph_file.proofs.InverseOutcome.{admitted}
+use Rattle.text_field.proofs.OutcomeLaws.{done-same, not-done, went, passed}
 use Rattle.graph_file.proofs.InverseSofar.{Sound, sound-nothing, sound-begun, Admitted, row-admitted, sound-taken}
 
--- A row gone through one way: what it used up, that it can be written, and that the other way goes from what it made to what it used up.
+-- A row gone through one way: what it used up, that it can be written, and that the other way goes
+-- from what it made to what it used up.
 pub record RowBack (v : Way) (k : ℕ) (letters s : List ℕ) (p : Piece) : Type 0 where
   pub used : List ℕ
   pub whole : s ≡ used ++ p .rest
@@ -24,14 +27,15 @@ pub record RowBack (v : Way) (k : ℕ) (letters s : List ℕ) (p : Piece) : Type
   pub more : (t : List ℕ) → v .more k (p .made ++ t) ≡ true
   pub back : (t : List ℕ) → v .row k letters (p .made ++ t) ≡ done (record { row = p .row; made = used; rest = t })
 
--- the same for a names line
+-- a names line gone through one way, and back by the other
 pub record NamesBack (v : Way) (k : ℕ) (s : List ℕ) (p : Piece) : Type 0 where
   pub used : List ℕ
   pub whole : s ≡ used ++ p .rest
   pub back : (t : List ℕ) → v .names k (p .made ++ t) ≡ done (record { row = blank; made = used; rest = t })
 
--- Way v mirrors way w. `Outer left k t`: t may be what w makes of `left` sections from section k on; `Inner left k n t`: what it makes of at most n
--- rows of section k and the `left` sections after it.
+-- Way v mirrors way w. `Outer left k t`: t may be what w makes of `left` sections from section k
+-- on; `Inner left k n t`: what it makes of at most n rows of section k and the `left` sections
+-- after it.
 pub record Mirror (w v : Way) : Type 1 where
   pub Outer : ℕ → ℕ → List ℕ → Type 0
   pub Inner : ℕ → ℕ → ℕ → List ℕ → Type 0
@@ -46,7 +50,8 @@ pub record Mirror (w v : Way) : Type 1 where
   pub row-inner : (left k n : ℕ) (st : Sofar) (s : List ℕ) (p : Piece) (t : List ℕ) → Sound st → w .more k s ≡ true
       → w .row k (st .letters) s ≡ done p → Admitted (sectionAt k) st (p .row) → Inner left k n t → Inner left k (suc n) (p .made ++ t)
 
--- One turn of the rows, by what the way finds there: no row, or a row that was admitted. Nothing below looks into `throughRows`.
+-- One turn of the rows, by what the way finds there: no row, or a row that was admitted. Nothing
+-- below looks into `throughRows`.
 rows-stop : (w : Way) (n k : ℕ) (g : Stage) → w .more k (g .rest) ≡ false → throughRows w (suc n) k g ≡ done g
 unfolding throughRows
 rows-stop w n k g h = rw (h, throughRows)

@@ -1,4 +1,5 @@
--- Reading mirrors writing: the text that cells were written as is read into those cells, and is short enough to be read. Assumes nothing.
+-- Reading mirrors writing: the text that cells were written as is read into those cells, and is
+-- short enough to be read. Assumes nothing.
 use Prim.Native.Nat.{ℕ, suc, _+_, _*_, _≤_, _<_}
 use mathlib.Core.Path.{_≡_, refl, sym, ap, _∙_}
 use mathlib.Core.List.{List, [], _∷_, _++_}
@@ -9,20 +10,21 @@ use lib.Dec.{eqb, ltb}
 use lib.ListN.{length, drop, length-append}
 use borrow.Author.Tests.{eqb-true, ltb-false, not-false}
 use Rattle.text_field.specs.Bytes.{within, isDigit, isCapital, isLower}
-use Rattle.text_field.specs.Number.{numberHere}
+use Rattle.text_field.specs.Number.{numberHere, numberMeaning}
 use Rattle.text_field.proofs.ByteLaws.{clash, within-bounds, within-below, digit-bounds}
 use Rattle.text_field.proofs.NumberLaws.{first-off}
 use Rattle.graph_file.specs.Format.{Kind, state, scope, mark, count, letter, label, end, name, Item, byte, field, valuesOf, sectionAt}
-use Rattle.graph_file.specs.Outcome.{done, andThen, refuseIf}
+use Rattle.text_field.specs.Outcome.{done, andThen, refuseIf}
 use Rattle.graph_file.specs.Admission.{Row, rowOf, blank, Sofar, inRange}
 use Rattle.graph_file.specs.Line.{Reading, numberTaken, byteTaken, place, endTaken, first, readField, readItem, placeOf, readItems, lineText, formed}
 use Rattle.graph_file.specs.File.{Piece, readNames, rowFollows, readRow, reading, writeNames, cellsFollow, writeRow, writing}
-use Rattle.graph_file.proofs.InverseOutcome.{done-same, not-done, went, passed}
+use Rattle.text_field.proofs.OutcomeLaws.{done-same, not-done, went, passed}
 use Rattle.graph_file.proofs.InverseTable.{startsRow, startsNames, longest, room, section-fine}
 use Rattle.graph_file.proofs.InverseField.{end-label}
 use Rattle.graph_file.proofs.InverseLine.{byte-found, line-again}
 use Rattle.graph_file.proofs.InverseNames.{names-again}
 use Rattle.graph_file.proofs.InverseSofar.{Sound, Admitted, line-width}
+use Rattle.graph_file.proofs.DecodeWay.{split-six}
 use Rattle.graph_file.proofs.InverseWays.{RowBack, Mirror}
 use lib.Seq.{sets}
 
@@ -32,7 +34,7 @@ unfolding isLower
 not-lower x h = rw (within-below 97 122 x h)
 
 number-starts : (text : List ℕ) (r : Reading) → numberTaken (numberHere text) text ≡ done r → rowFollows text ≡ true
-unfolding numberTaken numberHere rowFollows
+unfolding numberTaken numberMeaning numberHere rowFollows andThen
 number-starts [] r e = absurd (not-done 2 r e)
 number-starts (x ∷ text) r e = by (isDigit x) refl
   where
@@ -91,30 +93,20 @@ names-start [] t h = absurd (clash h refl)
 names-start (b ∷ bs) t h = rw h
 
 -- what writing a row makes and leaves
-record RowWritten (k : ℕ) (letters s : List ℕ) (p : Piece) : Type 0 where
-  stands : s ≡ (k ∷ rowOf s) ++ drop 6 s
-  proper : formed (sectionAt k .row) (rowOf s) ≡ true
-  piece : p ≡ record { row = rowOf s; made = lineText letters (sectionAt k .row) (rowOf s); rest = drop 6 s }
+pub record RowWritten (k : ℕ) (letters s : List ℕ) (p : Piece) : Type 0 where
+  pub stands : s ≡ (k ∷ rowOf s) ++ drop 6 s
+  pub proper : formed (sectionAt k .row) (rowOf s) ≡ true
+  pub piece : p ≡ record { row = rowOf s; made = lineText letters (sectionAt k .row) (rowOf s); rest = drop 6 s }
 
-six : (k : ℕ) (s : List ℕ) → 6 ≤ length s → cellsFollow k s ≡ true → s ≡ (k ∷ rowOf s) ++ drop 6 s
-unfolding cellsFollow rowOf
-six k [] h e = absurd (omega arith)
-six k (x ∷ []) h e = absurd (omega arith)
-six k (x ∷ a ∷ []) h e = absurd (omega arith)
-six k (x ∷ a ∷ b ∷ []) h e = absurd (omega arith)
-six k (x ∷ a ∷ b ∷ c ∷ []) h e = absurd (omega arith)
-six k (x ∷ a ∷ b ∷ c ∷ d ∷ []) h e = absurd (omega arith)
-six k (x ∷ a ∷ b ∷ c ∷ d ∷ f ∷ s) h e = ap (λ (z : ℕ). z ∷ a ∷ b ∷ c ∷ d ∷ f ∷ s) (eqb-true x k e)
-
-row-written : (k : ℕ) (letters s : List ℕ) (p : Piece) → cellsFollow k s ≡ true → writeRow k letters s ≡ done p → RowWritten k letters s p
+pub row-written : (k : ℕ) (letters s : List ℕ) (p : Piece) → cellsFollow k s ≡ true → writeRow k letters s ≡ done p → RowWritten k letters s p
 unfolding writeRow
 row-written k letters s p h e =
     let made : Piece = record { row = rowOf s; made = lineText letters (sectionAt k .row) (rowOf s); rest = drop 6 s }
     in let a = passed (ltb (length s) 6) 2 (refuseIf (not (formed (sectionAt k .row) (rowOf s))) 2 (done made)) p e
     in let b = passed (not (formed (sectionAt k .row) (rowOf s))) 2 (done made) p (a .1)
-    in record { stands = six k s (ltb-false (length s) 6 (a .0)) h; proper = not-false (formed (sectionAt k .row) (rowOf s)) (b .0); piece = sym (done-same made p (b .1)) }
+    in record { stands = split-six k s h (ltb-false (length s) 6 (a .0)); proper = not-false (formed (sectionAt k .row) (rowOf s)) (b .0); piece = sym (done-same made p (b .1)) }
 
-rowOf-five : (s : List ℕ) → length (rowOf s) ≡ 5
+pub rowOf-five : (s : List ℕ) → length (rowOf s) ≡ 5
 unfolding rowOf
 rowOf-five s = refl
 

@@ -33,5 +33,10 @@ pub mod DecodeTable
 pub mod DecodeOrder
 pub mod DecodePlaces
 pub mod DecodeAccepted
+pub mod DecodeFormed
 pub mod DecodeExample
+pub mod SoughtLines
+pub mod SoughtRows
+pub mod SoughtIs
+pub mod NameOrderLaws
 pub mod Refusals

@@ -11,13 +11,13 @@ use Rattle.text_field.specs.declared.NumberRead.{NumberRead}
 use Rattle.text_field.specs.declared.NumberRead.the-variants.{Number, NoNumber}
 use Rattle.text_field.specs.declared.NameRead.{NameRead}
 use Rattle.text_field.specs.declared.NameRead.the-variants.{Name, NoName}
-use Rattle.text_field.specs.Number.{numberPlaced}
-use Rattle.text_field.specs.Name.{namePlaced}
+use Rattle.text_field.specs.Number.{numberPlaced, numberMeaning}
+use Rattle.text_field.specs.Name.{namePlaced, nameMeaning}
 use Rattle.graph_file.specs.declared.line.Took.{Took}
 use Rattle.graph_file.specs.declared.line.Took.the-variants.{Nothing, Bare, One, Two}
 use Rattle.graph_file.specs.declared.line.Line.{Line}
 use Rattle.graph_file.specs.Format.{Kind, Item, byte, field}
-use Rattle.graph_file.specs.Outcome.{Outcome, refused, done, andThen}
+use Rattle.text_field.specs.Outcome.{Outcome, refused, done, andThen}
 use native.Mathlib.Nat.{add-zero}
 use native.Mathlib.Numerals.{add-one}
 use lib.Seq.{getD-drop, drop-cons}
@@ -33,7 +33,7 @@ use Rattle.graph_file.specs.Reader.{took, lineOutcome, itemPut, itemLine
 -- a number as it is read, and none
 module _ (text : List ℕ) (at : ℕ) where
   pub number-took : (x : NumberRead) (v n : ℕ) → numberPlaced at x ≡ Number v n → took (One n v) text ≡ numberTaken x (drop at text)
-  unfolding numberPlaced took numberTaken
+  unfolding numberPlaced took numberTaken numberMeaning andThen
   number-took (Number v′ w) v n e =
       let p : v′ ≡ v = cc in
       let q : at + w ≡ n = cc in
@@ -41,13 +41,13 @@ module _ (text : List ℕ) (at : ℕ) where
   number-took NoNumber v n e = let z : _≡_ {A = ℕ} 0 1 = cc in absurd (omega arith)
 
   pub number-none : (x : NumberRead) → numberPlaced at x ≡ NoNumber → took Nothing text ≡ numberTaken x (drop at text)
-  unfolding numberPlaced took numberTaken
+  unfolding numberPlaced took numberTaken numberMeaning andThen
   number-none (Number v′ w) e = let z : _≡_ {A = ℕ} 0 1 = cc in absurd (omega arith)
   number-none NoNumber e = refl
 
   -- a name as it is read, and none
   pub name-took : (x : NameRead) (high low n : ℕ) → namePlaced at x ≡ Name high low n → took (Two n high low) text ≡ nameTaken x (drop at text)
-  unfolding namePlaced took nameTaken
+  unfolding namePlaced took nameTaken nameMeaning andThen
   name-took (Name h l w) high low n e =
       let p : h ≡ high = cc in
       let o : l ≡ low = cc in
@@ -56,7 +56,7 @@ module _ (text : List ℕ) (at : ℕ) where
   name-took NoName high low n e = let z : _≡_ {A = ℕ} 0 1 = cc in absurd (omega arith)
 
   pub name-none : (x : NameRead) → namePlaced at x ≡ NoName → took Nothing text ≡ nameTaken x (drop at text)
-  unfolding namePlaced took nameTaken
+  unfolding namePlaced took nameTaken nameMeaning andThen
   name-none (Name h l w) e = let z : _≡_ {A = ℕ} 0 1 = cc in absurd (omega arith)
   name-none NoName e = refl
 

@@ -1,5 +1,5 @@
--- Laws of the ways through a file whose product goes into a buffer: what is made so far stands before what is made after it, so a way may
--- start with nothing made. Assumes nothing.
+-- Laws of the ways through a file whose product goes into a buffer: what is made so far stands
+-- before what is made after it, so a way may start with nothing made. Assumes nothing.
 use Prim.Native.Nat.{ℕ, zero, suc}
 use mathlib.Core.Path.{_≡_, refl, sym, ap, _∙_}
 use mathlib.Core.List.{List, _++_, append-assoc, append-nil}
@@ -8,7 +8,7 @@ use lib.Dec.{ltb}
 use Rattle.text_field.specs.Buffer.{Buf, puts}
 use Rattle.text_field.proofs.BufferLaws.{puts-append}
 use Rattle.graph_file.specs.Format.{sectionAt}
-use Rattle.graph_file.specs.Outcome.{Outcome, refused, done, andThen, refuseIf}
+use Rattle.text_field.specs.Outcome.{Outcome, refused, done, andThen, refuseIf}
 use Rattle.graph_file.specs.Admission.{begun, taken, admission}
 use Rattle.graph_file.specs.Order.{orderFault}
 use Rattle.graph_file.specs.File.{Piece, Way, Stage, ifAdmitted, afterRow, oneRow, throughRows, afterNames, enough, throughSection, isEmpty, throughSections, ordered}

@@ -15,7 +15,7 @@ use Rattle.graph_file.specs.declared.line.Line.{Line}
 use Rattle.graph_file.specs.declared.rows.Counts.{Counts}
 use Rattle.graph_file.specs.declared.reader.Part.{Part}
 use Rattle.graph_file.specs.Format.{Section, sectionAt}
-use Rattle.graph_file.specs.Outcome.{Outcome, refused, done, andThen}
+use Rattle.text_field.specs.Outcome.{Outcome, refused, done, andThen}
 use Rattle.graph_file.specs.Admission.{Row, value, rowOf, blank, Sofar, counted, unless, admission}
 use Rattle.graph_file.specs.Line.{Reading, readItems}
 use Rattle.graph_file.specs.File.{Piece, Way, Stage, ifAdmitted, afterRow, oneRow, throughRows, rowFollows, readRow, reading}

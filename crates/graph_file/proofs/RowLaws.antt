@@ -36,7 +36,7 @@ pub rows-end : (t : List ℕ) (f n i : ℕ) → n ≤ i → rowsAt (n - i) (drop
 unfolding rowsAt
 rows-end t f n i h = let e : n - i ≡ 0 = omega arith in rw e
 
--- the same of the labels' letters
+-- the labels' letters from the i-th on, one at a time
 letters-step : (t : List ℕ) (n i : ℕ) → i < n → lettersAt (n - i) (drop (1 + 6 * i) t) ≡ getD t (1 + 6 * i + 1) 0 ∷ lettersAt (n - (i + 1)) (drop (1 + 6 * (i + 1)) t)
 unfolding lettersAt rowOf
 letters-step t n i h = rw (rows-step t 1 n i h, getD-drop (1 + 6 * i) t 1 0)

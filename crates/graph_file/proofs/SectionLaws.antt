@@ -13,7 +13,7 @@ use Rattle.graph_file.specs.declared.line.Line.{Line}
 use Rattle.graph_file.specs.declared.rows.Counts.{Counts}
 use Rattle.graph_file.specs.declared.reader.Part.{Part}
 use Rattle.graph_file.specs.Format.{Item, byte, Section, form, labels, pairs, transitions, accepts, scopeCount, edges, declarations, openPairs, queries, pastLast, sections, sectionAt}
-use Rattle.graph_file.specs.Outcome.{Outcome, refused, done, andThen, refuseIf}
+use Rattle.text_field.specs.Outcome.{Outcome, refused, done, andThen, refuseIf}
 use Rattle.graph_file.specs.Admission.{Row, blank, Sofar, nothing, begun}
 use Rattle.graph_file.specs.Line.{Reading, readItems}
 use Rattle.graph_file.specs.File.{Piece, Way, Stage, throughRows, afterNames, enough, throughSection, isEmpty, throughSections, atStart, ordered, whole, readNames, reading, readStage}

@@ -15,18 +15,19 @@ use Rattle.text_field.specs.declared.NumberRead.{NumberRead}
 use Rattle.text_field.specs.declared.NumberRead.the-variants.{Number, NoNumber}
 use Rattle.text_field.specs.declared.NameRead.{NameRead}
 use Rattle.text_field.specs.declared.NameRead.the-variants.{Name, NoName}
-use Rattle.text_field.specs.Number.{numberHere, numberPlaced}
-use Rattle.text_field.specs.Name.{nameHere, namePlaced}
+use Rattle.text_field.specs.Number.{numberHere, numberPlaced, numberMeaning}
+use Rattle.text_field.specs.Name.{nameHere, namePlaced, nameMeaning}
 use Rattle.text_field.specs.Bytes.{isCapital}
 use Rattle.graph_file.specs.declared.reader.Part.{Part}
 use Rattle.graph_file.specs.declared.sought.NamePlace.{NamePlace}
 use Rattle.graph_file.specs.Format.{Item, byte, field, state, scope, mark, count, letter, label, end, name, valuesOf, sections, sectionAt, queries, querySection}
-use Rattle.graph_file.specs.Outcome.{Outcome, refused, done, andThen}
+use Rattle.text_field.specs.Outcome.{Outcome, refused, done, andThen}
 use Rattle.graph_file.specs.Line.{Reading, numberTaken, nameTaken, byteTaken, place, endTaken, readField, startsWith, readItem}
 use Rattle.graph_file.specs.File.{Stage, readStage}
 use Rattle.graph_file.specs.Table.{sofarAt}
 use Rattle.graph_file.specs.Reader.{stageAt, refusedOr, partOutcome}
 use Rattle.graph_file.specs.NameSought.{afterLines, lineCount, namePart, restOf, isNameField, fromName, queryFrom, fromWithin, fromSought, nameFront, nameSought, placeFrom, placeSought}
+use Rattle.graph_file.specs.Sought.{SoughtThere}
 
 -- a byte more
 pub count-step : (b : ℕ) (s : List ℕ) → lineCount (b ∷ s) ≡ lineCount (b ∷ []) + lineCount s
@@ -110,11 +111,11 @@ space-behind u = refl
 
 -- the whole line: the number first
 taken-none : (t : List ℕ) (x : NumberRead) → x ≡ NoNumber → fromName behind (restOf (numberTaken x t)) ≡ []
-unfolding restOf numberTaken
+unfolding restOf numberTaken numberMeaning andThen
 taken-none t x e = rw e empty-behind
 
 taken-some : (t : List ℕ) (x : NumberRead) (v w : ℕ) → x ≡ Number v w → fromName behind (restOf (numberTaken x t)) ≡ fromName behind (drop w t)
-unfolding restOf numberTaken
+unfolding restOf numberTaken numberMeaning andThen
 taken-some t x v w e = rw e refl
 
 first-is : (t : List ℕ) → fromName (sectionAt querySection .row) t ≡ fromName behind (restOf (numberTaken (numberHere t) t))
@@ -204,12 +205,12 @@ last-trans : (x y s : List ℕ) → LastOf x y → LastOf y s → LastOf x s
 last-trans x y s (v, e) (w, f) = (w + v, e ∙ ap (drop v) f ∙ drop-drop v w s)
 
 number-last : (x : NumberRead) (t : List ℕ) → LastOf (restOf (numberTaken x t)) t
-unfolding restOf numberTaken
+unfolding restOf numberTaken numberMeaning andThen
 number-last (Number v w) t = (w, refl)
 number-last NoNumber t = none-last t
 
 name-last : (x : NameRead) (t : List ℕ) → LastOf (restOf (nameTaken x t)) t
-unfolding restOf nameTaken
+unfolding restOf nameTaken nameMeaning andThen
 name-last (Name h l w) t = (w, refl)
 name-last NoName t = none-last t
 
@@ -321,9 +322,7 @@ place-after s n k from to d e f =
     in (z, f ∙ ap (λ (y : List ℕ). from + length (nameFront y)) y ∙ ap (λ (m : ℕ). m + length (nameFront x)) z)
 
 -- The part of the text at the place sought is the name sought.
-pub sought-there : (text : List ℕ) (q : ℕ)
-    → (take (placeSought text q .to - placeSought text q .from) (drop (placeSought text q .from) text) ≡ nameSought text q)
-    × ((placeSought text q .from ≤ placeSought text q .to) × (placeSought text q .to ≤ length text))
+pub sought-there : SoughtThere
 unfolding placeSought placeFrom nameSought
 sought-there text q =
     let x = fromSought text q
@@ -335,7 +334,7 @@ sought-there text q =
     in (ap (λ (n : ℕ). take n (drop (length text - length x) text)) z ∙ ap (take (length (nameFront x))) d ∙ k .0, (omega arith, omega (arith, k .1, b)))
 
 -- the whole answer: the text's end where the file or the query's number is refused
-nowhere : (text x : List ℕ) → x ≡ [] → (length text ≡ placeFrom text x .from) × (length text ≡ placeFrom text x .to)
+pub nowhere : (text x : List ℕ) → x ≡ [] → (length text ≡ placeFrom text x .from) × (length text ≡ placeFrom text x .to)
 unfolding placeFrom nameFront namePart nameHere
 nowhere text x e =
     let z : length text ≡ length text - length x = at-end text x e

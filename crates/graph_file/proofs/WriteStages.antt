@@ -14,7 +14,7 @@ use Rattle.text_field.proofs.ByteLaws.{clash}
 use Rattle.graph_file.specs.declared.rows.Counts.{Counts}
 use Rattle.graph_file.specs.declared.reader.Part.{Part}
 use Rattle.graph_file.specs.Format.{sectionAt}
-use Rattle.graph_file.specs.Outcome.{Outcome, refused, done, andThen, refuseIf}
+use Rattle.text_field.specs.Outcome.{Outcome, refused, done, andThen, refuseIf}
 use Rattle.graph_file.specs.Admission.{Row, value, rowOf, nothing, begun, admission}
 use Rattle.graph_file.specs.Line.{lineText, formed}
 use Rattle.graph_file.specs.Order.{orderFault}

@@ -10,10 +10,11 @@ use lib.Seq.{take-at}
 use Rattle.text_field.specs.Buffer.{Buf, puts}
 use Rattle.text_field.proofs.BufferLaws.{puts-fits}
 use Rattle.graph_file.specs.declared.reader.Part.{Part}
-use Rattle.graph_file.specs.Outcome.{Outcome, refused, done, andThen}
-use Rattle.graph_file.specs.File.{Stage, whole, writing, madeOf, hasForm, writeText, answer, leaves}
+use Rattle.text_field.specs.Outcome.{Outcome, refused, done, andThen}
+use Rattle.graph_file.specs.File.{Stage, whole, writing, madeOf, hasForm, writeText}
+use Rattle.text_field.specs.Answer.{answer, leaves}
 use Rattle.graph_file.specs.Writer.{Poured, poured, pour, pouredAt, partWritten}
-use Rattle.graph_file.proofs.CopyLaws.{answer-refused, leaves-refused, answer-short, leaves-short, answer-fits, leaves-fits}
+use Rattle.text_field.proofs.AnswerLaws.{answer-refused, leaves-refused, answer-short, leaves-short, answer-fits, leaves-fits}
 use Rattle.graph_file.proofs.WriteStages.{written-refused, written-done}
 use Rattle.graph_file.proofs.InverseFile.{written-short}
 

@@ -1,4 +1,6 @@
--- What reading without a refusal gives (01's term *accepted*, "The listing"): a table that is a scope graph as the rules want it. These are the statements; their proofs are in proofs/. Assumes nothing: these are definitions.
+-- What reading without a refusal gives (01's term *accepted*, "The listing"): a table that is a
+-- scope graph as the rules want it. These are the statements; their proofs are in proofs/. Assumes
+-- nothing: these are definitions.
 use Prim.Native.Nat.{ℕ, _≤_, _<_}
 use mathlib.Core.Path.{_≡_}
 use mathlib.Core.Logic.{_⊎_}
@@ -9,8 +11,8 @@ use Rattle.scope_graph.specs.Rows.{OrderPair, Transition, RulesPass, language}
 use Rattle.scope_graph.specs.Graph.{Declaration, Query, OpenPair}
 use Rattle.scope_graph.specs.Path.{Distinct}
 use Rattle.scope_graph.specs.Listing.{Pairwise, Accepted}
-use Rattle.graph_file.specs.Format.{sectionAt}
-use Rattle.graph_file.specs.Outcome.{done}
+use Rattle.graph_file.specs.Format.{sectionAt, stateCount, markCount, mostScopes, tableCells}
+use Rattle.text_field.specs.Outcome.{done}
 use Rattle.graph_file.specs.File.{readCells, writeText}
 use Rattle.graph_file.specs.Table.{rowsAt}
 use Rattle.graph_file.specs.Decode.{rowsIn, lettersOf, rulesOf, scopesOf, graphOf, opensOf, queriesOf, sectionPlace}
@@ -27,8 +29,10 @@ TransitionBefore t u = (t .state < u .state) ⊎ ((t .state ≡ u .state) × (t 
 pub record AcceptedTable (cells : List ℕ) : Type 0 where
   -- refusals 3 and 6: the order is irreflexive and transitive, labels and states are in their lists
   pub rules : RulesPass (rulesOf cells)
-  -- refusals 3 and 4: the rows are in range and ascend, for a query at any scope, and each query of the file is at one
-  pub accepted : (q : Query (language (rulesOf cells))) → q .start < scopesOf cells → Accepted (language (rulesOf cells)) (graphOf cells) (opensOf cells) q
+  -- refusals 3 and 4: the rows are in range and ascend, for a query at any scope, and each query of
+  -- the file is at one
+  pub accepted : (q : Query (language (rulesOf cells))) → q .start < scopesOf cells
+      → Accepted (language (rulesOf cells)) (graphOf cells) (opensOf cells) q
   pub starts : (q : Query (language (rulesOf cells))) → q ∈ queriesOf cells → q .start < scopesOf cells
   pub transitions-ascend : Pairwise TransitionBefore (rulesOf cells .transitions)
   -- refusal 5: no section is past its limit
@@ -38,17 +42,20 @@ pub record AcceptedTable (cells : List ℕ) : Type 0 where
   pub letters : Distinct (lettersOf cells)
   -- refusal 3: the ranges of the values
   pub scopes-least : 1 ≤ scopesOf cells
-  pub scopes-most : scopesOf cells ≤ 64
-  pub order-ends : (p : OrderPair) → p ∈ rulesOf cells .order → EndListed (rulesOf cells .labels) (p .less) × EndListed (rulesOf cells .labels) (p .more)
-  pub states : (t : Transition) → t ∈ rulesOf cells .transitions → t .state < 16
-  pub accepts : (s : ℕ) → s ∈ rulesOf cells .accept → s < 16
-  pub marks : (d : Declaration (language (rulesOf cells))) → d ∈ graphOf cells .declarations → d .mark < 65536
+  pub scopes-most : scopesOf cells ≤ mostScopes
+  pub order-ends : (p : OrderPair) → p ∈ rulesOf cells .order
+      → EndListed (rulesOf cells .labels) (p .less) × EndListed (rulesOf cells .labels) (p .more)
+  pub states : (t : Transition) → t ∈ rulesOf cells .transitions → t .state < stateCount
+  pub accepts : (s : ℕ) → s ∈ rulesOf cells .accept → s < stateCount
+  pub marks : (d : Declaration (language (rulesOf cells))) → d ∈ graphOf cells .declarations → d .mark < markCount
   pub open-at : (o : OpenPair (language (rulesOf cells))) → o ∈ opensOf cells → o .at < scopesOf cells
-  pub open-end : (o : OpenPair (language (rulesOf cells))) → o ∈ opensOf cells → EndListed (rulesOf cells .labels) (o .end)
-  -- how the table is laid out: a section's rows stand together at its place, and the last section's end is the table's
+  pub open-end : (o : OpenPair (language (rulesOf cells))) → o ∈ opensOf cells
+      → EndListed (rulesOf cells .labels) (o .end)
+  -- how the table is laid out: a section's rows stand together at its place, and the last section's
+  -- end is the table's
   pub places : (k : ℕ) → k < 9 → rowsAt (length (rowsIn k cells)) (drop (sectionPlace k cells) cells) ≡ rowsIn k cells
   pub size : length cells ≡ sectionPlace 9 cells
-  pub size-most : length cells ≤ 12271
+  pub size-most : length cells ≤ tableCells
 
 -- what a text is read as, and what a text is written of, is such a table
 abbrev pub ReadAccepted : Type 0

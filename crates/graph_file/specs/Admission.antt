@@ -1,11 +1,12 @@
--- Whether a row is admitted after those above it: refusals 5, 3 and 4 (document 01, "Who can cause a refusal"). One definition serves the
--- reader and the writer. Assumes nothing: these are definitions.
+-- Whether a row is admitted after those above it: refusals 5, 3 and 4 (document 01, "Who can cause
+-- a refusal"). One definition serves the reader and the writer. Assumes nothing: these are
+-- definitions.
 use Prim.Native.Nat.{ℕ, zero, suc, _+_}
 use mathlib.Core.List.{List, [], _∷_, _++_}
 use mathlib.Core.Bool.{Bool, true, false, not, _&&_, _||_}
 use lib.Dec.{eqb, ltb, leb}
 use lib.ListN.{length, getD}
-use Rattle.graph_file.specs.Format.{Kind, state, scope, mark, count, letter, label, end, name, Item, byte, field, everyItem, Sequence, ascending, once, free, Section, sectionAt, labelSection, pairSection, countSection}
+use Rattle.graph_file.specs.Format.{Kind, state, scope, mark, count, letter, label, end, name, Item, byte, field, everyItem, Sequence, ascending, once, free, Section, sectionAt, labelSection, pairSection, countSection, stateCount, markCount, mostScopes}
 
 -- a row's five values
 abbrev pub Row : Type 0
@@ -23,8 +24,9 @@ rowOf cells = getD cells 1 0 ∷ getD cells 2 0 ∷ getD cells 3 0 ∷ getD cell
 abbrev pub blank : Row
 blank = 0 ∷ 0 ∷ 0 ∷ 0 ∷ 0 ∷ []
 
--- What the rows above leave for the next one: the labels' letters in sequence, the order pairs' rows, the count of scopes (0 before its row),
--- how many rows this section has so far, and the last of them.
+-- What the rows above leave for the next one: the labels' letters in sequence, the order pairs'
+-- rows, the count of scopes (0 before its row), how many rows this section has so far, and the last
+-- of them.
 pub record Sofar : Type 0 where
   pub letters : List ℕ
   pub pairs : List Row
@@ -51,15 +53,22 @@ counted false new old = old
 
 -- the row is taken into section k
 unfoldable pub taken : ℕ → Sofar → Row → Sofar
-taken k st row = record { letters = joined (eqb k labelSection) (st .letters) (value row 0); pairs = joined (eqb k pairSection) (st .pairs) row; scopes = counted (eqb k countSection) (value row 0) (st .scopes); rows = st .rows + 1; last = row }
+taken k st row = record {
+  letters = joined (eqb k labelSection) (st .letters) (value row 0);
+  pairs = joined (eqb k pairSection) (st .pairs) row;
+  scopes = counted (eqb k countSection) (value row 0) (st .scopes);
+  rows = st .rows + 1;
+  last = row;
+}
 
--- Is the value in its range or list? States are 0 to 15, scopes below their count, marks 0 to 65,535, the count 1 to 64. A label is its
--- number among those listed; an end is 0 for the end mark and one more than the label's number for a label.
+-- Is the value in its range or list? States are 0 to 15, scopes below their count, marks 0 to
+-- 65,535, the count 1 to 64. A label is its number among those listed; an end is 0 for the end mark
+-- and one more than the label's number for a label.
 unfoldable pub kindInRange : ℕ → ℕ → Kind → ℕ → Bool
-kindInRange labels scopes state v = ltb v 16
+kindInRange labels scopes state v = ltb v stateCount
 kindInRange labels scopes scope v = ltb v scopes
-kindInRange labels scopes mark v = ltb v 65536
-kindInRange labels scopes count v = leb 1 v && leb v 64
+kindInRange labels scopes mark v = ltb v markCount
+kindInRange labels scopes count v = leb 1 v && leb v mostScopes
 kindInRange labels scopes letter v = true
 kindInRange labels scopes label v = ltb v labels
 kindInRange labels scopes end v = leb v labels
@@ -84,8 +93,8 @@ unfoldable pub listed : ℕ → List ℕ → Bool
 listed x [] = false
 listed x (y ∷ ys) = eqb y x || listed x ys
 
--- Does the row follow those above as its section asks: by its key, the letters listed so far, how many rows the section has and the last of
--- them? The first row always ascends.
+-- Does the row follow those above as its section asks: by its key, the letters listed so far, how
+-- many rows the section has and the last of them? The first row always ascends.
 unfoldable pub follows : Sequence → List ℕ → List ℕ → ℕ → Row → Row → Bool
 follows ascending key letters rows last row = eqb rows 0 || keyLess key last row
 follows once key letters rows last row = not (listed (value row 0) letters)
@@ -95,8 +104,8 @@ unfoldable pub unless : Bool → ℕ → ℕ → ℕ
 unless true n otherwise = otherwise
 unless false n otherwise = n
 
--- The row after the rows so far: refused by 5 where the section is full, by 3 where a value is out of range, by 4 where it repeats or does
--- not ascend, in this sequence; 0 where it is admitted.
+-- The row after the rows so far: refused by 5 where the section is full, by 3 where a value is out
+-- of range, by 4 where it repeats or does not ascend, in this sequence; 0 where it is admitted.
 unfoldable pub admission : Section → Sofar → Row → ℕ
 admission s st row =
     unless (ltb (st .rows) (s .most)) 5

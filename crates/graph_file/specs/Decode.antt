@@ -1,6 +1,7 @@
 -- The scope graph that a graph table stands for (document 01, "The gym file"): its rules, edges, declarations, open pairs and queries, each from
 -- the rows of its section. Assumes nothing: these are definitions.
 use Prim.Native.Nat.{ℕ, zero, suc, _+_, _*_}
+use mathlib.Core.Path.{_≡_}
 use mathlib.Core.List.{List, [], _∷_, map}
 use mathlib.Core.Bool.{Bool, true, false}
 use lib.Dec.{eqb}
@@ -10,6 +11,8 @@ use Rattle.scope_graph.specs.Order.{endOf}
 use Rattle.scope_graph.specs.Graph.{Edge, Declaration, Graph, Query, OpenPair}
 use Rattle.graph_file.specs.Format.{labelSection, pairSection, transitionSection, acceptSection, countSection, edgeSection, declarationSection, openSection, querySection}
 use Rattle.graph_file.specs.Admission.{Row, value, blank}
+use Rattle.text_field.specs.Outcome.{done}
+use Rattle.graph_file.specs.File.{readCells}
 
 -- a row stands before the others, where the test holds
 unfoldable pub keptIf : Bool → Row → List Row → List Row
@@ -93,3 +96,7 @@ queriesOf cells = map (queryOf (rulesOf cells)) (rowsIn querySection cells)
 unfoldable pub sectionPlace : ℕ → List ℕ → ℕ
 sectionPlace zero cells = 1
 sectionPlace (suc k) cells = sectionPlace k cells + 6 * length (rowsIn k cells)
+
+-- some text is read as these cells, so that it was not refused by 1 to 6 (01, "Who can cause a refusal")
+abbrev pub WasRead : List ℕ → Type 0
+WasRead cells = (text : List ℕ) × (readCells text ≡ done cells)

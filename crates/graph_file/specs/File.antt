@@ -1,26 +1,27 @@
--- The whole file: text read into the graph table's cells, and cells written as text (document 01, "The gym file" and "Who can cause a
--- refusal"). Both ways go through the same steps, so they are one definition over what differs. Assumes nothing: these are definitions.
+-- The whole file: text read into the graph table's cells, and cells written as text (document 01,
+-- "The gym file" and "Who can cause a refusal"). Both ways go through the same steps, so they are
+-- one definition over what differs. Assumes nothing: these are definitions.
 use Prim.Native.Nat.{ℕ, zero, suc, _+_}
 use mathlib.Core.List.{List, [], _∷_, _++_, map}
 use mathlib.Core.Bool.{Bool, true, false, not}
 use lib.Dec.{eqb, ltb}
 use lib.ListN.{length, drop}
 use Rattle.text_field.specs.Bytes.{isLower}
-use Rattle.graph_file.specs.Format.{byte, Section, sectionAt, form}
-use Rattle.graph_file.specs.Outcome.{Outcome, refused, done, andThen, refuseIf}
+use Rattle.graph_file.specs.Format.{byte, Section, sectionAt, form, textBytes}
+use Rattle.text_field.specs.Outcome.{Outcome, refused, done, andThen, refuseIf}
 use Rattle.graph_file.specs.Admission.{Row, rowOf, blank, Sofar, nothing, begun, taken, admission}
 use Rattle.graph_file.specs.Line.{Reading, readItems, lineText, formed}
 use Rattle.graph_file.specs.Order.{orderFault}
 
--- A step of reading or writing: the row that it takes (none at a names line), what is made of it (cells, or text), and what is left to go
--- through (text, or cells).
+-- A step of reading or writing: the row that it takes (none at a names line), what is made of it
+-- (cells, or text), and what is left to go through (text, or cells).
 pub record Piece : Type 0 where
   pub row : Row
   pub made : List ℕ
   pub rest : List ℕ
 
--- What differs between the two ways, for a section's number: the names line, whether another row of the section comes next, and one row,
--- with the labels' letters given.
+-- What differs between the two ways, for a section's number: the names line, whether another row of
+-- the section comes next, and one row, with the labels' letters given.
 pub record Way : Type 0 where
   pub names : ℕ → List ℕ → Outcome Piece
   pub more : ℕ → List ℕ → Bool
@@ -43,9 +44,11 @@ afterRow k g p = record { sofar = taken k (g .sofar) (p .row); made = g .made ++
 -- one row of section k: tested by 2, then 5, 3, 4
 unfoldable pub oneRow : Way → ℕ → Stage → Outcome Stage
 oneRow w k g =
-    andThen (w .row k (g .sofar .letters) (g .rest)) (λ p. ifAdmitted (admission (sectionAt k) (g .sofar) (p .row)) (done (afterRow k g p)))
+    andThen (w .row k (g .sofar .letters) (g .rest))
+    (λ p. ifAdmitted (admission (sectionAt k) (g .sofar) (p .row)) (done (afterRow k g p)))
 
--- The rows of section k. A section admits at most as many rows as its limit, so the turns, one more than that, never run out.
+-- The rows of section k. A section admits at most as many rows as its limit, so the turns, one more
+-- than that, never run out.
 unfoldable pub throughRows : Way → ℕ → ℕ → Stage → Outcome Stage
 throughRows w zero k g = refused 5
 throughRows w (suc turns) k g =
@@ -87,23 +90,29 @@ whole w made rest = andThen (throughSections w 9 0 (atStart made rest)) ordered
 
 -- Reading. The names line must stand there byte for byte.
 unfoldable pub readNames : ℕ → List ℕ → Outcome Piece
-readNames k text = andThen (readItems [] (map byte (sectionAt k .names)) blank text) (λ r. done (record { row = blank; made = []; rest = r .rest }))
+readNames k text =
+    andThen (readItems [] (map byte (sectionAt k .names)) blank text)
+    (λ r. done (record { row = blank; made = []; rest = r .rest }))
 
--- A row follows unless the text is at its end or a lower-case letter comes, which begins a names line.
+-- A row follows unless the text is at its end or a lower-case letter comes, which begins a names
+-- line.
 unfoldable pub rowFollows : List ℕ → Bool
 rowFollows [] = false
 rowFollows (x ∷ rest) = not (isLower x)
 
 -- a row's line becomes its section's number and the five values
 unfoldable pub readRow : ℕ → List ℕ → List ℕ → Outcome Piece
-readRow k letters text = andThen (readItems letters (sectionAt k .row) blank text) (λ r. done (record { row = r .values; made = k ∷ r .values; rest = r .rest }))
+readRow k letters text =
+    andThen (readItems letters (sectionAt k .row) blank text)
+    (λ r. done (record { row = r .values; made = k ∷ r .values; rest = r .rest }))
 
 unfoldable pub reading : Way
 reading = record { names = readNames; more = λ k text. rowFollows text; row = readRow }
 
--- The graph table's cells that a text stands for: refused by 1 where it is too long, then line by line, then by 6.
+-- The graph table's cells that a text stands for: refused by 1 where it is too long, then line by
+-- line, then by 6.
 unfoldable pub readStage : List ℕ → Outcome Stage
-readStage text = elim (ltb 32768 (length text)) [ true ↦ refused 1 | false ↦ whole reading (form ∷ []) text ]
+readStage text = elim (ltb textBytes (length text)) [ true ↦ refused 1 | false ↦ whole reading (form ∷ []) text ]
 
 unfoldable pub madeOf : Outcome Stage → Outcome (List ℕ)
 madeOf o = andThen o (λ g. done (g .made))
@@ -115,7 +124,8 @@ readCells text = madeOf (readStage text)
 unfoldable pub writeNames : ℕ → List ℕ → Outcome Piece
 writeNames k cells = done (record { row = blank; made = sectionAt k .names; rest = cells })
 
--- A row of section k follows if its first cell is the section's number. A row of any other number is left over at the end, which is 2.
+-- A row of section k follows if its first cell is the section's number. A row of any other number
+-- is left over at the end, which is 2.
 unfoldable pub cellsFollow : ℕ → List ℕ → Bool
 cellsFollow k [] = false
 cellsFollow k (x ∷ rest) = eqb x k
@@ -134,19 +144,7 @@ unfoldable pub hasForm : List ℕ → Bool
 hasForm [] = false
 hasForm (x ∷ rest) = eqb x form
 
--- The text of a graph table's cells: refused by 2 where the first cell is missing or another form's, then row by row, then by 6.
+-- The text of a graph table's cells: refused by 2 where the first cell is missing or another
+-- form's, then row by row, then by 6.
 unfoldable pub writeText : List ℕ → Outcome (List ℕ)
 writeText cells = elim (hasForm cells) [ true ↦ madeOf (whole writing [] (drop 1 cells)) | false ↦ refused 2 ]
-
--- What the host is told for an output and the room lent for it: how much was written, or the refusal; 9, too little room, comes last.
-unfoldable pub answer : Outcome (List ℕ) → ℕ → Outcome ℕ
-answer o room = andThen o (λ out. refuseIf (ltb room (length out)) 9 (done (length out)))
-
-unfoldable pub written : Bool → List ℕ → List ℕ → List ℕ
-written true out lent = lent
-written false out lent = out ++ drop (length out) lent
-
--- What the lent memory holds afterwards: the output and behind it what was there; after a refusal, what was there.
-unfoldable pub leaves : Outcome (List ℕ) → List ℕ → List ℕ
-leaves (refused n) lent = lent
-leaves (done out) lent = written (ltb (length lent) (length out)) out lent

@@ -1,17 +1,17 @@
--- The form of the gym file as one table: nine sections, each with its names line, its limits, the items of a row and its key
--- (document 01, "The gym file"). Assumes nothing: these are definitions.
+-- The form of the gym file as one table: nine sections, each with its names line, its limits, the
+-- items of a row and its key (document 01, "The gym file"). Assumes nothing: these are definitions.
 use Prim.Native.Nat.{ℕ}
 use mathlib.Core.List.{List, [], _∷_}
 use mathlib.Core.Bool.{Bool, true, false, _&&_}
 use lib.ListN.{getD}
 
--- What a field of a row holds: a state, a scope, a mark, the count of scopes, the letter of a new label, a label, one end of an order
--- pair or of an open pair (the end mark or a label), a name.
+-- What a field of a row holds: a state, a scope, a mark, the count of scopes, the letter of a new
+-- label, a label, one end of an order pair or of an open pair (the end mark or a label), a name.
 pub data Kind : Type 0 where
   state scope mark count letter label end name : Kind
 
--- A row of the graph table has five values. An item of a line is a byte that stands there as it is, or a field, whose value is the row's at
--- the place given; a name takes that place and the next.
+-- A row of the graph table has five values. An item of a line is a byte that stands there as it is,
+-- or a field, whose value is the row's at the place given; a name takes that place and the next.
 pub data Item : Type 0 where
   byte : ℕ → Item
   field : Kind → ℕ → Item
@@ -32,12 +32,13 @@ unfoldable pub everyItem : (Item → Bool) → List Item → Bool
 everyItem test [] = true
 everyItem test (i ∷ items) = test i && everyItem test items
 
--- How the rows of a section follow one another: they ascend strictly by the key, they do not repeat, or they are free.
+-- How the rows of a section follow one another: they ascend strictly by the key, they do not
+-- repeat, or they are free.
 pub data Sequence : Type 0 where
   ascending once free : Sequence
 
--- A section: its names line; how many rows it must have and may have; the items of a row; the places of the values that rows are
--- sorted by, first the weightiest; how rows follow one another.
+-- A section: its names line; how many rows it must have and may have; the items of a row; the
+-- places of the values that rows are sorted by, first the weightiest; how rows follow one another.
 pub record Section : Type 0 where
   pub names : List ℕ
   pub least : ℕ
@@ -54,39 +55,102 @@ lineEnd = byte 10
 
 -- `label`: a letter, which no other row has
 unfoldable pub labels : Section
-labels = record { names = 108 ∷ 97 ∷ 98 ∷ 101 ∷ 108 ∷ 10 ∷ []; least = 0; most = 8; row = field letter 0 ∷ lineEnd ∷ []; key = []; sequence = once }
+labels = record {
+  names = 108 ∷ 97 ∷ 98 ∷ 101 ∷ 108 ∷ 10 ∷ [];
+  least = 0;
+  most = 8;
+  row = field letter 0 ∷ lineEnd ∷ [];
+  key = [];
+  sequence = once;
+}
 
 -- `less more`: an order pair, sorted by both ends
 unfoldable pub pairs : Section
-pairs = record { names = 108 ∷ 101 ∷ 115 ∷ 115 ∷ 32 ∷ 109 ∷ 111 ∷ 114 ∷ 101 ∷ 10 ∷ []; least = 0; most = 36; row = field end 0 ∷ space ∷ field end 1 ∷ lineEnd ∷ []; key = 0 ∷ 1 ∷ []; sequence = ascending }
+pairs = record {
+  names = 108 ∷ 101 ∷ 115 ∷ 115 ∷ 32 ∷ 109 ∷ 111 ∷ 114 ∷ 101 ∷ 10 ∷ [];
+  least = 0;
+  most = 36;
+  row = field end 0 ∷ space ∷ field end 1 ∷ lineEnd ∷ [];
+  key = 0 ∷ 1 ∷ [];
+  sequence = ascending;
+}
 
 -- `state label next`: a transition; its next state is no part of the key
 unfoldable pub transitions : Section
-transitions = record { names = 115 ∷ 116 ∷ 97 ∷ 116 ∷ 101 ∷ 32 ∷ 108 ∷ 97 ∷ 98 ∷ 101 ∷ 108 ∷ 32 ∷ 110 ∷ 101 ∷ 120 ∷ 116 ∷ 10 ∷ []; least = 0; most = 128; row = field state 0 ∷ space ∷ field label 1 ∷ space ∷ field state 2 ∷ lineEnd ∷ []; key = 0 ∷ 1 ∷ []; sequence = ascending }
+transitions = record {
+  names = 115 ∷ 116 ∷ 97 ∷ 116 ∷ 101 ∷ 32 ∷ 108 ∷ 97 ∷ 98 ∷ 101 ∷ 108 ∷ 32 ∷ 110 ∷ 101 ∷ 120 ∷ 116 ∷ 10 ∷ [];
+  least = 0;
+  most = 128;
+  row = field state 0 ∷ space ∷ field label 1 ∷ space ∷ field state 2 ∷ lineEnd ∷ [];
+  key = 0 ∷ 1 ∷ [];
+  sequence = ascending;
+}
 
 -- `accept`: an accepting state
 unfoldable pub accepts : Section
-accepts = record { names = 97 ∷ 99 ∷ 99 ∷ 101 ∷ 112 ∷ 116 ∷ 10 ∷ []; least = 0; most = 16; row = field state 0 ∷ lineEnd ∷ []; key = 0 ∷ []; sequence = ascending }
+accepts = record {
+  names = 97 ∷ 99 ∷ 99 ∷ 101 ∷ 112 ∷ 116 ∷ 10 ∷ [];
+  least = 0;
+  most = 16;
+  row = field state 0 ∷ lineEnd ∷ [];
+  key = 0 ∷ [];
+  sequence = ascending;
+}
 
 -- `scopes`: how many scopes there are; one row, no less and no more
 unfoldable pub scopeCount : Section
-scopeCount = record { names = 115 ∷ 99 ∷ 111 ∷ 112 ∷ 101 ∷ 115 ∷ 10 ∷ []; least = 1; most = 1; row = field count 0 ∷ lineEnd ∷ []; key = []; sequence = free }
+scopeCount = record {
+  names = 115 ∷ 99 ∷ 111 ∷ 112 ∷ 101 ∷ 115 ∷ 10 ∷ [];
+  least = 1;
+  most = 1;
+  row = field count 0 ∷ lineEnd ∷ [];
+  key = [];
+  sequence = free;
+}
 
 -- `from label to`: an edge
 unfoldable pub edges : Section
-edges = record { names = 102 ∷ 114 ∷ 111 ∷ 109 ∷ 32 ∷ 108 ∷ 97 ∷ 98 ∷ 101 ∷ 108 ∷ 32 ∷ 116 ∷ 111 ∷ 10 ∷ []; least = 0; most = 512; row = field scope 0 ∷ space ∷ field label 1 ∷ space ∷ field scope 2 ∷ lineEnd ∷ []; key = 0 ∷ 1 ∷ 2 ∷ []; sequence = ascending }
+edges = record {
+  names = 102 ∷ 114 ∷ 111 ∷ 109 ∷ 32 ∷ 108 ∷ 97 ∷ 98 ∷ 101 ∷ 108 ∷ 32 ∷ 116 ∷ 111 ∷ 10 ∷ [];
+  least = 0;
+  most = 512;
+  row = field scope 0 ∷ space ∷ field label 1 ∷ space ∷ field scope 2 ∷ lineEnd ∷ [];
+  key = 0 ∷ 1 ∷ 2 ∷ [];
+  sequence = ascending;
+}
 
 -- `at name mark`: a declaration; its name has the values 1 and 2
 unfoldable pub declarations : Section
-declarations = record { names = 97 ∷ 116 ∷ 32 ∷ 110 ∷ 97 ∷ 109 ∷ 101 ∷ 32 ∷ 109 ∷ 97 ∷ 114 ∷ 107 ∷ 10 ∷ []; least = 0; most = 512; row = field scope 0 ∷ space ∷ field name 1 ∷ space ∷ field mark 3 ∷ lineEnd ∷ []; key = 0 ∷ 1 ∷ 2 ∷ 3 ∷ []; sequence = ascending }
+declarations = record {
+  names = 97 ∷ 116 ∷ 32 ∷ 110 ∷ 97 ∷ 109 ∷ 101 ∷ 32 ∷ 109 ∷ 97 ∷ 114 ∷ 107 ∷ 10 ∷ [];
+  least = 0;
+  most = 512;
+  row = field scope 0 ∷ space ∷ field name 1 ∷ space ∷ field mark 3 ∷ lineEnd ∷ [];
+  key = 0 ∷ 1 ∷ 2 ∷ 3 ∷ [];
+  sequence = ascending;
+}
 
 -- `at open`: an open pair
 unfoldable pub openPairs : Section
-openPairs = record { names = 97 ∷ 116 ∷ 32 ∷ 111 ∷ 112 ∷ 101 ∷ 110 ∷ 10 ∷ []; least = 0; most = 576; row = field scope 0 ∷ space ∷ field end 1 ∷ lineEnd ∷ []; key = 0 ∷ 1 ∷ []; sequence = ascending }
+openPairs = record {
+  names = 97 ∷ 116 ∷ 32 ∷ 111 ∷ 112 ∷ 101 ∷ 110 ∷ 10 ∷ [];
+  least = 0;
+  most = 576;
+  row = field scope 0 ∷ space ∷ field end 1 ∷ lineEnd ∷ [];
+  key = 0 ∷ 1 ∷ [];
+  sequence = ascending;
+}
 
 -- `start seek`: a query, in any sequence
 unfoldable pub queries : Section
-queries = record { names = 115 ∷ 116 ∷ 97 ∷ 114 ∷ 116 ∷ 32 ∷ 115 ∷ 101 ∷ 101 ∷ 107 ∷ 10 ∷ []; least = 0; most = 256; row = field scope 0 ∷ space ∷ field name 1 ∷ lineEnd ∷ []; key = []; sequence = free }
+queries = record {
+  names = 115 ∷ 116 ∷ 97 ∷ 114 ∷ 116 ∷ 32 ∷ 115 ∷ 101 ∷ 101 ∷ 107 ∷ 10 ∷ [];
+  least = 0;
+  most = 256;
+  row = field scope 0 ∷ space ∷ field name 1 ∷ lineEnd ∷ [];
+  key = [];
+  sequence = free;
+}
 
 -- the nine sections in the file's sequence; a section's number is its place here
 unfoldable pub sections : List Section
@@ -127,6 +191,28 @@ openSection = 7
 
 abbrev pub querySection : ℕ
 querySection = 8
+
+-- the bytes of a file at most (01, "The gym file")
+abbrev pub textBytes : ℕ
+textBytes = 32768
+
+-- how many states and marks there are, and the count of scopes at most
+abbrev pub stateCount : ℕ
+stateCount = 16
+
+abbrev pub markCount : ℕ
+markCount = 65536
+
+abbrev pub mostScopes : ℕ
+mostScopes = 64
+
+-- the cells of a graph table at most: the form, and six for each of the 2,045 rows that the
+-- sections admit; the table that the reader fills has room for the row past a limit
+abbrev pub tableCells : ℕ
+tableCells = 12271
+
+abbrev pub ownCells : ℕ
+ownCells = 12277
 
 -- the graph table's first cell: the form of the file
 abbrev pub form : ℕ

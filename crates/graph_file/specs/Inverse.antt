@@ -1,8 +1,10 @@
--- The two promises that tie reading and writing together: what goes in one way comes back the other way. These are the statements; their proofs are in proofs/. Assumes nothing: these are definitions.
+-- The two promises that tie reading and writing together: what goes in one way comes back the other
+-- way. These are the statements; their proofs are in proofs/. Assumes nothing: these are
+-- definitions.
 use Prim.Native.Nat.{ℕ, _<_}
 use mathlib.Core.Path.{_≡_}
 use mathlib.Core.List.{List}
-use Rattle.graph_file.specs.Outcome.{done}
+use Rattle.text_field.specs.Outcome.{done}
 use Rattle.graph_file.specs.File.{readCells, writeText}
 
 -- what was read is written back byte for byte

@@ -1,5 +1,4 @@
 pub mod Format
-pub mod Outcome
 pub mod Admission
 pub mod Line
 pub mod Order
@@ -7,6 +6,8 @@ pub mod File
 pub mod NameSought
 pub mod Inverse
 pub mod Decode
+pub mod Sought
+pub mod NameOrder
 pub mod Accepted
 pub mod Table
 pub mod Reader

@@ -1,5 +1,5 @@
--- One line of the file against the items of its form, read and written (document 01, "The gym file").
--- Assumes nothing: these are definitions.
+-- One line of the file against the items of its form, read and written (document 01, "The gym
+-- file"). Assumes nothing: these are definitions.
 use Prim.Native.Nat.{ℕ, zero, suc, _+_, _%_}
 use mathlib.Core.List.{List, [], _∷_, _++_}
 use mathlib.Core.Bool.{Bool, true, false, not, _&&_, _||_}
@@ -7,14 +7,12 @@ use lib.Dec.{eqb, leb, ltb}
 use lib.ListN.{getD, drop}
 use lib.Seq.{sets}
 use Rattle.text_field.specs.declared.NumberRead.{NumberRead}
-use Rattle.text_field.specs.declared.NumberRead.the-variants.{Number, NoNumber}
 use Rattle.text_field.specs.declared.NameRead.{NameRead}
-use Rattle.text_field.specs.declared.NameRead.the-variants.{Name, NoName}
 use Rattle.text_field.specs.Bytes.{isCapital}
-use Rattle.text_field.specs.Number.{numberText, numberHere}
-use Rattle.text_field.specs.Name.{nameText, nameHere, isNameCells}
+use Rattle.text_field.specs.Number.{NumberFound, numberMeaning, numberText, numberHere}
+use Rattle.text_field.specs.Name.{NameFound, nameMeaning, nameText, nameHere, isNameCells}
 use Rattle.graph_file.specs.Format.{Kind, state, scope, mark, count, letter, label, end, name, Item, byte, field, valuesOf, everyItem}
-use Rattle.graph_file.specs.Outcome.{Outcome, refused, done, andThen}
+use Rattle.text_field.specs.Outcome.{Outcome, refused, done, andThen}
 use Rattle.graph_file.specs.Admission.{Row, value}
 
 -- What reading takes from the front of the text: values, and the text after it.
@@ -22,33 +20,38 @@ pub record Reading : Type 0 where
   pub values : List ℕ
   pub rest : List ℕ
 
+-- a number and the text behind it; without a number the line is not of its form, which is 2
 unfoldable pub numberTaken : NumberRead → List ℕ → Outcome Reading
-numberTaken (Number v width) text = done (record { values = v ∷ []; rest = drop width text })
-numberTaken NoNumber text = refused 2
+numberTaken n text =
+    andThen (numberMeaning 2 n) (λ f. done (record { values = f .value ∷ []; rest = drop (f .next) text }))
 
+-- a name's two cells and the text behind it, or 2
 unfoldable pub nameTaken : NameRead → List ℕ → Outcome Reading
-nameTaken (Name high low width) text = done (record { values = high ∷ low ∷ []; rest = drop width text })
-nameTaken NoName text = refused 2
+nameTaken n text =
+    andThen (nameMeaning 2 n) (λ f. done (record { values = f .high ∷ f .low ∷ []; rest = drop (f .next) text }))
 
 -- one byte that stands for v, if it is of its class
 unfoldable pub byteTaken : Bool → ℕ → List ℕ → Outcome Reading
 byteTaken true v text = done (record { values = v ∷ []; rest = drop 1 text })
 byteTaken false v text = refused 2
 
--- a letter's number in the list; for a letter that is not listed, how many there are, which no label's number is
+-- a letter's number in the list; for a letter that is not listed, how many there are, which no
+-- label's number is
 unfoldable pub place : ℕ → List ℕ → ℕ
 place x [] = 0
 place x (y ∷ ys) = elim (eqb y x) [ true ↦ 0 | false ↦ suc (place x ys) ]
 
 -- an end by its byte: 0 for the end mark `$`, else one more than the label's number
 unfoldable pub endTaken : List ℕ → ℕ → List ℕ → Outcome Reading
-endTaken letters x text = elim (eqb x 36) [ true ↦ byteTaken true 0 text | false ↦ byteTaken (isCapital x) (suc (place x letters)) text ]
+endTaken letters x text =
+    elim (eqb x 36) [ true ↦ byteTaken true 0 text | false ↦ byteTaken (isCapital x) (suc (place x letters)) text ]
 
 -- the first byte; past the end 0, which is of no class
 abbrev pub first : List ℕ → ℕ
 first text = getD text 0 0
 
--- A field at the front of the text. A label's form is any capital (01, "The gym file"): whether the file lists it is a matter of range, refusal 3.
+-- A field at the front of the text. A label's form is any capital (01, "The gym file"): whether the
+-- file lists it is a matter of range, refusal 3.
 unfoldable pub readField : List ℕ → Kind → List ℕ → Outcome Reading
 readField letters state text = numberTaken (numberHere text) text
 readField letters scope text = numberTaken (numberHere text) text
@@ -66,7 +69,8 @@ startsWith b (x ∷ rest) = eqb x b
 
 -- One item at the front of the text: a byte that must stand there and has no value, or a field.
 unfoldable pub readItem : List ℕ → Item → List ℕ → Outcome Reading
-readItem letters (byte b) text = elim (startsWith b text) [ true ↦ done (record { values = []; rest = drop 1 text }) | false ↦ refused 2 ]
+readItem letters (byte b) text =
+    elim (startsWith b text) [ true ↦ done (record { values = []; rest = drop 1 text }) | false ↦ refused 2 ]
 readItem letters (field k c) text = readField letters k text
 
 -- the place in the row where an item's values go
@@ -74,7 +78,8 @@ unfoldable pub placeOf : Item → ℕ
 placeOf (byte b) = 0
 placeOf (field k c) = c
 
--- A line's items in turn, each one's values put at its place in the row: the row's values and the text after the line, or 2.
+-- A line's items in turn, each one's values put at its place in the row: the row's values and the
+-- text after the line, or 2.
 unfoldable pub readItems : List ℕ → List Item → Row → List ℕ → Outcome Reading
 readItems letters [] row text = done (record { values = row; rest = text })
 readItems letters (i ∷ items) row text =
@@ -109,8 +114,9 @@ unfoldable pub lineText : List ℕ → List Item → Row → List ℕ
 lineText letters [] row = []
 lineText letters (i ∷ items) row = itemText letters row i ++ lineText letters items row
 
--- Has the value a text of its form? A number has five digits at most, a letter is A to Z, a name's two cells are a name's.
--- A label's number is no text: without a label it is out of range, refusal 3.
+-- Has the value a text of its form? A number has five digits at most, a letter is A to Z, a name's
+-- two cells are a name's. A label's number is no text: without a label it is out of range, refusal
+-- 3.
 unfoldable pub fieldFormed : Kind → ℕ → ℕ → Bool
 fieldFormed state v w = leb v 99999
 fieldFormed scope v w = leb v 99999
@@ -135,7 +141,8 @@ unfoldable pub idleZero : List Item → Row → ℕ → Bool
 idleZero items row d = not (everyItem (sparesPlace d) items) || eqb (value row d) 0
 
 unfoldable pub idleZeros : List Item → Row → Bool
-idleZeros items row = idleZero items row 0 && (idleZero items row 1 && (idleZero items row 2 && (idleZero items row 3 && idleZero items row 4)))
+idleZeros items row =
+    idleZero items row 0 && (idleZero items row 1 && (idleZero items row 2 && (idleZero items row 3 && idleZero items row 4)))
 
 -- Can the row be written in this form? If not, it is refused by 2.
 unfoldable pub formed : List Item → Row → Bool

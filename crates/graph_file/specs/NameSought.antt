@@ -9,7 +9,7 @@ use Rattle.text_field.specs.declared.NameRead.the-variants.{Name, NoName}
 use Rattle.text_field.specs.Name.{nameHere}
 use Rattle.graph_file.specs.declared.sought.NamePlace.{NamePlace}
 use Rattle.graph_file.specs.Format.{Item, byte, field, valuesOf, sectionAt, querySection}
-use Rattle.graph_file.specs.Outcome.{Outcome, refused, done}
+use Rattle.text_field.specs.Outcome.{Outcome, refused, done}
 use Rattle.graph_file.specs.Line.{Reading, readItem}
 use Rattle.graph_file.specs.File.{Stage, readStage}
 

@@ -1,4 +1,5 @@
--- What the reader's functions answer with, as the definitions of a line say it. Assumes nothing: these are definitions.
+-- What the reader's functions answer with, as the definitions of a line say it. Assumes nothing:
+-- these are definitions.
 use Prim.Native.Nat.{ℕ, zero, suc, _+_, _*_, _≤_, _<_}
 use mathlib.Core.Path.{_≡_}
 use mathlib.Core.List.{List, [], _∷_}
@@ -10,11 +11,11 @@ use Rattle.graph_file.specs.declared.line.Took.the-variants.{Nothing, Ba
 use Rattle.graph_file.specs.declared.line.Line.{Line}
 use Rattle.graph_file.specs.declared.rows.Counts.{Counts}
 use Rattle.graph_file.specs.declared.reader.Part.{Part}
-use Rattle.graph_file.specs.declared.reader.Answer.{Answer}
-use Rattle.graph_file.specs.declared.reader.Answer.the-variants.{Refused, Written}
+use Rattle.text_field.specs.declared.answer.Answer.{Answer}
+use Rattle.text_field.specs.declared.answer.Answer.the-variants.{Refused, Written}
 use lib.Dec.{eqb}
 use Rattle.graph_file.specs.Format.{Item, labelSection, pairSection, countSection, sectionAt}
-use Rattle.graph_file.specs.Outcome.{Outcome, refused, done, andThen}
+use Rattle.text_field.specs.Outcome.{Outcome, refused, done, andThen}
 use Rattle.graph_file.specs.Admission.{Row, counted}
 use Rattle.graph_file.specs.Line.{Reading, readItem, placeOf}
 use Rattle.graph_file.specs.File.{Stage}
@@ -29,7 +30,8 @@ took (Two next v w) text = done (record { values = v ∷ w ∷ []; rest = drop n
 
 -- what a line gives
 unfoldable pub lineOutcome : Line → List ℕ → Outcome Reading
-lineOutcome l text = elim (l .ok) [ true ↦ done (record { values = l .row; rest = drop (l .next) text }) | false ↦ refused 2 ]
+lineOutcome l text =
+    elim (l .ok) [ true ↦ done (record { values = l .row; rest = drop (l .next) text }) | false ↦ refused 2 ]
 
 -- an item's values put into the row
 unfoldable pub itemPut : Item → Row → Reading → Reading
@@ -51,8 +53,8 @@ refusedOr (suc n) g = refused (suc n)
 unfoldable pub partOutcome : Part → List ℕ → List ℕ → Outcome Stage
 partOutcome r table text = refusedOr (r .refusal) (stageAt table (r .cells) (r .counts) (drop (r .next) text))
 
--- The counts fit the table: labels stand first, order pairs after them, and while these are read the table ends with them. A section's rows end
--- the table.
+-- The counts fit the table: labels stand first, order pairs after them, and while these are read
+-- the table ends with them. A section's rows end the table.
 pub record Placed (k n : ℕ) (c : Counts) : Type 0 where
   pub early : k < 2 → n ≡ 1 + 6 * c .labels + 6 * c .pairs
   pub first : k < 1 → c .pairs ≡ 0
@@ -61,9 +63,15 @@ pub record Placed (k n : ℕ) (c : Counts) : Type 0 where
 
 -- the counts after a row of section k whose first value is v
 unfoldable pub countsAfter : ℕ → Counts → ℕ → Counts
-countsAfter k c v = record { labels = counted (eqb k labelSection) (c .labels + 1) (c .labels); pairs = counted (eqb k pairSection) (c .pairs + 1) (c .pairs); scopes = counted (eqb k countSection) v (c .scopes); rows = c .rows + 1 }
+countsAfter k c v = record {
+  labels = counted (eqb k labelSection) (c .labels + 1) (c .labels);
+  pairs = counted (eqb k pairSection) (c .pairs + 1) (c .pairs);
+  scopes = counted (eqb k countSection) v (c .scopes);
+  rows = c .rows + 1;
+}
 
--- A row was taken: the section had room, the table has six cells more and the section a row more, and the counts fit.
+-- A row was taken: the section had room, the table has six cells more and the section a row more,
+-- and the counts fit.
 pub record RowTaken (k n : ℕ) (c : Counts) (cells : ℕ) (after : Counts) : Type 0 where
   pub room : c .rows < sectionAt k .most
   pub longer : cells ≡ n + 6
@@ -81,12 +89,8 @@ pub record SectionTaken (k n size : ℕ) (r : Part) : Type 0 where
   pub rows : RowsTaken k n (r .cells) (r .counts)
   pub inside : r .next ≤ size
 
--- The cells that the table has at most before section k: the form, and six for each row that the sections above admit.
+-- The cells that the table has at most before section k: the form, and six for each row that the
+-- sections above admit.
 unfoldable pub roomBefore : ℕ → ℕ
 roomBefore zero = 1
 roomBefore (suc k) = roomBefore k + 6 * sectionAt k .most
-
--- the answer by document 01's number, or how much was written
-unfoldable pub answerOf : Answer → Outcome ℕ
-answerOf (Refused n) = refused n
-answerOf (Written n) = done n

@@ -1,5 +1,6 @@
--- How the code holds the format and the rows so far: as bytes of one fixed string, and as cells of the graph table. What a gym file is, is
--- said in the files above; this one relates it to what the code looks at. Assumes nothing: these are definitions.
+-- How the code holds the format and the rows so far: as bytes of one fixed string, and as cells of
+-- the graph table. What a gym file is, is said in the files above; this one relates it to what the
+-- code looks at. Assumes nothing: these are definitions.
 use Prim.Native.Nat.{ℕ, zero, suc, _+_, _-_, _*_, _/_, _%_}
 use mathlib.Core.List.{List, [], _∷_, _++_, map}
 use mathlib.Core.Bool.{Bool, true, false}
@@ -40,7 +41,8 @@ kindOf (suc (suc (suc (suc (suc (suc (suc n))))))) = name
 unfoldable pub itemOf : ℕ → Item
 itemOf x = elim (ltb x 128) [ true ↦ byte x | false ↦ field (kindOf ((x - 128) / 8)) (x % 8) ]
 
--- a section in the fixed string: its names line, the codes of a row's items, and the places of its key as digits, each ended by LF
+-- a section in the fixed string: its names line, the codes of a row's items, and the places of its
+-- key as digits, each ended by LF
 unfoldable pub layout : Section → List ℕ
 layout s = s .names ++ (map code (s .row) ++ (map (λ (c : ℕ). 48 + c) (s .key) ++ (10 ∷ [])))
 
@@ -117,8 +119,14 @@ pairsAt labels n table = rowsAt n (drop (1 + 6 * labels) table)
 unfoldable pub lastAt : ℕ → ℕ → List ℕ → Row
 lastAt n p cells = elim (eqb n 0) [ true ↦ blank | false ↦ rowOf (drop (p - 6) cells) ]
 
--- What the rows so far leave, as the table and its counts show it: the first rows are the labels, the next ones the order pairs, and the
--- section's rows end at place p.
+-- What the rows so far leave, as the table and its counts show it: the first rows are the labels,
+-- the next ones the order pairs, and the section's rows end at place p.
 unfoldable pub sofarAt : List ℕ → ℕ → Counts → Sofar
 sofarAt table p c =
-    record { letters = lettersAt (c .labels) (drop 1 table); pairs = pairsAt (c .labels) (c .pairs) table; scopes = c .scopes; rows = c .rows; last = lastAt (c .rows) p table }
+    record {
+      letters = lettersAt (c .labels) (drop 1 table);
+      pairs = pairsAt (c .labels) (c .pairs) table;
+      scopes = c .scopes;
+      rows = c .rows;
+      last = lastAt (c .rows) p table;
+    }

@@ -1,4 +1,5 @@
--- What the writer's functions answer with, as the definitions of writing say it. Assumes nothing: these are definitions.
+-- What the writer's functions answer with, as the definitions of writing say it. Assumes nothing:
+-- these are definitions.
 use Prim.Native.Nat.{ℕ, zero, suc}
 use mathlib.Core.List.{List, []}
 use mathlib.Core.Bool.{Bool, not, _&&_}
@@ -7,7 +8,7 @@ use lib.ListN.{length, drop}
 use Rattle.text_field.specs.Buffer.{Buf, puts}
 use Rattle.graph_file.specs.declared.rows.Counts.{Counts}
 use Rattle.graph_file.specs.declared.reader.Part.{Part}
-use Rattle.graph_file.specs.Outcome.{Outcome, refused, done}
+use Rattle.text_field.specs.Outcome.{Outcome, refused, done}
 use Rattle.graph_file.specs.Format.{Item}
 use Rattle.graph_file.specs.Admission.{rowOf, Sofar}
 use Rattle.graph_file.specs.Line.{formed}
@@ -18,8 +19,8 @@ use Rattle.graph_file.specs.Table.{sofarAt}
 unfoldable pub rowFormed : List Item → List ℕ → Bool
 rowFormed items cells = not (ltb (length cells) 6) && formed items (rowOf cells)
 
--- How far writing has come where the text goes into a buffer: what the rows so far leave, the buffer with the place after the text, and the
--- cells left.
+-- How far writing has come where the text goes into a buffer: what the rows so far leave, the
+-- buffer with the place after the text, and the cells left.
 pub record Poured : Type 0 where
   pub sofar : Sofar
   pub buffer : Buf

@@ -1,7 +1,9 @@
 // Whether a row is admitted after those above it.
+use crate::format::MARKS;
+use crate::format::MOST_SCOPES;
+use crate::format::STATES;
 use crate::format::item;
 use crate::format::key_place;
-use crate::format::most;
 use crate::format::row_place;
 use crate::format::sequence;
 use crate::rows::Counts;
@@ -19,13 +21,13 @@ ghost use Rattle.graph_file.specs.Table.{kindOf, itemOf, itemsAt, keyAt,
 
 // Is the value in the range of its kind?
 fn kind_in_range(labels: u32, scopes: u64, kind: u8, v: u64) -> bool
-    ensures { λ r. ⌜ r ≡ kindInRange labels scopes (kindOf kind) v ⌝ }
+    ensures answer { λ r. ⌜ r ≡ kindInRange labels scopes (kindOf kind) v ⌝ }
 {
     match kind {
-        0 => v < 16,
+        0 => v < STATES,
         1 => v < scopes,
-        2 => v < 65536,
-        3 => 1 <= v && v <= 64,
+        2 => v < MARKS,
+        3 => 1 <= v && v <= MOST_SCOPES,
         4 => true,
         5 => v < labels as u64,
         6 => v <= labels as u64,
@@ -33,9 +35,9 @@ fn kind_in_range(labels: u32, scopes: u64, kind: u8, v: u64) -> bool
     }
 }
 
-// The same of the item of a code, whose value the row holds.
+// Is the value that the row holds for the item of a code in its kind's range?
 fn item_in_range(labels: u32, scopes: u64, x: u8, row: [u64; 5]) -> bool
-    ensures { λ r. ⌜ r ≡ itemInRange labels scopes row (itemOf x) ⌝ }
+    ensures answer { λ r. ⌜ r ≡ itemInRange labels scopes row (itemOf x) ⌝ }
 {
     if x < 128 {
         return true;
@@ -46,7 +48,7 @@ fn item_in_range(labels: u32, scopes: u64, x: u8, row: [u64; 5]) -> bool
 
 // Is every value of the row in its range, by the items at a place of the format?
 fn in_range(o: usize, labels: u32, scopes: u64, row: [u64; 5]) -> bool
-    ensures { λ r. ⌜ r ≡ inRange labels scopes (itemsAt o) row ⌝ }
+    ensures answer { λ r. ⌜ r ≡ inRange labels scopes (itemsAt o) row ⌝ }
 {
     let mut i = o;
     let mut x = item(i);
@@ -62,7 +64,7 @@ fn in_range(o: usize, labels: u32, scopes: u64, row: [u64; 5]) -> bool
 
 // Does row a stand before row b by the key at a place of the format?
 fn key_less(o: usize, a: [u64; 5], b: [u64; 5]) -> bool
-    ensures { λ r. ⌜ r ≡ keyLess (keyAt o) a b ⌝ }
+    ensures answer { λ r. ⌜ r ≡ keyLess (keyAt o) a b ⌝ }
 {
     let mut i = o;
     let mut x = item(i);
@@ -84,14 +86,16 @@ fn key_less(o: usize, a: [u64; 5], b: [u64; 5]) -> bool
 
 // The place of the row before the one at p.
 fn row_before(p: usize) -> usize
-    ensures { λ r. ⌜ r ≡ p - 6 ⌝ }
+    ensures answer { λ r. ⌜ r ≡ p - 6 ⌝ }
 {
     if p < 6 { 0 } else { p - 6 }
 }
 
 // Does the row at place p ascend from the one before it, if the section has any?
 fn ascends(k: usize, table: &[u64], p: usize, rows: u32) -> bool
-    ensures { λ r. ⌜ r ≡ (eqb rows 0 || keyLess (sectionAt k .key) (lastAt rows p (now (table .entry))) (rowOf (drop p (now (table .entry))))) ⌝ }
+    ensures answer { λ r. ⌜ r ≡
+        (eqb rows 0 || keyLess (sectionAt k .key) (lastAt rows p (now (table .entry)))
+        (rowOf (drop p (now (table .entry))))) ⌝ }
 {
     if rows == 0 {
         return true;
@@ -101,14 +105,16 @@ fn ascends(k: usize, table: &[u64], p: usize, rows: u32) -> bool
 
 // Is x no label's letter?
 fn unlisted(table: &[u64], labels: u32, x: u64) -> bool
-    ensures { λ r. ⌜ r ≡ not (listed x (lettersAt labels (drop 1 (now (table .entry))))) ⌝ }
+    ensures answer { λ r. ⌜ r ≡ not (listed x (lettersAt labels (drop 1 (now (table .entry))))) ⌝ }
 {
     label_place(table, labels, x) == labels
 }
 
 // Does the row at place p follow those above as its section asks?
 fn row_follows(k: usize, table: &[u64], p: usize, labels: u32, rows: u32) -> bool
-    ensures { λ r. ⌜ r ≡ follows (sectionAt k .sequence) (sectionAt k .key) (lettersAt labels (drop 1 (now (table .entry)))) rows (lastAt rows p (now (table .entry))) (rowOf (drop p (now (table .entry)))) ⌝ }
+    ensures answer { λ r. ⌜ r ≡ follows (sectionAt k .sequence) (sectionAt k .key)
+        (lettersAt labels (drop 1 (now (table .entry)))) rows (lastAt rows p (now (table .entry)))
+        (rowOf (drop p (now (table .entry)))) ⌝ }
 {
     match sequence(k) {
         0 => ascends(k, table, p, rows),
@@ -118,12 +124,15 @@ fn row_follows(k: usize, table: &[u64], p: usize, labels: u32, rows: u32) -> boo
 }
 
 // The row at place p after the rows above: 5, 3 or 4 where it is refused, 0 where it is admitted.
-pub fn admitted(k: usize, table: &[u64], p: usize, c: Counts) -> u64
-    ensures { λ r. ⌜ r ≡ admission (sectionAt k) (sofarAt (now (table .entry)) p c) (rowOf (drop p (now (table .entry)))) ⌝ }
+// The section's limit comes from its reader or writer.
+pub fn admitted(k: usize, limit: usize, table: &[u64], p: usize, c: Counts) -> u64
+    requires limit { ⌜ limit ≡ sectionAt k .most ⌝ }
+    ensures answer { λ r. ⌜ r ≡ admission (sectionAt k) (sofarAt (now (table .entry)) p c)
+        (rowOf (drop p (now (table .entry)))) ⌝ }
 {
     let labels = c.labels;
     let rows = c.rows;
-    if most(k) <= rows as usize {
+    if limit <= rows as usize {
         return 5;
     }
     if !in_range(row_place(k), labels, c.scopes, row_at(table, p)) {

@@ -20,7 +20,8 @@ ghost use Rattle.graph_file.specs.Line.{numberTaken, nameTaken, byteTake
 ghost use Rattle.graph_file.specs.Table.{kindOf, itemOf, itemsAt, lettersAt};
 ghost use Rattle.graph_file.specs.Reader.{took, lineOutcome, itemLine};
 
-// What an item at the front of a text gives: the place after it and its values, or nothing where it does not stand there.
+// What an item at the front of a text gives: the place after it and its values, or nothing where it
+// does not stand there.
 pub enum Took {
     Nothing,
     Bare(usize),
@@ -37,13 +38,14 @@ pub struct Line {
 
 // The place after the byte at a place; at the end of the text there is none.
 fn past(text: &[u8], at: usize) -> usize
-    ensures { λ r. ⌜ drop r (now (text .entry)) ≡ drop 1 (drop at (now (text .entry))) ⌝ }
+    ensures place { λ r. ⌜ drop r (now (text .entry)) ≡ drop 1 (drop at (now (text .entry))) ⌝ }
 {
     if at < text.len() { at + 1 } else { at }
 }
 
 fn take_number(text: &[u8], at: usize) -> Took
-    ensures { λ r. ⌜ took r (now (text .entry)) ≡ numberTaken (numberHere (drop at (now (text .entry)))) (drop at (now (text .entry))) ⌝ }
+    ensures answer { λ r. ⌜ took r (now (text .entry))
+        ≡ numberTaken (numberHere (drop at (now (text .entry)))) (drop at (now (text .entry))) ⌝ }
 {
     match read_number(text, at) {
         NumberRead::Number(v, next) => Took::One(next, v),
@@ -52,7 +54,8 @@ fn take_number(text: &[u8], at: usize) -> Took
 }
 
 fn take_name(text: &[u8], at: usize) -> Took
-    ensures { λ r. ⌜ took r (now (text .entry)) ≡ nameTaken (nameHere (drop at (now (text .entry)))) (drop at (now (text .entry))) ⌝ }
+    ensures answer { λ r. ⌜ took r (now (text .entry))
+        ≡ nameTaken (nameHere (drop at (now (text .entry)))) (drop at (now (text .entry))) ⌝ }
 {
     match read_name(text, at) {
         NameRead::Name(high, low, next) => Took::Two(next, high, low),
@@ -62,7 +65,7 @@ fn take_name(text: &[u8], at: usize) -> Took
 
 // One byte that stands for v, if it is of its class.
 fn take_byte(ok: bool, v: u64, text: &[u8], at: usize) -> Took
-    ensures { λ r. ⌜ took r (now (text .entry)) ≡ byteTaken ok v (drop at (now (text .entry))) ⌝ }
+    ensures answer { λ r. ⌜ took r (now (text .entry)) ≡ byteTaken ok v (drop at (now (text .entry))) ⌝ }
 {
     if ok {
         Took::One(past(text, at), v)
@@ -73,7 +76,8 @@ fn take_byte(ok: bool, v: u64, text: &[u8], at: usize) -> Took
 
 // An end by its byte: the end mark `$`, or a label's letter.
 fn take_end(table: &[u64], labels: u32, x: u8, text: &[u8], at: usize) -> Took
-    ensures { λ r. ⌜ took r (now (text .entry)) ≡ endTaken (lettersAt labels (drop 1 (now (table .entry)))) x (drop at (now (text .entry))) ⌝ }
+    ensures answer { λ r. ⌜ took r (now (text .entry))
+        ≡ endTaken (lettersAt labels (drop 1 (now (table .entry)))) x (drop at (now (text .entry))) ⌝ }
 {
     if x == 36 {
         return take_byte(true, 0, text, at);
@@ -84,7 +88,8 @@ fn take_end(table: &[u64], labels: u32, x: u8, text: &[u8], at: usize) -> Took
 
 // A field of a kind.
 fn take_field(table: &[u64], labels: u32, kind: u8, text: &[u8], at: usize) -> Took
-    ensures { λ r. ⌜ took r (now (text .entry)) ≡ readField (lettersAt labels (drop 1 (now (table .entry)))) (kindOf kind) (drop at (now (text .entry))) ⌝ }
+    ensures answer { λ r. ⌜ took r (now (text .entry))
+        ≡ readField (lettersAt labels (drop 1 (now (table .entry)))) (kindOf kind) (drop at (now (text .entry))) ⌝ }
 {
     if kind < 4 {
         return take_number(text, at);
@@ -105,7 +110,7 @@ fn take_field(table: &[u64], labels: u32, kind: u8, text: &[u8], at: usize) -> T
 
 // A byte that must stand there as it is.
 fn take_bare(x: u8, text: &[u8], at: usize) -> Took
-    ensures { λ r. ⌜ took r (now (text .entry)) ≡ readItem [] (byte x) (drop at (now (text .entry))) ⌝ }
+    ensures answer { λ r. ⌜ took r (now (text .entry)) ≡ readItem [] (byte x) (drop at (now (text .entry))) ⌝ }
 {
     if text.len() <= at {
         return Took::Nothing;
@@ -118,7 +123,8 @@ fn take_bare(x: u8, text: &[u8], at: usize) -> Took
 
 // The item of a code.
 fn take_item(table: &[u64], labels: u32, x: u8, text: &[u8], at: usize) -> Took
-    ensures { λ r. ⌜ took r (now (text .entry)) ≡ readItem (lettersAt labels (drop 1 (now (table .entry)))) (itemOf x) (drop at (now (text .entry))) ⌝ }
+    ensures answer { λ r. ⌜ took r (now (text .entry))
+        ≡ readItem (lettersAt labels (drop 1 (now (table .entry)))) (itemOf x) (drop at (now (text .entry))) ⌝ }
 {
     if x < 128 {
         return take_bare(x, text, at);
@@ -128,14 +134,14 @@ fn take_item(table: &[u64], labels: u32, x: u8, text: &[u8], at: usize) -> Took
 
 // Where the values of a code's item go in the row.
 fn place_of(x: u8) -> usize
-    ensures { λ r. ⌜ r ≡ placeOf (itemOf x) ⌝ }
+    ensures answer { λ r. ⌜ r ≡ placeOf (itemOf x) ⌝ }
 {
     if x < 128 { 0 } else { (x % 8) as usize }
 }
 
 // The row with a value at a place.
 fn with_value(row: [u64; 5], c: usize, v: u64) -> [u64; 5]
-    ensures { λ r. ⌜ r ≡ set row c v ⌝ }
+    ensures answer { λ r. ⌜ r ≡ set row c v ⌝ }
 {
     let mut out = row;
     if c < 5 {
@@ -146,7 +152,8 @@ fn with_value(row: [u64; 5], c: usize, v: u64) -> [u64; 5]
 
 // One item of a line read on from a row.
 fn line_item(table: &[u64], labels: u32, x: u8, row: [u64; 5], text: &[u8], at: usize) -> Line
-    ensures { λ r. ⌜ lineOutcome r (now (text .entry)) ≡ itemLine (lettersAt labels (drop 1 (now (table .entry)))) (itemOf x) row (drop at (now (text .entry))) ⌝ }
+    ensures answer { λ r. ⌜ lineOutcome r (now (text .entry))
+        ≡ itemLine (lettersAt labels (drop 1 (now (table .entry)))) (itemOf x) row (drop at (now (text .entry))) ⌝ }
 {
     let c = place_of(x);
     let t = take_item(table, labels, x, text, at);
@@ -174,9 +181,12 @@ fn line_item(table: &[u64], labels: u32, x: u8, row: [u64; 5], text: &[u8], at: 
     }
 }
 
-// The line at a place of the text against the items at a place of the format, read into an empty row.
+// The line at a place of the text against the items at a place of the format, read into an empty
+// row.
 pub fn read_line(table: &[u64], labels: u32, o: usize, text: &[u8], at: usize) -> Line
-    ensures { λ r. ⌜ lineOutcome r (now (text .entry)) ≡ readItems (lettersAt labels (drop 1 (now (table .entry)))) (itemsAt o) blank (drop at (now (text .entry))) ⌝ }
+    ensures answer { λ r. ⌜ lineOutcome r (now (text .entry))
+        ≡ readItems (lettersAt labels (drop 1 (now (table .entry)))) (itemsAt o) blank
+        (drop at (now (text .entry))) ⌝ }
 {
     let mut row = [0u64; 5];
     let mut place = at;

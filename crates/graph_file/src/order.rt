@@ -10,21 +10,21 @@ ghost use Rattle.graph_file.specs.Table.{pairsAt};
 
 // Order pair i.
 fn pair_at(table: &[u64], labels: u32, i: u32) -> [u64; 5]
-    ensures { λ r. ⌜ r ≡ rowOf (drop (1 + 6 * labels + 6 * i) (now (table .entry))) ⌝ }
+    ensures answer { λ r. ⌜ r ≡ rowOf (drop (1 + 6 * labels + 6 * i) (now (table .entry))) ⌝ }
 {
     row_at(table, 1 + 6 * (labels as usize) + 6 * (i as usize))
 }
 
 // Has the pair these ends?
 fn same_ends(a: u64, b: u64, pair: [u64; 5]) -> bool
-    ensures { λ r. ⌜ r ≡ sameEnds a b pair ⌝ }
+    ensures answer { λ r. ⌜ r ≡ sameEnds a b pair ⌝ }
 {
     value(pair, 0) == a && value(pair, 1) == b
 }
 
 // Is there a pair with these ends?
 fn has_pair(table: &[u64], labels: u32, pairs: u32, a: u64, b: u64) -> bool
-    ensures { λ r. ⌜ r ≡ someRow (sameEnds a b) (pairsAt labels pairs (now (table .entry))) ⌝ }
+    ensures answer { λ r. ⌜ r ≡ someRow (sameEnds a b) (pairsAt labels pairs (now (table .entry))) ⌝ }
 {
     let mut i: u32 = 0;
     while i < pairs {
@@ -38,14 +38,15 @@ fn has_pair(table: &[u64], labels: u32, pairs: u32, a: u64, b: u64) -> bool
 
 // After a pair a, b: is this a pair b, c such that there is no a, c?
 fn is_gap(table: &[u64], labels: u32, pairs: u32, a: u64, b: u64, pair: [u64; 5]) -> bool
-    ensures { λ r. ⌜ r ≡ gap (pairsAt labels pairs (now (table .entry))) a b pair ⌝ }
+    ensures answer { λ r. ⌜ r ≡ gap (pairsAt labels pairs (now (table .entry))) a b pair ⌝ }
 {
     value(pair, 0) == b && !has_pair(table, labels, pairs, a, value(pair, 1))
 }
 
 // Does a gap follow the pair a, b?
 fn has_gap(table: &[u64], labels: u32, pairs: u32, a: u64, b: u64) -> bool
-    ensures { λ r. ⌜ r ≡ someRow (gap (pairsAt labels pairs (now (table .entry))) a b) (pairsAt labels pairs (now (table .entry))) ⌝ }
+    ensures answer { λ r. ⌜ r ≡ someRow (gap (pairsAt labels pairs (now (table .entry))) a b)
+        (pairsAt labels pairs (now (table .entry))) ⌝ }
 {
     let mut i: u32 = 0;
     while i < pairs {
@@ -59,7 +60,7 @@ fn has_gap(table: &[u64], labels: u32, pairs: u32, a: u64, b: u64) -> bool
 
 // Has the pair equal ends, or does a gap follow it?
 fn is_fault(table: &[u64], labels: u32, pairs: u32, pair: [u64; 5]) -> bool
-    ensures { λ r. ⌜ r ≡ pairFault (pairsAt labels pairs (now (table .entry))) pair ⌝ }
+    ensures answer { λ r. ⌜ r ≡ pairFault (pairsAt labels pairs (now (table .entry))) pair ⌝ }
 {
     let a = value(pair, 0);
     let b = value(pair, 1);
@@ -68,7 +69,7 @@ fn is_fault(table: &[u64], labels: u32, pairs: u32, pair: [u64; 5]) -> bool
 
 // Does refusal 6 hold of the table's order pairs?
 pub fn order_fault(table: &[u64], labels: u32, pairs: u32) -> bool
-    ensures { λ r. ⌜ r ≡ orderFault (pairsAt labels pairs (now (table .entry))) ⌝ }
+    ensures answer { λ r. ⌜ r ≡ orderFault (pairsAt labels pairs (now (table .entry))) ⌝ }
 {
     let mut i: u32 = 0;
     while i < pairs {

@@ -1,25 +1,31 @@
 // The file's text read into a table, section by section.
 use crate::admission::admitted;
+use crate::cells::copy_cells;
+use crate::cells::put_row;
+use crate::format::TEXT_BYTES;
 use crate::format::least;
+use crate::format::most;
 use crate::format::names_place;
 use crate::format::row_place;
 use crate::line::read_line;
 use crate::order::order_fault;
 use crate::rows::Counts;
+use crate::rows::OWN_CELLS;
 use crate::rows::value;
+use text_field::Answer;
 use text_field::byte_at;
-use text_field::cell;
 use text_field::is_lower;
 ghost use mathlib.Core.Path.{_≡_};
 ghost use mathlib.Core.List.{List, [], _∷_};
 ghost use Prim.Native.Nat.{ℕ, suc, _+_, _*_, _<_, _≤_};
-ghost use lib.ListN.{length, take, drop};
-ghost use Rattle.text_field.specs.Buffer.{Buf, put, puts};
-ghost use Rattle.graph_file.specs.Format.{sectionAt, form};
-ghost use Rattle.graph_file.specs.File.{oneRow, throughRows, throughSection, throughSections, atStart, rowFollows, reading, readStage, readCells, answer, leaves};
-ghost use Rattle.graph_file.specs.Reader.{stageAt, partOutcome, Placed, RowTaken, RowsTaken, SectionTaken, countsAfter, answerOf};
+ghost use lib.ListN.{length, drop};
+ghost use Rattle.graph_file.specs.Format.{sectionAt, form, tableCells, ownCells};
+ghost use Rattle.graph_file.specs.File.{oneRow, throughRows, throughSection, throughSections, atStart, rowFollows, reading, readStage, readCells};
+ghost use Rattle.text_field.specs.Answer.{answer, leaves, answerOf};
+ghost use Rattle.graph_file.specs.Reader.{stageAt, partOutcome, Placed, RowTaken, RowsTaken, SectionTaken, countsAfter};
 
-// What a part of the way answers: a refusal or 0, the place after it in the text (read, or written), the place after it in the table, and what the rows count.
+// What a part of the way answers: a refusal or 0, the place after it in the text (read, or
+// written), the place after it in the table, and what the rows count.
 pub struct Part {
     pub refusal: u64,
     pub next: usize,
@@ -27,34 +33,10 @@ pub struct Part {
     pub counts: Counts,
 }
 
-// One cell where there is room, and the next place.
-fn put_cell(table: &mut [u64], n: usize, x: u64) -> usize
-    ensures { λ r. ⌜ _≡_ {A = Buf} (now (table .exit), r) (put (now (table .entry), n) x) ⌝ }
-{
-    if n < table.len() {
-        table[n] = x;
-        n + 1
-    } else {
-        n
-    }
-}
-
-// A row's six cells.
-fn put_row(table: &mut [u64], n: usize, k: u64, row: [u64; 5]) -> usize
-    ensures { λ r. ⌜ _≡_ {A = Buf} (now (table .exit), r) (puts (now (table .entry), n) (k ∷ row)) ⌝ }
-{
-    let a = put_cell(table, n, k);
-    let b = put_cell(table, a, value(row, 0));
-    let c = put_cell(table, b, value(row, 1));
-    let d = put_cell(table, c, value(row, 2));
-    let e = put_cell(table, d, value(row, 3));
-    put_cell(table, e, value(row, 4))
-}
-
 // The counts after a row of section k whose first value is v.
 pub fn counts_after(k: usize, c: Counts, v: u64) -> Counts
-    requires { ⌜ (c .labels < 4096) × (c .pairs < 4096) × (c .rows < 4096) ⌝ }
-    ensures { λ r. ⌜ r ≡ countsAfter k c v ⌝ }
+    requires few { ⌜ (c .labels < 4096) × (c .pairs < 4096) × (c .rows < 4096) ⌝ }
+    ensures answer { λ r. ⌜ r ≡ countsAfter k c v ⌝ }
 {
     let rows = c.rows + 1;
     if k == 0 {
@@ -89,11 +71,22 @@ pub fn counts_after(k: usize, c: Counts, v: u64) -> Counts
     }
 }
 
-// One row of section k at a place of the section's part of the text, written after the table's first n cells.
-fn read_row(k: usize, part: &[u8], at: usize, table: &mut [u64], n: usize, c: Counts) -> Part
-    requires { ⌜ (n + 6 ≤ length (now table)) × (n ≤ 12271) × Placed k n c ⌝ }
-    ensures { λ r. ⌜ partOutcome r (now (table .exit)) (now (part .entry)) ≡ oneRow reading k (stageAt (now (table .entry)) n c (drop at (now (part .entry)))) ⌝ }
-    ensures { λ r. ⌜ (r .refusal ≡ 0 → RowTaken k n c (r .cells) (r .counts)) ⌝ }
+// One row of section k at a place of the section's part of the text, written after the table's
+// first n cells.
+fn read_row(
+    k: usize,
+    limit: usize,
+    part: &[u8],
+    at: usize,
+    table: &mut [u64],
+    n: usize,
+    c: Counts,
+) -> Part
+    requires room { ⌜ (n + 6 ≤ length (now table)) × (n ≤ tableCells) × Placed k n c
+        × (limit ≡ sectionAt k .most) ⌝ }
+    ensures answer { λ r. ⌜ partOutcome r (now (table .exit)) (now (part .entry))
+        ≡ oneRow reading k (stageAt (now (table .entry)) n c (drop at (now (part .entry)))) ⌝ }
+    ensures taken { λ r. ⌜ (r .refusal ≡ 0 → RowTaken k n c (r .cells) (r .counts)) ⌝ }
 {
     let l = read_line(table, c.labels, row_place(k), part, at);
     if !l.ok {
@@ -107,7 +100,7 @@ fn read_row(k: usize, part: &[u8], at: usize, table: &mut [u64], n: usize, c: Co
     let row = l.row;
     let next = l.next;
     put_row(table, n, k as u64, row);
-    let a = admitted(k, table, n, c);
+    let a = admitted(k, limit, table, n, c);
     if a != 0 {
         return Part {
             refusal: a,
@@ -127,7 +120,7 @@ fn read_row(k: usize, part: &[u8], at: usize, table: &mut [u64], n: usize, c: Co
 
 // Does a row follow: neither the end of the text nor a lower-case letter?
 fn row_comes(part: &[u8], at: usize) -> bool
-    ensures { λ r. ⌜ r ≡ rowFollows (drop at (now (part .entry))) ⌝ }
+    ensures answer { λ r. ⌜ r ≡ rowFollows (drop at (now (part .entry))) ⌝ }
 {
     if part.len() <= at {
         return false;
@@ -136,17 +129,28 @@ fn row_comes(part: &[u8], at: usize) -> bool
 }
 
 // The rows of section k from a place of the section's part of the text on.
-fn read_rows(k: usize, part: &[u8], at: usize, table: &mut [u64], n: usize, c: Counts) -> Part
-    requires { ⌜ (n + 6 * suc (sectionAt k .most) ≤ length (now table)) × (n + 6 * sectionAt k .most ≤ 12271) × Placed k n c × (c .rows ≡ 0) ⌝ }
-    ensures { λ r. ⌜ partOutcome r (now (table .exit)) (now (part .entry)) ≡ throughRows reading (suc (sectionAt k .most)) k (stageAt (now (table .entry)) n c (drop at (now (part .entry)))) ⌝ }
-    ensures { λ r. ⌜ (r .refusal ≡ 0 → RowsTaken k n (r .cells) (r .counts)) ⌝ }
+fn read_rows(
+    k: usize,
+    limit: usize,
+    part: &[u8],
+    at: usize,
+    table: &mut [u64],
+    n: usize,
+    c: Counts,
+) -> Part
+    requires room { ⌜ (n + 6 * suc (sectionAt k .most) ≤ length (now table))
+        × (n + 6 * sectionAt k .most ≤ tableCells) × Placed k n c × (c .rows ≡ 0) × (limit ≡ sectionAt k .most) ⌝ }
+    ensures answer { λ r. ⌜ partOutcome r (now (table .exit)) (now (part .entry))
+        ≡ throughRows reading (suc (sectionAt k .most)) k
+        (stageAt (now (table .entry)) n c (drop at (now (part .entry)))) ⌝ }
+    ensures taken { λ r. ⌜ (r .refusal ≡ 0 → RowsTaken k n (r .cells) (r .counts)) ⌝ }
 {
     let mut place = at;
     let mut m = n;
     let mut d = c;
     let mut more = row_comes(part, place);
     while more {
-        let r = read_row(k, part, place, table, m, d);
+        let r = read_row(k, limit, part, place, table, m, d);
         if r.refusal != 0 {
             return r;
         }
@@ -165,17 +169,22 @@ fn read_rows(k: usize, part: &[u8], at: usize, table: &mut [u64], n: usize, c: C
 
 // A place in the text, or its end where the place is past it.
 fn clipped(part: &[u8], at: usize) -> usize
-    ensures { λ r. ⌜ (drop r (now (part .entry)) ≡ drop at (now (part .entry))) × (r ≤ length (now (part .entry))) ⌝ }
+    ensures place { λ r. ⌜ (drop r (now (part .entry)) ≡ drop at (now (part .entry)))
+        × (r ≤ length (now (part .entry))) ⌝ }
 {
     if at < part.len() { at } else { part.len() }
 }
 
-// Section k, of which the part of the text begins at the names line.
+// Section k, of which the part of the text begins at the names line. Its limit is read from the
+// table of nine, once.
 fn read_section(k: usize, part: &[u8], table: &mut [u64], n: usize, c: Counts) -> Part
-    requires { ⌜ (n + 6 * suc (sectionAt k .most) ≤ length (now table)) × (n + 6 * sectionAt k .most ≤ 12271) × Placed k n c ⌝ }
-    ensures { λ r. ⌜ partOutcome r (now (table .exit)) (now (part .entry)) ≡ throughSection reading k (stageAt (now (table .entry)) n c (now (part .entry))) ⌝ }
-    ensures { λ r. ⌜ (r .refusal ≡ 0 → SectionTaken k n (length (now (part .entry))) r) ⌝ }
+    requires room { ⌜ (n + 6 * suc (sectionAt k .most) ≤ length (now table))
+        × (n + 6 * sectionAt k .most ≤ tableCells) × Placed k n c ⌝ }
+    ensures answer { λ r. ⌜ partOutcome r (now (table .exit)) (now (part .entry))
+        ≡ throughSection reading k (stageAt (now (table .entry)) n c (now (part .entry))) ⌝ }
+    ensures taken { λ r. ⌜ (r .refusal ≡ 0 → SectionTaken k n (length (now (part .entry))) r) ⌝ }
 {
+    let limit = most(k);
     let l = read_line(table, 0, names_place(k), part, 0);
     if !l.ok {
         return Part {
@@ -191,7 +200,7 @@ fn read_section(k: usize, part: &[u8], table: &mut [u64], n: usize, c: Counts) -
         scopes: c.scopes,
         rows: 0,
     };
-    let r = read_rows(k, part, l.next, table, n, begun);
+    let r = read_rows(k, limit, part, l.next, table, n, begun);
     if r.refusal != 0 {
         return r;
     }
@@ -214,9 +223,10 @@ fn read_section(k: usize, part: &[u8], table: &mut [u64], n: usize, c: Counts) -
 
 // The nine sections, each handed the rest of the text from its start.
 fn read_sections(text: &[u8], table: &mut [u64]) -> Part
-    requires { ⌜ length (now table) ≡ 12277 ⌝ }
-    ensures { λ r. ⌜ partOutcome r (now (table .exit)) (now (text .entry)) ≡ throughSections reading 9 0 (atStart (form ∷ []) (now (text .entry))) ⌝ }
-    ensures { λ r. ⌜ (r .refusal ≡ 0 → r .cells ≤ 12271) ⌝ }
+    requires room { ⌜ length (now table) ≡ ownCells ⌝ }
+    ensures answer { λ r. ⌜ partOutcome r (now (table .exit)) (now (text .entry))
+        ≡ throughSections reading 9 0 (atStart (form ∷ []) (now (text .entry))) ⌝ }
+    ensures size { λ r. ⌜ (r .refusal ≡ 0 → r .cells ≤ tableCells) ⌝ }
 {
     table[0] = 0;
     let mut k: usize = 0;
@@ -254,12 +264,12 @@ fn read_sections(text: &[u8], table: &mut [u64]) -> Part
     }
 }
 
-// The whole file: its length, its sections, its order. The nine sections admit 2,045 rows, so an accepted table has at most 1 + 6 * 2045 = 12,271 cells; the row
-// past a limit needs six more while it is tested.
+// The whole file: its length, its sections, its order.
 pub fn read_whole(text: &[u8], table: &mut [u64]) -> Part
-    requires { ⌜ length (now table) ≡ 12277 ⌝ }
-    ensures { λ r. ⌜ partOutcome r (now (table .exit)) (now (text .entry)) ≡ readStage (now (text .entry)) ⌝ }
-    ensures { λ r. ⌜ (r .refusal ≡ 0 → r .cells ≤ 12271) ⌝ }
+    requires room { ⌜ length (now table) ≡ ownCells ⌝ }
+    ensures answer { λ r. ⌜ partOutcome r (now (table .exit)) (now (text .entry))
+        ≡ readStage (now (text .entry)) ⌝ }
+    ensures size { λ r. ⌜ (r .refusal ≡ 0 → r .cells ≤ tableCells) ⌝ }
 {
     let none = Counts {
         labels: 0,
@@ -267,7 +277,7 @@ pub fn read_whole(text: &[u8], table: &mut [u64]) -> Part
         scopes: 0,
         rows: 0,
     };
-    if 32768 < text.len() {
+    if TEXT_BYTES < text.len() {
         return Part {
             refusal: 1,
             next: 0,
@@ -291,34 +301,13 @@ pub fn read_whole(text: &[u8], table: &mut [u64]) -> Part
     r
 }
 
-// What the host is told: a refusal, or how many cells or bytes were written.
-pub enum Answer {
-    Refused(u64),
-    Written(usize),
-}
-
-// The first n cells copied to the front of the lent table, as far as there is room.
-fn copy_cells(own: &[u64], n: usize, table: &mut [u64]) -> usize
-    ensures { λ r. ⌜ _≡_ {A = Buf} (now (table .exit), r) (puts (now (table .entry), 0) (take n (now (own .entry)))) ⌝ }
-{
-    let mut i: usize = 0;
-    let mut p: usize = 0;
-    while i < n {
-        if own.len() <= i {
-            return p;
-        }
-        p = put_cell(table, p, cell(own, i, 0));
-        i += 1;
-    }
-    p
-}
-
-// The text read into the lent table: how many cells were written, or the refusal. After a refusal the table is as it was.
+// The text read into the lent table: how many cells were written, or the refusal. After a refusal
+// the table is as it was.
 pub fn read(text: &[u8], table: &mut [u64]) -> Answer
-    ensures { λ r. ⌜ answerOf r ≡ answer (readCells (now (text .entry))) (length (now (table .entry))) ⌝ }
-    ensures { λ _. ⌜ now (table .exit) ≡ leaves (readCells (now (text .entry))) (now (table .entry)) ⌝ }
+    ensures answer { λ r. ⌜ answerOf r ≡ answer (readCells (now (text .entry))) (length (now (table .entry))) ⌝ }
+    ensures memory { λ _. ⌜ now (table .exit) ≡ leaves (readCells (now (text .entry))) (now (table .entry)) ⌝ }
 {
-    let mut own = [0u64; 12277];
+    let mut own = [0u64; OWN_CELLS];
     let r = read_whole(text, &mut own);
     if r.refusal != 0 {
         return Answer::Refused(r.refusal);

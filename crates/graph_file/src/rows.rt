@@ -7,7 +7,15 @@ ghost use Rattle.graph_file.specs.Admission.{rowOf};
 ghost use Rattle.graph_file.specs.Line.{place};
 ghost use Rattle.graph_file.specs.Table.{lettersAt};
 
-// What has been counted of the rows so far: the labels, the order pairs, the scopes that the file says it has, the rows of this section.
+// The cells of a table at most: the form, and six for each of the 2,045 rows that the nine sections
+// admit.
+pub const TABLE_CELLS: usize = 12271;
+
+// The reader's own table: the row past a limit needs six cells more while it is tested.
+pub const OWN_CELLS: usize = 12277;
+
+// What has been counted of the rows so far: the labels, the order pairs, the scopes that the file
+// says it has, the rows of this section.
 pub struct Counts {
     pub labels: u32,
     pub pairs: u32,
@@ -17,14 +25,14 @@ pub struct Counts {
 
 // A row's value at a place.
 pub fn value(row: [u64; 5], c: usize) -> u64
-    ensures { λ r. ⌜ r ≡ getD row c 0 ⌝ }
+    ensures answer { λ r. ⌜ r ≡ getD row c 0 ⌝ }
 {
     if c < 5 { row[c] } else { 0 }
 }
 
 // The row whose section number stands at place p of the table.
 pub fn row_at(table: &[u64], p: usize) -> [u64; 5]
-    ensures { λ r. ⌜ r ≡ rowOf (drop p (now (table .entry))) ⌝ }
+    ensures answer { λ r. ⌜ r ≡ rowOf (drop p (now (table .entry))) ⌝ }
 {
     if table.len() <= p {
         return [0; 5];
@@ -39,7 +47,7 @@ pub fn row_at(table: &[u64], p: usize) -> [u64; 5]
 
 // The number of the label whose letter is x; how many labels there are, if x is no label's.
 pub fn label_place(table: &[u64], labels: u32, x: u64) -> u32
-    ensures { λ r. ⌜ r ≡ place x (lettersAt labels (drop 1 (now (table .entry)))) ⌝ }
+    ensures answer { λ r. ⌜ r ≡ place x (lettersAt labels (drop 1 (now (table .entry)))) ⌝ }
 {
     let mut i: u32 = 0;
     while i < labels {

@@ -1,5 +1,6 @@
 // The name that a query seeks, handed back as the part of the lent text that holds it.
 use crate::reader::read_whole;
+use crate::rows::OWN_CELLS;
 use text_field::NameRead;
 use text_field::NumberRead;
 use text_field::byte_at;
@@ -20,14 +21,14 @@ pub struct NamePlace {
 
 // One for a byte that ends a line, 0 for any other.
 fn ends_line(b: u8) -> usize
-    ensures { λ r. ⌜ r ≡ lineCount (b ∷ []) ⌝ }
+    ensures answer { λ r. ⌜ r ≡ lineCount (b ∷ []) ⌝ }
 {
     if b == 10 { 1 } else { 0 }
 }
 
 // How many lines the text has.
 fn line_count(text: &[u8]) -> usize
-    ensures { λ r. ⌜ r ≡ lineCount (now (text .entry)) ⌝ }
+    ensures answer { λ r. ⌜ r ≡ lineCount (now (text .entry)) ⌝ }
 {
     let mut n: usize = 0;
     let mut i: usize = 0;
@@ -40,7 +41,7 @@ fn line_count(text: &[u8]) -> usize
 
 // How many lines are left to pass after a byte.
 fn lines_left(left: usize, b: u8) -> usize
-    ensures { λ r. ⌜ r ≡ left - lineCount (b ∷ []) ⌝ }
+    ensures answer { λ r. ⌜ r ≡ left - lineCount (b ∷ []) ⌝ }
 {
     let k = ends_line(b);
     if left < k { 0 } else { left - k }
@@ -48,7 +49,7 @@ fn lines_left(left: usize, b: u8) -> usize
 
 // The place after the first `lines` lines.
 fn after_lines(text: &[u8], lines: usize) -> usize
-    ensures { λ r. ⌜ drop r (now (text .entry)) ≡ afterLines lines (now (text .entry)) ⌝ }
+    ensures place { λ r. ⌜ drop r (now (text .entry)) ≡ afterLines lines (now (text .entry)) ⌝ }
 {
     let mut left = lines;
     let mut i: usize = 0;
@@ -62,9 +63,11 @@ fn after_lines(text: &[u8], lines: usize) -> usize
     i
 }
 
-// Where the name stands in the query's line at a place: behind the start and a space. The text's end where the line is of another form.
+// Where the name stands in the query's line at a place: behind the start and a space. The text's
+// end where the line is of another form.
 fn name_start(text: &[u8], at: usize) -> usize
-    ensures { λ r. ⌜ r ≡ length (now (text .entry)) - length (fromName (sectionAt querySection .row) (drop at (now (text .entry)))) ⌝ }
+    ensures answer { λ r. ⌜ r ≡ length (now (text .entry))
+        - length (fromName (sectionAt querySection .row) (drop at (now (text .entry)))) ⌝ }
 {
     let NumberRead::Number(_, a) = read_number(text, at) else {
         return text.len();
@@ -80,7 +83,7 @@ fn name_start(text: &[u8], at: usize) -> usize
 
 // The place after the name that stands at a place; the same place where none does.
 fn name_stop(text: &[u8], at: usize) -> usize
-    ensures { λ r. ⌜ r ≡ at + length (nameFront (drop at (now (text .entry)))) ⌝ }
+    ensures answer { λ r. ⌜ r ≡ at + length (nameFront (drop at (now (text .entry)))) ⌝ }
 {
     let NameRead::Name(_, _, end) = read_name(text, at) else {
         return at;
@@ -90,22 +93,24 @@ fn name_stop(text: &[u8], at: usize) -> usize
 
 // The name in the query's line after so many lines.
 fn name_after(text: &[u8], lines: usize) -> NamePlace
-    ensures { λ r. ⌜ r ≡ placeFrom (now (text .entry)) (fromName (sectionAt querySection .row) (afterLines lines (now (text .entry)))) ⌝ }
+    ensures answer { λ r. ⌜ r ≡ placeFrom (now (text .entry))
+        (fromName (sectionAt querySection .row) (afterLines lines (now (text .entry)))) ⌝ }
 {
     let from = name_start(text, after_lines(text, lines));
     let to = name_stop(text, from);
     NamePlace { from, to }
 }
 
-// Where the name that a query of the file seeks stands in the text; the text's end where a refusal stands in the way.
+// Where the name that a query of the file seeks stands in the text; the text's end where a refusal
+// stands in the way.
 pub fn name_place(text: &[u8], query: usize) -> NamePlace
-    ensures { λ r. ⌜ r ≡ placeSought (now (text .entry)) query ⌝ }
+    ensures answer { λ r. ⌜ r ≡ placeSought (now (text .entry)) query ⌝ }
 {
     let none = NamePlace {
         from: text.len(),
         to: text.len(),
     };
-    let mut own = [0u64; 12277];
+    let mut own = [0u64; OWN_CELLS];
     let r = read_whole(text, &mut own);
     if r.refusal != 0 {
         return none;
@@ -123,10 +128,11 @@ pub fn name_place(text: &[u8], query: usize) -> NamePlace
     name_after(text, lines - n + query)
 }
 
-// The name that a query of the file seeks, as a part of the lent text; an empty part where a refusal stands in the way. The contract speaks of the part's
-// bytes; that it is a part of the text, and no copy, is the function's type.
+// The name that a query of the file seeks, as a part of the lent text; an empty part where a
+// refusal stands in the way. The contract speaks of the part's bytes; that it is a part of the
+// text, and no copy, is the function's type.
 pub fn name_sought(text: &[u8], query: usize) -> &[u8]
-    ensures { λ r. ⌜ now r ≡ nameSought (now (text .entry)) query ⌝ }
+    ensures answer { λ r. ⌜ now r ≡ nameSought (now (text .entry)) query ⌝ }
 {
     let p = name_place(text, query);
     let from = p.from;

@@ -1,220 +1,36 @@
 // A graph table written as the file's text, section by section.
 use crate::admission::admitted;
-use crate::format::item;
+use crate::format::TEXT_BYTES;
 use crate::format::least;
+use crate::format::most;
 use crate::format::names_place;
 use crate::format::row_place;
+use crate::formed::is_formed;
+use crate::line_text::put_line;
 use crate::order::order_fault;
-use crate::reader::Answer;
 use crate::reader::Part;
 use crate::reader::counts_after;
 use crate::rows::Counts;
 use crate::rows::row_at;
 use crate::rows::value;
+use text_field::Answer;
 use text_field::cell;
-use text_field::is_name;
-use text_field::put_byte;
 use text_field::put_bytes;
-use text_field::put_name;
-use text_field::put_number;
 ghost use mathlib.Core.Path.{_≡_};
 ghost use mathlib.Core.List.{[]};
-ghost use Prim.Native.Nat.{suc, _+_, _*_, _%_, _≤_};
-ghost use lib.ListN.{length, getD, drop};
-ghost use Rattle.text_field.specs.Buffer.{Buf, puts};
-ghost use Rattle.graph_file.specs.Format.{valuesOf, everyItem, sectionAt};
+ghost use Prim.Native.Nat.{suc, _+_, _*_, _≤_};
+ghost use lib.ListN.{length, drop};
+ghost use Rattle.graph_file.specs.Format.{sectionAt, tableCells, textBytes};
 ghost use Rattle.graph_file.specs.Admission.{nothing};
-ghost use Rattle.graph_file.specs.Line.{endByte, fieldText, itemText, lineText, fieldFormed, itemFormed, sparesPlace, idleZero, idleZeros, formed};
-ghost use Rattle.graph_file.specs.Table.{kindOf, itemOf, itemsAt, lettersAt, sofarAt};
-ghost use Rattle.graph_file.specs.File.{oneRow, throughRows, throughSection, throughSections, whole, cellsFollow, hasForm, writing, writeText, answer, leaves};
-ghost use Rattle.graph_file.specs.Reader.{Placed, RowTaken, RowsTaken, answerOf};
+ghost use Rattle.graph_file.specs.Table.{itemsAt, sofarAt};
+ghost use Rattle.graph_file.specs.File.{oneRow, throughRows, throughSection, throughSections, whole, cellsFollow, hasForm, writing, writeText};
+ghost use Rattle.text_field.specs.Answer.{answer, leaves, answerOf};
+ghost use Rattle.graph_file.specs.Reader.{Placed, RowTaken, RowsTaken};
 ghost use Rattle.graph_file.specs.Writer.{rowFormed, stageFrom, pour, partWritten, countsBegun};
-
-// Has the value of a field of this kind a text of its form?
-fn field_formed(kind: u8, v: u64, w: u64) -> bool
-    ensures { λ r. ⌜ r ≡ fieldFormed (kindOf kind) v w ⌝ }
-{
-    if kind < 4 {
-        return v <= 99999;
-    }
-    match kind {
-        4 => 65 <= v && v <= 90,
-        5 => true,
-        6 => true,
-        _ => is_name(v, w),
-    }
-}
-
-// The same of the item of a code, whose values the row holds.
-fn item_formed(x: u8, row: [u64; 5]) -> bool
-    ensures { λ r. ⌜ r ≡ itemFormed row (itemOf x) ⌝ }
-{
-    if x < 128 {
-        return true;
-    }
-    let c = (x % 8) as usize;
-    field_formed((x - 128) / 8, value(row, c), value(row, c + 1))
-}
-
-// Has every field of the row a text, by the items at a place of the format?
-fn items_formed(o: usize, row: [u64; 5]) -> bool
-    ensures { λ r. ⌜ r ≡ everyItem (itemFormed row) (itemsAt o) ⌝ }
-{
-    let mut i = o;
-    let mut x = item(i);
-    while x != 10 {
-        if !item_formed(x, row) {
-            return false;
-        }
-        i += 1;
-        x = item(i);
-    }
-    true
-}
-
-// How many of the row's values a field of this kind has.
-fn values_of(kind: u8) -> usize
-    ensures { λ r. ⌜ r ≡ valuesOf (kindOf kind) ⌝ }
-{
-    if kind < 7 { 1 } else { 2 }
-}
-
-// Does the item of a code leave place d of the row alone?
-fn spares_place(d: usize, x: u8) -> bool
-    ensures { λ r. ⌜ r ≡ sparesPlace d (itemOf x) ⌝ }
-{
-    if x < 128 {
-        return true;
-    }
-    let c = (x % 8) as usize;
-    d < c || c + values_of((x - 128) / 8) <= d
-}
-
-// Do all items leave it alone?
-fn is_spare(o: usize, d: usize) -> bool
-    ensures { λ r. ⌜ r ≡ everyItem (sparesPlace d) (itemsAt o) ⌝ }
-{
-    let mut i = o;
-    let mut x = item(i);
-    while x != 10 {
-        if !spares_place(d, x) {
-            return false;
-        }
-        i += 1;
-        x = item(i);
-    }
-    true
-}
-
-// A place that every item leaves alone holds 0.
-fn idle_zero(o: usize, row: [u64; 5], d: usize) -> bool
-    ensures { λ r. ⌜ r ≡ idleZero (itemsAt o) row d ⌝ }
-{
-    !is_spare(o, d) || value(row, d) == 0
-}
-
-fn idle_zeros(o: usize, row: [u64; 5]) -> bool
-    ensures { λ r. ⌜ r ≡ idleZeros (itemsAt o) row ⌝ }
-{
-    idle_zero(o, row, 0)
-        && (idle_zero(o, row, 1)
-            && (idle_zero(o, row, 2) && (idle_zero(o, row, 3) && idle_zero(o, row, 4))))
-}
-
-// Can the row be written by the items at a place of the format?
-fn is_formed(o: usize, row: [u64; 5]) -> bool
-    ensures { λ r. ⌜ r ≡ formed (itemsAt o) row ⌝ }
-{
-    items_formed(o, row) && idle_zeros(o, row)
-}
-
-// The letter of a label's number; 0 where there is no such label.
-fn letter_of(table: &[u64], labels: u32, v: u64) -> u64
-    ensures { λ r. ⌜ r ≡ getD (lettersAt labels (drop 1 (now (table .entry)))) v 0 ⌝ }
-{
-    if v < labels as u64 {
-        return cell(table, 1 + 6 * (v as usize) + 1, 0);
-    }
-    0
-}
-
-// The byte of a cell.
-fn byte_of(v: u64) -> u8
-    ensures { λ r. ⌜ r ≡ v % 256 ⌝ }
-{
-    (v % 256) as u8
-}
-
-// The byte of an end: the end mark `$`, or its label's letter.
-fn end_byte(table: &[u64], labels: u32, v: u64) -> u8
-    ensures { λ r. ⌜ r ≡ endByte (lettersAt labels (drop 1 (now (table .entry)))) v ⌝ }
-{
-    if v == 0 {
-        return b'$';
-    }
-    byte_of(letter_of(table, labels, v - 1))
-}
-
-// The text of a field of this kind.
-fn put_field(
-    table: &[u64],
-    labels: u32,
-    kind: u8,
-    v: u64,
-    w: u64,
-    out: &mut [u8],
-    n: usize,
-) -> usize
-    ensures { λ r. ⌜ _≡_ {A = Buf} (now (out .exit), r) (puts (now (out .entry), n) (fieldText (lettersAt labels (drop 1 (now (table .entry)))) (kindOf kind) v w)) ⌝ }
-{
-    if kind < 4 {
-        return put_number(out, n, v);
-    }
-    match kind {
-        4 => put_byte(out, n, byte_of(v)),
-        5 => put_byte(out, n, byte_of(letter_of(table, labels, v))),
-        6 => put_byte(out, n, end_byte(table, labels, v)),
-        _ => put_name(out, n, v, w),
-    }
-}
-
-// The text of the item of a code in a row's line.
-fn put_item(table: &[u64], labels: u32, x: u8, row: [u64; 5], out: &mut [u8], n: usize) -> usize
-    ensures { λ r. ⌜ _≡_ {A = Buf} (now (out .exit), r) (puts (now (out .entry), n) (itemText (lettersAt labels (drop 1 (now (table .entry)))) row (itemOf x))) ⌝ }
-{
-    if x < 128 {
-        return put_byte(out, n, x);
-    }
-    let c = (x % 8) as usize;
-    put_field(
-        table,
-        labels,
-        (x - 128) / 8,
-        value(row, c),
-        value(row, c + 1),
-        out,
-        n,
-    )
-}
-
-// The line of the items at a place of the format: a names line, or a row's line.
-fn put_line(table: &[u64], labels: u32, o: usize, row: [u64; 5], out: &mut [u8], n: usize) -> usize
-    ensures { λ r. ⌜ _≡_ {A = Buf} (now (out .exit), r) (puts (now (out .entry), n) (lineText (lettersAt labels (drop 1 (now (table .entry)))) (itemsAt o) row)) ⌝ }
-{
-    let mut i = o;
-    let mut k = n;
-    let mut x = item(i);
-    while x != 10 {
-        k = put_item(table, labels, x, row, out, k);
-        i += 1;
-        x = item(i);
-    }
-    put_byte(out, k, 10)
-}
 
 // Does a row of section k stand at place p?
 fn row_comes(k: usize, table: &[u64], p: usize) -> bool
-    ensures { λ r. ⌜ r ≡ cellsFollow k (drop p (now (table .entry))) ⌝ }
+    ensures answer { λ r. ⌜ r ≡ cellsFollow k (drop p (now (table .entry))) ⌝ }
 {
     if table.len() <= p {
         return false;
@@ -224,8 +40,8 @@ fn row_comes(k: usize, table: &[u64], p: usize) -> bool
 
 // Do six cells stand at place p, and can they be written by the items at a place of the format?
 fn row_formed(o: usize, table: &[u64], p: usize) -> bool
-    requires { ⌜ p ≤ 12271 ⌝ }
-    ensures { λ r. ⌜ r ≡ rowFormed (itemsAt o) (drop p (now (table .entry))) ⌝ }
+    requires room { ⌜ p ≤ tableCells ⌝ }
+    ensures answer { λ r. ⌜ r ≡ rowFormed (itemsAt o) (drop p (now (table .entry))) ⌝ }
 {
     if table.len() < p + 6 {
         return false;
@@ -234,10 +50,20 @@ fn row_formed(o: usize, table: &[u64], p: usize) -> bool
 }
 
 // The row at place p as a row of section k, its line put into the text at place n.
-fn write_row(k: usize, table: &[u64], p: usize, c: Counts, out: &mut [u8], n: usize) -> Part
-    requires { ⌜ (p ≤ 12271) × Placed k p c ⌝ }
-    ensures { λ r. ⌜ partWritten r (now (table .entry)) (now (out .exit)) ≡ pour (now (out .entry), n) (oneRow writing k (stageFrom (sofarAt (now (table .entry)) p c) (drop p (now (table .entry))))) ⌝ }
-    ensures { λ r. ⌜ (r .refusal ≡ 0 → RowTaken k p c (r .cells) (r .counts)) ⌝ }
+fn write_row(
+    k: usize,
+    limit: usize,
+    table: &[u64],
+    p: usize,
+    c: Counts,
+    out: &mut [u8],
+    n: usize,
+) -> Part
+    requires room { ⌜ (p ≤ tableCells) × Placed k p c × (limit ≡ sectionAt k .most) ⌝ }
+    ensures answer { λ r. ⌜ partWritten r (now (table .entry)) (now (out .exit))
+        ≡ pour (now (out .entry), n)
+        (oneRow writing k (stageFrom (sofarAt (now (table .entry)) p c) (drop p (now (table .entry))))) ⌝ }
+    ensures taken { λ r. ⌜ (r .refusal ≡ 0 → RowTaken k p c (r .cells) (r .counts)) ⌝ }
 {
     let o = row_place(k);
     if !row_formed(o, table, p) {
@@ -248,7 +74,7 @@ fn write_row(k: usize, table: &[u64], p: usize, c: Counts, out: &mut [u8], n: us
             counts: c,
         };
     }
-    let a = admitted(k, table, p, c);
+    let a = admitted(k, limit, table, p, c);
     if a != 0 {
         return Part {
             refusal: a,
@@ -269,17 +95,29 @@ fn write_row(k: usize, table: &[u64], p: usize, c: Counts, out: &mut [u8], n: us
 }
 
 // The rows of section k from place p on.
-fn write_rows(k: usize, table: &[u64], p: usize, c: Counts, out: &mut [u8], n: usize) -> Part
-    requires { ⌜ (p + 6 * sectionAt k .most ≤ 12271) × Placed k p c × (c .rows ≡ 0) ⌝ }
-    ensures { λ r. ⌜ partWritten r (now (table .entry)) (now (out .exit)) ≡ pour (now (out .entry), n) (throughRows writing (suc (sectionAt k .most)) k (stageFrom (sofarAt (now (table .entry)) p c) (drop p (now (table .entry))))) ⌝ }
-    ensures { λ r. ⌜ (r .refusal ≡ 0 → RowsTaken k p (r .cells) (r .counts)) ⌝ }
+fn write_rows(
+    k: usize,
+    limit: usize,
+    table: &[u64],
+    p: usize,
+    c: Counts,
+    out: &mut [u8],
+    n: usize,
+) -> Part
+    requires room { ⌜ (p + 6 * sectionAt k .most ≤ tableCells) × Placed k p c × (c .rows ≡ 0)
+        × (limit ≡ sectionAt k .most) ⌝ }
+    ensures answer { λ r. ⌜ partWritten r (now (table .entry)) (now (out .exit))
+        ≡ pour (now (out .entry), n)
+        (throughRows writing (suc (sectionAt k .most)) k
+        (stageFrom (sofarAt (now (table .entry)) p c) (drop p (now (table .entry))))) ⌝ }
+    ensures taken { λ r. ⌜ (r .refusal ≡ 0 → RowsTaken k p (r .cells) (r .counts)) ⌝ }
 {
     let mut next = n;
     let mut m = p;
     let mut d = c;
     let mut more = row_comes(k, table, m);
     while more {
-        let r = write_row(k, table, m, d, out, next);
+        let r = write_row(k, limit, table, m, d, out, next);
         if r.refusal != 0 {
             return r;
         }
@@ -298,7 +136,7 @@ fn write_rows(k: usize, table: &[u64], p: usize, c: Counts, out: &mut [u8], n: u
 
 // The counts where a section begins.
 fn counts_begun(c: Counts) -> Counts
-    ensures { λ r. ⌜ r ≡ countsBegun c ⌝ }
+    ensures answer { λ r. ⌜ r ≡ countsBegun c ⌝ }
 {
     Counts {
         labels: c.labels,
@@ -310,13 +148,16 @@ fn counts_begun(c: Counts) -> Counts
 
 // Section k from place p on: its names line, its rows, and that they are enough.
 fn write_section(k: usize, table: &[u64], p: usize, c: Counts, out: &mut [u8], n: usize) -> Part
-    requires { ⌜ (p + 6 * sectionAt k .most ≤ 12271) × Placed k p c ⌝ }
-    ensures { λ r. ⌜ partWritten r (now (table .entry)) (now (out .exit)) ≡ pour (now (out .entry), n) (throughSection writing k (stageFrom (sofarAt (now (table .entry)) p c) (drop p (now (table .entry))))) ⌝ }
-    ensures { λ r. ⌜ (r .refusal ≡ 0 → RowsTaken k p (r .cells) (r .counts)) ⌝ }
+    requires room { ⌜ (p + 6 * sectionAt k .most ≤ tableCells) × Placed k p c ⌝ }
+    ensures answer { λ r. ⌜ partWritten r (now (table .entry)) (now (out .exit))
+        ≡ pour (now (out .entry), n)
+        (throughSection writing k (stageFrom (sofarAt (now (table .entry)) p c) (drop p (now (table .entry))))) ⌝ }
+    ensures taken { λ r. ⌜ (r .refusal ≡ 0 → RowsTaken k p (r .cells) (r .counts)) ⌝ }
 {
+    let limit = most(k);
     let at = put_line(table, 0, names_place(k), [0; 5], out, n);
     let d = counts_begun(c);
-    let r = write_rows(k, table, p, d, out, at);
+    let r = write_rows(k, limit, table, p, d, out, at);
     if r.refusal != 0 {
         return r;
     }
@@ -334,7 +175,9 @@ fn write_section(k: usize, table: &[u64], p: usize, c: Counts, out: &mut [u8], n
 
 // The nine sections in turn, after which nothing may be left.
 fn write_sections(table: &[u64], out: &mut [u8]) -> Part
-    ensures { λ r. ⌜ partWritten r (now (table .entry)) (now (out .exit)) ≡ pour (now (out .entry), 0) (throughSections writing 9 0 (stageFrom nothing (drop 1 (now (table .entry))))) ⌝ }
+    ensures answer { λ r. ⌜ partWritten r (now (table .entry)) (now (out .exit))
+        ≡ pour (now (out .entry), 0)
+        (throughSections writing 9 0 (stageFrom nothing (drop 1 (now (table .entry))))) ⌝ }
 {
     let mut k: usize = 0;
     let mut n: usize = 0;
@@ -373,7 +216,8 @@ fn write_sections(table: &[u64], out: &mut [u8]) -> Part
 
 // The sections, and then the order of the pairs.
 fn write_graph(table: &[u64], out: &mut [u8]) -> Part
-    ensures { λ r. ⌜ partWritten r (now (table .entry)) (now (out .exit)) ≡ pour (now (out .entry), 0) (whole writing [] (drop 1 (now (table .entry)))) ⌝ }
+    ensures answer { λ r. ⌜ partWritten r (now (table .entry)) (now (out .exit))
+        ≡ pour (now (out .entry), 0) (whole writing [] (drop 1 (now (table .entry)))) ⌝ }
 {
     let r = write_sections(table, out);
     if r.refusal != 0 {
@@ -393,7 +237,7 @@ fn write_graph(table: &[u64], out: &mut [u8]) -> Part
 
 // Is the table's first cell there, and this form's?
 fn has_form(table: &[u64]) -> bool
-    ensures { λ r. ⌜ r ≡ hasForm (now (table .entry)) ⌝ }
+    ensures answer { λ r. ⌜ r ≡ hasForm (now (table .entry)) ⌝ }
 {
     if table.len() == 0 {
         return false;
@@ -401,16 +245,16 @@ fn has_form(table: &[u64]) -> bool
     cell(table, 0, 1) == 0
 }
 
-// The text of a graph table, put into the lent buffer: how many bytes it has, or the refusal.
-pub fn write(table: &[u64], out: &mut [u8]) -> Answer
-    ensures { λ r. ⌜ answerOf r ≡ answer (writeText (now (table .entry))) (length (now (out .entry))) ⌝ }
-    ensures { λ r. ⌜ now (out .exit) ≡ leaves (writeText (now (table .entry))) (now (out .entry)) ⌝ }
+// The text of a graph table made in working memory and then put into the lent buffer, where it has room.
+fn write_by(table: &[u64], text: &mut [u8], out: &mut [u8]) -> Answer
+    requires room { ⌜ length (now text) ≡ textBytes ⌝ }
+    ensures answer { λ r. ⌜ answerOf r ≡ answer (writeText (now (table .entry))) (length (now (out .entry))) ⌝ }
+    ensures memory { λ r. ⌜ now (out .exit) ≡ leaves (writeText (now (table .entry))) (now (out .entry)) ⌝ }
 {
     if !has_form(table) {
         return Answer::Refused(2);
     }
-    let mut text = [0u8; 32768];
-    let r = write_graph(table, &mut text);
+    let r = write_graph(table, text);
     if r.refusal != 0 {
         return Answer::Refused(r.refusal);
     }
@@ -420,4 +264,13 @@ pub fn write(table: &[u64], out: &mut [u8]) -> Answer
     }
     put_bytes(out, 0, &text[..n]);
     Answer::Written(n)
+}
+
+// The text of a graph table, put into the lent buffer: how many bytes it has, or the refusal.
+pub fn write(table: &[u64], out: &mut [u8]) -> Answer
+    ensures answer { λ r. ⌜ answerOf r ≡ answer (writeText (now (table .entry))) (length (now (out .entry))) ⌝ }
+    ensures memory { λ r. ⌜ now (out .exit) ≡ leaves (writeText (now (table .entry))) (now (out .entry)) ⌝ }
+{
+    let mut text = [0u8; TEXT_BYTES];
+    write_by(table, &mut text, out)
 }

@@ -1,5 +1,6 @@
--- Every refusal of every call has a number from 1 to 9, so the number of an answer tells it. Assumes nothing.
-use Prim.Native.Nat.{ℕ, zero, suc, _+_, _-_, _≤_, _<_}
+-- Every refusal of every call has a number of document 01's list, so it is below 64 and the number
+-- of an answer tells it. Assumes nothing.
+use Prim.Native.Nat.{ℕ, zero, suc, _+_, _-_, _*_, _/_, _%_, _≤_, _<_}
 use mathlib.Core.Path.{_≡_, refl, sym, ap, _∙_}
 use mathlib.Core.List.{List, [], _∷_, map}
 use mathlib.Core.Bool.{Bool, true, false, not}
@@ -13,22 +14,21 @@ use Rattle.text_field.specs.declared.NumberRead.the-variants.{Number, NoNumber}
 use Rattle.text_field.specs.declared.NameRead.{NameRead}
 use Rattle.text_field.specs.declared.NameRead.the-variants.{Name, NoName}
 use Rattle.text_field.specs.Bytes.{isCapital}
-use Rattle.text_field.specs.Number.{numberHere}
-use Rattle.text_field.specs.Name.{nameHere}
+use Rattle.text_field.specs.Number.{numberHere, numberPlaced, numberMeaning}
+use Rattle.text_field.specs.Name.{nameHere, nameMeaning}
 use Rattle.graph_file.specs.Format.{Item, byte, field, state, scope, mark, count, letter, label, end, name, Section, sectionAt, form}
-use Rattle.graph_file.specs.Outcome.{Outcome, refused, done, andThen, refuseIf}
+use Rattle.text_field.specs.Outcome.{Outcome, refused, done, andThen, refuseIf}
 use Rattle.graph_file.specs.Admission.{Row, Sofar, blank, rowOf, unless, inRange, follows, admission}
 use Rattle.graph_file.specs.Line.{Reading, numberTaken, nameTaken, byteTaken, place, endTaken, readField, startsWith, readItem, placeOf, readItems, lineText, formed}
 use Rattle.graph_file.specs.Order.{orderFault}
-use Rattle.graph_file.specs.File.{Piece, Way, Stage, ifAdmitted, afterRow, oneRow, throughRows, afterNames, enough, throughSection, isEmpty, throughSections, ordered, atStart, whole, readNames, readRow, reading, readStage, madeOf, readCells, writeNames, writeRow, writing, hasForm, writeText, answer}
-use Rattle.path_row.specs.declared.form.HeadRead.{HeadRead}
-use Rattle.path_row.specs.declared.form.HeadRead.the-variants.{Head, NoHead}
-use Rattle.path_row.specs.Form.{PathRow, headHere, rowBy, rowHere}
+use Rattle.graph_file.specs.File.{Piece, Way, Stage, ifAdmitted, afterRow, oneRow, throughRows, afterNames, enough, throughSection, isEmpty, throughSections, ordered, atStart, whole, readNames, readRow, reading, readStage, madeOf, readCells, writeNames, writeRow, writing, hasForm, writeText}
+use Rattle.text_field.specs.Answer.{answer}
+use Rattle.path_row.specs.Form.{PathRow, mostMark, mostScope, numberUpTo, Front, startBy, spaceBy, markBy, headHere, rowBy, rowHere}
 use Rattle.path_row.specs.Compare.{Comparison, compareRows, compareAnswer}
 use Rattle.resolution.specs.Listing.{listingOf, listingFor, summaryFor}
 use Rattle.judge.specs.Judge.{judgeOf, judgeAnswer}
-use Rattle.host.specs.Numbers.{told, comparisonCase, standingCase}
-use Rattle.host.specs.Listed.{Listed, listed, carried, heard, numbered, Plain, Numbers}
+use Rattle.host.specs.Numbers.{told, amountNumber, caseNumber, noSteps, written, comparisonCase, compared, standingCase, judged}
+use Rattle.host.specs.Listed.{lastRefusal, Listed, listed, carried, heard, amountIn, caseIn, numbered, Output, Cases, Numbers}
 
 -- what refuses by a number of the list, and goes on so
 then-listed : {A B : Type 0} (o : Outcome A) (f : A → Outcome B) → Listed o → ((a : A) → Listed (f a)) → Listed (andThen o f)
@@ -36,7 +36,7 @@ unfolding andThen
 then-listed _ f (listed n low high) h = listed n low high
 then-listed _ f (carried a) h = h a
 
-if-listed : {A : Type 0} (b : Bool) (n : ℕ) (o : Outcome A) → 1 ≤ n → n ≤ 9 → Listed o → Listed (refuseIf b n o)
+if-listed : {A : Type 0} (b : Bool) (n : ℕ) (o : Outcome A) → 1 ≤ n → n ≤ lastRefusal → Listed o → Listed (refuseIf b n o)
 unfolding refuseIf
 if-listed true n o low high h = listed n low high
 if-listed false n o low high h = h
@@ -46,12 +46,12 @@ two = listed 2 (omega arith) (omega arith)
 
 -- a line
 number-listed : (x : NumberRead) (t : List ℕ) → Listed (numberTaken x t)
-unfolding numberTaken
+unfolding numberTaken numberMeaning andThen
 number-listed (Number v w) t = carried _
 number-listed NoNumber t = two
 
 name-listed : (x : NameRead) (t : List ℕ) → Listed (nameTaken x t)
-unfolding nameTaken
+unfolding nameTaken nameMeaning andThen
 name-listed (Name h l w) t = carried _
 name-listed NoName t = two
 
@@ -91,17 +91,17 @@ items-listed ls (i ∷ items) row t =
     then-listed (readItem ls i t) _ (item-listed ls i t) (λ r. items-listed ls items (sets row (placeOf i) (r .values)) (r .rest))
 
 -- a row's admission
-unless-small : (b : Bool) (n m : ℕ) → n ≤ 9 → m ≤ 9 → unless b n m ≤ 9
+unless-small : (b : Bool) (n m : ℕ) → n ≤ lastRefusal → m ≤ lastRefusal → unless b n m ≤ lastRefusal
 unfolding unless
 unless-small true n m h k = k
 unless-small false n m h k = h
 
-admission-small : (s : Section) (st : Sofar) (row : Row) → admission s st row ≤ 9
+admission-small : (s : Section) (st : Sofar) (row : Row) → admission s st row ≤ lastRefusal
 unfolding admission
 admission-small s st row =
     unless-small _ 5 _ (omega arith) (unless-small _ 3 _ (omega arith) (unless-small _ 4 0 (omega arith) (omega arith)))
 
-admitted-listed : (n : ℕ) (g : Stage) → n ≤ 9 → Listed (ifAdmitted n (done g))
+admitted-listed : (n : ℕ) (g : Stage) → n ≤ lastRefusal → Listed (ifAdmitted n (done g))
 unfolding ifAdmitted
 admitted-listed zero g h = carried g
 admitted-listed (suc n) g h = listed (suc n) (omega arith) h
@@ -195,14 +195,25 @@ unfolding summaryFor
 summary-listed text = then-listed (readCells text) _ (read-listed text) (λ cells. carried _)
 
 -- path rows
-by-head : (x : HeadRead) (s : List ℕ) → Listed (rowBy x s)
-unfolding rowBy
-by-head (Head m v width) s = if-listed _ 8 _ (omega arith) (omega arith) (carried _)
-by-head NoHead s = listed 8 (omega arith) (omega arith)
+start-listed : (m before : ℕ) (r : NumberRead) → Listed (startBy m before r)
+unfolding startBy numberMeaning numberPlaced andThen
+start-listed m before (Number v width) = carried _
+start-listed m before NoNumber = listed 8 (omega arith) (omega arith)
+
+mark-listed : (r : NumberRead) (s : List ℕ) → Listed (markBy r s)
+unfolding markBy spaceBy numberMeaning andThen
+mark-listed NoNumber s = listed 8 (omega arith) (omega arith)
+mark-listed (Number m width) s = by-space (startsWith 32 (drop width s))
+  where
+    by-space : (t : Bool) → Listed {A = Front} (elim t as (λ _. Outcome Front) [ true ↦ startBy m (width + 1) (numberUpTo mostScope (drop (width + 1) s)) | false ↦ refused 8 ])
+    by-space true = start-listed m (width + 1) (numberUpTo mostScope (drop (width + 1) s))
+    by-space false = listed 8 (omega arith) (omega arith)
 
 here-listed : (s : List ℕ) → Listed (rowHere s)
-unfolding rowHere
-here-listed s = if-listed _ 8 _ (omega arith) (omega arith) (by-head (headHere s) s)
+unfolding rowHere rowBy headHere
+here-listed s =
+    if-listed _ 8 _ (omega arith) (omega arith)
+    (then-listed (headHere s) _ (mark-listed (numberUpTo mostMark s) s) (λ h. if-listed _ 8 _ (omega arith) (omega arith) (carried _)))
 
 compare-listed : (text a b : List ℕ) (n m : ℕ) → Listed (compareAnswer text a b n m)
 unfolding compareAnswer compareRows
@@ -220,25 +231,44 @@ judge-listed text i row room =
     (then-listed (rowHere row) _ (here-listed row) (λ p. if-listed _ 9 _ (omega arith) (omega arith) (carried _))))
 
 -- the number tells the answer
-heard-low : (n : ℕ) → n < 16 → heard n ≡ refused n
+heard-low : {A : Type 0} (taken : ℕ → A) (n : ℕ) → n ≤ lastRefusal → heard taken n ≡ refused n
 unfolding heard
-heard-low n h = rw (lt-ltb n 16 h, heard)
+heard-low taken n h = rw (lt-ltb n 64 (omega (arith, h)), heard)
 
-heard-high : (k : ℕ) → heard (16 + k) ≡ done k
+heard-high : {A : Type 0} (taken : ℕ → A) (n : ℕ) → 64 ≤ n → heard taken n ≡ done (taken n)
 unfolding heard
-heard-high k = let z : 16 + k - 16 ≡ k = omega arith in rw (le-ltb (16 + k) 16 (omega arith), heard) (ap done z)
+heard-high taken n h = rw (le-ltb n 64 h, heard)
 
-plain : {A : Type 0} (case : A → ℕ) (o : Outcome A) → Listed o → Plain case o
-unfolding told numbered
-plain case _ (listed n low high) = (listed n low high, heard-low n (omega (arith, high)))
-plain case _ (carried a) = (carried a, heard-high (case a))
+amount-in : (n : ℕ) → amountIn (amountNumber n) ≡ n
+unfolding amountIn amountNumber
+amount-in n = omega arith
+
+-- for as many steps as a path has
+case-in : (case steps : ℕ) → steps < 64 → caseIn (caseNumber case steps) ≡ (case, steps)
+unfolding caseIn caseNumber
+case-in case steps h =
+    let c : (64 * (1 + case) + steps) / 64 - 1 ≡ case = omega (arith, h)
+    in let s : (64 * (1 + case) + steps) % 64 ≡ steps = omega (arith, h)
+    in rw (c, s)
+
+output : (o : Outcome ℕ) → Listed o → Output o
+unfolding told written amountNumber
+output _ (listed n low high) = (listed n low high, heard-low amountIn n high)
+output _ (carried a) = (carried a, heard-high amountIn (amountNumber a) (omega arith) ∙ ap done (amount-in a))
+
+cases : {A : Type 0} (case : A → ℕ) (o : Outcome A) → Listed o → Cases case (told (λ a. caseNumber (case a) noSteps)) o
+unfolding told numbered caseNumber noSteps
+cases case _ (listed n low high) = (listed n low high, heard-low caseIn n high)
+cases case _ (carried a) =
+    (carried a, heard-high caseIn (caseNumber (case a) noSteps) (omega arith) ∙ ap done (case-in (case a) noSteps (omega arith)))
 
 pub numbers : Numbers
+unfolding compared judged
 numbers = record {
-  read = λ text room. plain (λ n. n) (answer (readCells text) room) (answer-listed (readCells text) room (read-listed text));
-  write = λ cells room. plain (λ n. n) (answer (writeText cells) room) (answer-listed (writeText cells) room (write-listed cells));
-  listing = λ text query room. plain (λ n. n) (answer (listingFor text query) room) (answer-listed (listingFor text query) room (listing-listed text query));
-  summary = λ text room. plain (λ n. n) (answer (summaryFor text) room) (answer-listed (summaryFor text) room (summary-listed text));
-  judge = λ text query row room. plain standingCase (judgeAnswer text query row room) (judge-listed text query row room);
-  compare = λ text a b n m. plain comparisonCase (compareAnswer text a b n m) (compare-listed text a b n m);
+  read = λ text room. output (answer (readCells text) room) (answer-listed (readCells text) room (read-listed text));
+  write = λ cells room. output (answer (writeText cells) room) (answer-listed (writeText cells) room (write-listed cells));
+  listing = λ text query room. output (answer (listingFor text query) room) (answer-listed (listingFor text query) room (listing-listed text query));
+  summary = λ text room. output (answer (summaryFor text) room) (answer-listed (summaryFor text) room (summary-listed text));
+  judge = λ text query row room. cases standingCase (judgeAnswer text query row room) (judge-listed text query row room);
+  compare = λ text a b n m. cases comparisonCase (compareAnswer text a b n m) (compare-listed text a b n m);
 }

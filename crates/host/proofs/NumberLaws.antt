@@ -8,14 +8,14 @@ use borrow.Author.Tests.{ltb-false, eq-eqb, ne-eqb}
 use lib.Dec.{eqb, ltb}
 use lib.ListN.{length}
 use Rattle.graph_file.specs.declared.sought.NamePlace.{NamePlace}
-use Rattle.graph_file.specs.Outcome.{Outcome, refused, done, andThen, refuseIf}
-use Rattle.graph_file.specs.File.{answer}
+use Rattle.text_field.specs.Outcome.{Outcome, refused, done, andThen, refuseIf}
+use Rattle.text_field.specs.Answer.{answer}
 use Rattle.graph_file.specs.NameSought.{fromSought, nameFront, nameSought, placeFrom, placeSought}
-use Rattle.host.specs.Numbers.{Sized, placeLeft}
+use Rattle.host.specs.Numbers.{amountNumber, Sized, placeLeft}
 
 -- what was written fits its room, and a room its 63 bits
 pub answer-sized : (o : Outcome (List ℕ)) (room : ℕ) → room < 9223372036854775808 → Sized (answer o room)
-unfolding answer andThen refuseIf Sized
+unfolding answer andThen refuseIf Sized amountNumber
 answer-sized (refused n) room h = tt
 answer-sized (done out) room h = by-room (ltb room (length out)) refl
   where
@@ -28,7 +28,8 @@ pub sought-long : (text : List ℕ) (q : ℕ) → placeSought text q .to ≡ pla
 unfolding placeSought placeFrom nameSought
 sought-long text q = refl
 
--- no name stands where the place is empty, and the lent number stays; else its length is the place's, and the number is where it starts
+-- no name stands where the place is empty, and the lent number stays; else its length is the
+-- place's, and the number is where it starts
 module _ (text : List ℕ) (q lent : ℕ) (p : NamePlace) (e : p ≡ placeSought text q) where
   long : p .to ≡ p .from + length (nameSought text q)
   long = ap (λ (x : NamePlace). x .to) e ∙ sought-long text q ∙ ap (λ (x : NamePlace). x .from + length (nameSought text q)) (sym e)

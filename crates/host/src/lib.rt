@@ -1,5 +1,5 @@
-// What a host written in C or Rust calls. A slice is passed as its address and its length; every answer is one number, and include/tewhoranu.h names the
-// cases.
+// What a host written in C or Rust calls. A slice is passed as its address and its length; every answer is
+// one number, which include/tewhoranu.h takes apart; the name sought's is a length.
 mod numbers;
 
 use crate::numbers::compared_number;
@@ -15,7 +15,8 @@ use resolution::listing;
 use resolution::summary;
 ghost use mathlib.Core.Path.{_≡_};
 ghost use lib.ListN.{length};
-ghost use Rattle.graph_file.specs.File.{readCells, writeText, answer, leaves};
+ghost use Rattle.graph_file.specs.File.{readCells, writeText};
+ghost use Rattle.text_field.specs.Answer.{answer, leaves};
 ghost use Rattle.graph_file.specs.NameSought.{nameSought};
 ghost use Rattle.path_row.specs.Compare.{compareAnswer, stepsLeft};
 ghost use Rattle.resolution.specs.Listing.{listingFor, summaryFor};
@@ -25,8 +26,8 @@ ghost use Rattle.host.specs.Numbers.{written, compared, judged, placeLef
 // A gym file's text read into the lent table.
 #[no_mangle]
 pub extern "C" fn tewhoranu_read(text: &[u8], table: &mut [u64]) -> u64
-    ensures { λ r. ⌜ r ≡ written (answer (readCells (now (text .entry))) (length (now (table .entry)))) ⌝ }
-    ensures { λ _. ⌜ now (table .exit) ≡ leaves (readCells (now (text .entry))) (now (table .entry)) ⌝ }
+    ensures answer { λ r. ⌜ r ≡ written (answer (readCells (now (text .entry))) (length (now (table .entry)))) ⌝ }
+    ensures memory { λ _. ⌜ now (table .exit) ≡ leaves (readCells (now (text .entry))) (now (table .entry)) ⌝ }
 {
     written_number(read(text, table))
 }
@@ -34,17 +35,18 @@ pub extern "C" fn tewhoranu_read(text: &[u8], table: &mut [u64]) -> u64
 // A graph table written into the lent buffer as a gym file's text.
 #[no_mangle]
 pub extern "C" fn tewhoranu_write(table: &[u64], out: &mut [u8]) -> u64
-    ensures { λ r. ⌜ r ≡ written (answer (writeText (now (table .entry))) (length (now (out .entry)))) ⌝ }
-    ensures { λ _. ⌜ now (out .exit) ≡ leaves (writeText (now (table .entry))) (now (out .entry)) ⌝ }
+    ensures answer { λ r. ⌜ r ≡ written (answer (writeText (now (table .entry))) (length (now (out .entry)))) ⌝ }
+    ensures memory { λ _. ⌜ now (out .exit) ≡ leaves (writeText (now (table .entry))) (now (out .entry)) ⌝ }
 {
     written_number(write(table, out))
 }
 
-// The name that a query seeks: its length, 0 where a refusal stands in the way, and the place of its first byte in the text. No copy is made.
+// The name that a query seeks: its length, 0 where a refusal stands in the way, and the place of its first
+// byte in the text. No copy is made.
 #[no_mangle]
 pub extern "C" fn tewhoranu_name_sought(text: &[u8], query: usize, place: &mut u64) -> u64
-    ensures { λ r. ⌜ r ≡ length (nameSought (now (text .entry)) query) ⌝ }
-    ensures { λ _. ⌜ now (place .exit) ≡ placeLeft (now (text .entry)) query (now (place .entry)) ⌝ }
+    ensures answer { λ r. ⌜ r ≡ length (nameSought (now (text .entry)) query) ⌝ }
+    ensures place { λ _. ⌜ now (place .exit) ≡ placeLeft (now (text .entry)) query (now (place .entry)) ⌝ }
 {
     let p = name_place(text, query);
     let from = p.from;
@@ -59,8 +61,8 @@ pub extern "C" fn tewhoranu_name_sought(text: &[u8], query: usize, place: &mut u
 // A query's listing, written into the lent buffer.
 #[no_mangle]
 pub extern "C" fn tewhoranu_listing(text: &[u8], query: usize, out: &mut [u8]) -> u64
-    ensures { λ r. ⌜ r ≡ written (answer (listingFor (now (text .entry)) query) (length (now (out .entry)))) ⌝ }
-    ensures { λ _. ⌜ now (out .exit) ≡ leaves (listingFor (now (text .entry)) query) (now (out .entry)) ⌝ }
+    ensures answer { λ r. ⌜ r ≡ written (answer (listingFor (now (text .entry)) query) (length (now (out .entry)))) ⌝ }
+    ensures memory { λ _. ⌜ now (out .exit) ≡ leaves (listingFor (now (text .entry)) query) (now (out .entry)) ⌝ }
 {
     written_number(listing(text, query, out))
 }
@@ -73,13 +75,17 @@ pub extern "C" fn tewhoranu_judge<'s, 'o>(
     row: &'s [u8],
     steps: &'o mut [Step],
 ) -> u64
-    ensures { λ r. ⌜ (r ≡ judged (judgeAnswer (now (text .entry)) query (now (row .entry)) (length (now (steps .entry)))))
-        × (now (steps .exit) ≡ stepsLeft (judgeAnswer (now (text .entry)) query (now (row .entry)) (length (now (steps .entry)))) (now (row .entry)) (now (steps .entry))) ⌝ }
+    ensures answer_and_memory { λ r. ⌜
+        (r ≡ judged (judgeAnswer (now (text .entry)) query (now (row .entry)) (length (now (steps .entry)))))
+        × (now (steps .exit) ≡
+        stepsLeft (judgeAnswer (now (text .entry)) query (now (row .entry)) (length (now (steps .entry))))
+        (now (row .entry)) (now (steps .entry))) ⌝ }
 {
     judged_number(judge(text, query, row, steps))
 }
 
-// Which of two path rows is more specific, by the order of a gym file's text. The steps of each go into the table lent for it.
+// Which of two path rows is more specific, by the order of a gym file's text. The steps of each go into the
+// table lent for it.
 #[no_mangle]
 pub extern "C" fn tewhoranu_compare<'s, 'p, 'q>(
     text: &'s [u8],
@@ -88,9 +94,18 @@ pub extern "C" fn tewhoranu_compare<'s, 'p, 'q>(
     first: &'p mut [Step],
     second: &'q mut [Step],
 ) -> u64
-    ensures { λ r. ⌜ (r ≡ compared (compareAnswer (now (text .entry)) (now (a .entry)) (now (b .entry)) (length (now (first .entry))) (length (now (second .entry)))))
-        × (now (first .exit) ≡ stepsLeft (compareAnswer (now (text .entry)) (now (a .entry)) (now (b .entry)) (length (now (first .entry))) (length (now (second .entry)))) (now (a .entry)) (now (first .entry)))
-        × (now (second .exit) ≡ stepsLeft (compareAnswer (now (text .entry)) (now (a .entry)) (now (b .entry)) (length (now (first .entry))) (length (now (second .entry)))) (now (b .entry)) (now (second .entry))) ⌝ }
+    ensures answer_and_memory { λ r. ⌜
+        (r ≡ compared
+        (compareAnswer (now (text .entry)) (now (a .entry)) (now (b .entry))
+        (length (now (first .entry))) (length (now (second .entry)))))
+        × (now (first .exit) ≡ stepsLeft
+        (compareAnswer (now (text .entry)) (now (a .entry)) (now (b .entry))
+        (length (now (first .entry))) (length (now (second .entry))))
+        (now (a .entry)) (now (first .entry)))
+        × (now (second .exit) ≡ stepsLeft
+        (compareAnswer (now (text .entry)) (now (a .entry)) (now (b .entry))
+        (length (now (first .entry))) (length (now (second .entry))))
+        (now (b .entry)) (now (second .entry))) ⌝ }
 {
     compared_number(compare(text, a, b, first, second))
 }
@@ -98,8 +113,8 @@ pub extern "C" fn tewhoranu_compare<'s, 'p, 'q>(
 // The summary, written into the lent buffer.
 #[no_mangle]
 pub extern "C" fn tewhoranu_summary(text: &[u8], out: &mut [u8]) -> u64
-    ensures { λ r. ⌜ r ≡ written (answer (summaryFor (now (text .entry))) (length (now (out .entry)))) ⌝ }
-    ensures { λ _. ⌜ now (out .exit) ≡ leaves (summaryFor (now (text .entry))) (now (out .entry)) ⌝ }
+    ensures answer { λ r. ⌜ r ≡ written (answer (summaryFor (now (text .entry))) (length (now (out .entry)))) ⌝ }
+    ensures memory { λ _. ⌜ now (out .exit) ≡ leaves (summaryFor (now (text .entry))) (now (out .entry)) ⌝ }
 {
     written_number(summary(text, out))
 }

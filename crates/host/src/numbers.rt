@@ -1,44 +1,61 @@
 // The number of each answer.
-use graph_file::Answer;
 use judge::Judged;
 use path_row::compare::Compared;
+use text_field::Answer;
+ghost use Prim.Native.Nat.{_<_};
 ghost use mathlib.Core.Path.{_≡_};
-ghost use Rattle.graph_file.specs.Reader.{answerOf};
+ghost use Rattle.text_field.specs.Answer.{answerOf};
 ghost use Rattle.path_row.specs.Compare.{meaning};
 ghost use Rattle.judge.specs.Judge.{meaning as standing};
-ghost use Rattle.host.specs.Numbers.{written, compared, judged, Sized};
+ghost use Rattle.host.specs.Numbers.{caseNumber, written, compared, judged, Sized};
 
-// A refusal by its number, what was written by 16 and how much it is.
+// The first number that is no refusal. It is also how far apart two cases are, so that the steps of a path,
+// 63 at most, have room behind each.
+const ANSWERS: u64 = 64;
+
+// The steps that come with a case: none are counted.
+const NO_STEPS: u64 = 0;
+
+// A refusal by its number, what was written by how much it is.
 pub fn written_number(a: Answer) -> u64
-    requires { ⌜ Sized (answerOf a) ⌝ }
-    ensures { λ r. ⌜ r ≡ written (answerOf a) ⌝ }
+    requires sized { ⌜ Sized (answerOf a) ⌝ }
+    ensures answer { λ r. ⌜ r ≡ written (answerOf a) ⌝ }
 {
     match a {
         Answer::Refused(n) => n,
-        Answer::Written(n) => 16 + n as u64,
+        Answer::Written(n) => ANSWERS + n as u64,
     }
+}
+
+// A case and the steps that come with it.
+fn case_number(case: u64, steps: u64) -> u64
+    requires few_cases { ⌜ case < 64 ⌝ }
+    requires few_steps { ⌜ steps < 64 ⌝ }
+    ensures answer { λ r. ⌜ r ≡ caseNumber case steps ⌝ }
+{
+    ANSWERS * (1 + case) + steps
 }
 
 // A comparison by its number.
 pub fn compared_number(c: Compared) -> u64
-    ensures { λ r. ⌜ r ≡ compared (meaning c) ⌝ }
+    ensures answer { λ r. ⌜ r ≡ compared (meaning c) ⌝ }
 {
     match c {
-        Compared::First => 16,
-        Compared::Second => 17,
-        Compared::Neither => 18,
+        Compared::First => case_number(0, NO_STEPS),
+        Compared::Second => case_number(1, NO_STEPS),
+        Compared::Neither => case_number(2, NO_STEPS),
         Compared::Refused(n) => n,
     }
 }
 
 // A standing by its number.
 pub fn judged_number(j: Judged) -> u64
-    ensures { λ r. ⌜ r ≡ judged (standing j) ⌝ }
+    ensures answer { λ r. ⌜ r ≡ judged (standing j) ⌝ }
 {
     match j {
-        Judged::Visible => 16,
-        Judged::Shadowed => 17,
-        Judged::Unreached => 18,
+        Judged::Visible => case_number(0, NO_STEPS),
+        Judged::Shadowed => case_number(1, NO_STEPS),
+        Judged::Unreached => case_number(2, NO_STEPS),
         Judged::Refused(n) => n,
     }
 }

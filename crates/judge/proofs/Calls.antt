@@ -1,57 +1,83 @@
 -- How a row is refused, and how it is judged, call by call: of a table that was read, and of a text. Assumes nothing.
 use mathlib.Core.Path.{_≡_, refl, sym, ap, _∙_}
 use mathlib.Core.List.{List, []}
-use Prim.Native.Nat.{ℕ, _≤_, _<_}
+use mathlib.Core.Bool.{Bool, true, false}
+use Prim.Native.Nat.{ℕ, zero, suc, _≤_, _<_}
 use native.Mathlib.Omega.{arith}
-use borrow.Author.Tests.{le-leb, lt-leb, le-ltb, lt-ltb}
+use borrow.Author.Tests.{le-leb, lt-leb, leb-true, leb-false, le-ltb, lt-ltb, ltb-true, ltb-false}
 use lib.Dec.{leb, ltb}
 use lib.ListN.{length, getD, take}
 use Rattle.scope_graph.specs.Graph.{Query}
 use Rattle.scope_graph.specs.Rows.{language}
 use Rattle.scope_graph.specs.Computed.{Standing, judged}
 use Rattle.graph_file.specs.Format.{querySection}
-use Rattle.graph_file.specs.Outcome.{Outcome, refused, done, andThen, refuseIf}
+use Rattle.text_field.specs.Outcome.{Outcome, refused, done, andThen, refuseIf}
 use Rattle.graph_file.specs.Admission.{value, blank}
-use Rattle.graph_file.specs.File.{readCells, answer}
-use Rattle.graph_file.specs.Reader.{answerOf}
-use Rattle.graph_file.specs.Decode.{rulesOf, graphOf, queriesOf}
-use Rattle.graph_file.specs.declared.reader.Answer.{Answer}
-use Rattle.graph_file.specs.declared.reader.Answer.the-variants.{Refused, Written}
+use Rattle.graph_file.specs.File.{readCells}
+use Rattle.text_field.specs.Answer.{answer, answerOf}
+use Rattle.graph_file.specs.Decode.{rulesOf, graphOf, queriesOf, WasRead}
+use Rattle.text_field.specs.declared.answer.Answer.{Answer}
+use Rattle.text_field.specs.declared.answer.Answer.the-variants.{Refused, Written}
 use Rattle.prepared.specs.Sections.{partOf, rowsOf}
+use Rattle.path_row.specs.declared.form.Step.{Step}
 use Rattle.path_row.specs.declared.form.RowRead.{RowRead}
-use Rattle.path_row.specs.declared.form.RowRead.the-variants.{Row, NoRow}
-use Rattle.path_row.specs.Form.{PathRow, rowHere, rowAnswer, stepsIn}
-use Rattle.path_row.proofs.CompareSteps.{steps-shown, row-is-refused}
+use Rattle.path_row.specs.declared.form.RowRead.the-variants.{Row}
+use Rattle.path_row.specs.Form.{PathRow, rowHere, rowMeaning, rowInLarge, stepsIn}
+use Rattle.path_row.proofs.CompareSteps.{row-is}
 use Rattle.resolution.specs.Listing.{queryAt}
-use Rattle.resolution.specs.Asked.{WasRead, queryFrom}
+use Rattle.resolution.specs.Asked.{queryFrom}
 use Rattle.resolution.proofs.Heads.{count-is, query-is, refused-any, Made}
 use Rattle.judge.specs.declared.standing.Judged.{Judged}
 use Rattle.judge.specs.declared.standing.Judged.the-variants.{Refused as No}
 use Rattle.judge.specs.Judge.{meaning, ruled, judgeOf, judgeAnswer}
+use Rattle.judge.specs.Steps.{queryFault, roomFault, firstFault}
 
 -- a row that was read: all of it but its steps stands in the reader's answer, and its steps in its text
 pub record RowRead-is (s : List ℕ) (mark start count : ℕ) : Type 0 where
   pub read : rowHere s ≡ done (record { mark = mark; start = start; steps = stepsIn s })
   pub counts : length (stepsIn s) ≡ count
 
-pub row-read : (s : List ℕ) (a : RowRead) → a ≡ rowAnswer (rowHere s) → (mark start count : ℕ) → a ≡ Row mark start count → RowRead-is s mark start count
-unfolding rowAnswer
-row-read s a e mark start count f = by (rowHere s) refl (sym f ∙ e)
-  where
-    by : (o : Outcome PathRow) → rowHere s ≡ o → Row mark start count ≡ rowAnswer o → RowRead-is s mark start count
-    by (refused n) g h = absurd (let z : _≡_ {A = ℕ} 0 1 = cc in omega arith)
-    by (done p) g h =
-        let m : p .mark ≡ mark = cc in
-        let t : p .start ≡ start = cc in
-        let c : length (p .steps) ≡ count = cc in
-        let k : p .steps ≡ stepsIn s = steps-shown s p g in
-        let w : p ≡ record { mark = mark; start = start; steps = stepsIn s } = rw (← m, ← t, ← k) refl in
-        record { read = g ∙ ap {B = Outcome PathRow} (λ (z : PathRow). done z) w; counts = rw (← k) c }
+by-parts : (p : PathRow) (mark start : ℕ) (steps : List Step) → p .mark ≡ mark → p .start ≡ start → p .steps ≡ steps → p ≡ record { mark = mark; start = start; steps = steps }
+by-parts p mark start steps m t k = rw (← m, ← t, ← k) refl
+
+pub row-read : (s : List ℕ) (a : RowRead) → rowMeaning a ≡ rowInLarge s → (mark start count : ℕ) → a ≡ Row mark start count → RowRead-is s mark start count
+row-read s a e mark start count f =
+    let p = row-is s a e mark start count f in
+    let w = by-parts (p .row) mark start (stepsIn s) (p .marks) (p .starts) (p .steps) in
+    record { read = p .read ∙ ap {B = Outcome PathRow} (λ (z : PathRow). done z) w; counts = ap length (sym (p .steps)) ∙ p .counts }
+
+-- which refusal is told
+pub seven : (n i : ℕ) → n ≤ i → queryFault n i ≡ 7
+unfolding queryFault
+seven n i h = rw (le-leb n i h, queryFault)
+
+pub no-seven : (n i : ℕ) → i < n → queryFault n i ≡ 0
+unfolding queryFault
+no-seven n i h = rw (lt-leb n i h, queryFault)
+
+pub nine : (room count : ℕ) → room < count → roomFault room count ≡ 9
+unfolding roomFault
+nine room count h = rw (lt-ltb room count h, roomFault)
+
+pub no-nine : (room count : ℕ) → count ≤ room → roomFault room count ≡ 0
+unfolding roomFault
+no-nine room count h = rw (le-ltb room count h, roomFault)
+
+-- the tests of firstFault's code
+pub later-told : (sooner later : ℕ) → sooner ≡ 0 → later ≡ firstFault sooner later
+unfolding firstFault
+later-told zero later h = refl
+later-told (suc n) later h = absurd (omega arith)
+
+pub sooner-told : (sooner later : ℕ) → (sooner ≡ 0 → ⊥) → sooner ≡ firstFault sooner later
+unfolding firstFault
+sooner-told zero later h = absurd (h refl)
+sooner-told (suc n) later h = refl
 
 -- query i of a table that was read
 module _ (cells : List ℕ) (was : WasRead cells) (queries : List ℕ) (i n : ℕ) (part : queries ≡ partOf querySection cells) (counted : n ≡ length (rowsOf queries))
     (row : List ℕ) (room : ℕ) where
-  pub no-query : n ≤ i → meaning (No 7) ≡ judgeOf cells i row room
+  no-query : n ≤ i → meaning (No 7) ≡ judgeOf cells i row room
   unfolding meaning judgeOf refuseIf
   no-query h = rw (le-leb (length (queriesOf cells)) i (let c = count-is cells was queries i n part counted in omega arith))
 
@@ -61,9 +87,9 @@ module _ (cells : List ℕ) (was : WasRead cells) (queries : List ℕ) (i n : �
     unfolding judgeOf refuseIf
     asked = rw (lt-leb (length (queriesOf cells)) i (let c = count-is cells was queries i n part counted in omega arith))
 
-    pub no-row : rowHere row ≡ refused 8 → meaning (No 8) ≡ judgeOf cells i row room
+    bare-row : rowHere row ≡ refused 8 → meaning (No 8) ≡ judgeOf cells i row room
     unfolding meaning andThen
-    no-row e = sym (asked ∙ rw e)
+    bare-row e = sym (asked ∙ rw e)
 
     module _ (mark from count : ℕ) (p : RowRead-is row mark from count) where
       abbrev theRow : PathRow
@@ -73,7 +99,7 @@ module _ (cells : List ℕ) (was : WasRead cells) (queries : List ℕ) (i n : �
       unfolding andThen
       opened = asked ∙ rw (p .read, p .counts)
 
-      pub no-room : room < count → meaning (No 9) ≡ judgeOf cells i row room
+      no-room : room < count → meaning (No 9) ≡ judgeOf cells i row room
       unfolding meaning refuseIf
       no-room k = sym (opened ∙ rw (lt-ltb room count k))
 
@@ -87,6 +113,45 @@ module _ (cells : List ℕ) (was : WasRead cells) (queries : List ℕ) (i n : �
           ∙ ap {B = Outcome Standing} (λ (z : Query (language (rulesOf cells))). done (judged (language (rulesOf cells)) (graphOf cells) z (ruled cells theRow)))
           (query-is cells was queries i n part counted h start high low s x y)
           ∙ sym (opened ∙ rw (le-ltb room count k))
+
+  -- 7 is told before 8, and before 9
+  module _ (u : ℕ) (asks : u ≡ queryFault n i) where
+    pub no-row : (f : ℕ) → f ≡ firstFault u 8 → rowHere row ≡ refused 8 → meaning (No f) ≡ judgeOf cells i row room
+    unfolding firstFault
+    no-row f e bare = by (leb n i) refl
+      where
+        by : (t : Bool) → leb n i ≡ t → meaning (No f) ≡ judgeOf cells i row room
+        by true t = rw (e, asks, seven n i (leb-true n i t)) (no-query (leb-true n i t))
+        by false t = rw (e, asks, no-seven n i (leb-false n i t)) (bare-row (leb-false n i t) bare)
+
+    module _ (mark from count : ℕ) (p : RowRead-is row mark from count) (g f : ℕ) (fits : g ≡ roomFault room count) (e : f ≡ firstFault u g) where
+      pub is-asked : f ≡ 0 → i < n
+      unfolding firstFault
+      is-asked z = by (leb n i) refl
+        where
+          by : (t : Bool) → leb n i ≡ t → i < n
+          by true t = absurd (let y : f ≡ 7 = e ∙ rw (asks, seven n i (leb-true n i t)) in omega arith)
+          by false t = leb-false n i t
+
+      pub has-room : f ≡ 0 → count ≤ room
+      unfolding firstFault
+      has-room z = by (ltb room count) refl
+        where
+          by : (t : Bool) → ltb room count ≡ t → count ≤ room
+          by true t = absurd (let y : f ≡ 9 = e ∙ rw (asks, no-seven n i (is-asked z), fits, nine room count (ltb-true room count t)) in omega arith)
+          by false t = ltb-false room count t
+
+      pub faulty : (f ≡ 0 → ⊥) → meaning (No f) ≡ judgeOf cells i row room
+      unfolding firstFault
+      faulty z = by (leb n i) refl
+        where
+          by-room : i < n → (t : Bool) → ltb room count ≡ t → meaning (No f) ≡ judgeOf cells i row room
+          by-room h true t = rw (e, asks, no-seven n i h, fits, nine room count (ltb-true room count t)) (no-room h mark from count p (ltb-true room count t))
+          by-room h false t = absurd (z (e ∙ rw (asks, no-seven n i h, fits, no-nine room count (ltb-false room count t))))
+
+          by : (t : Bool) → leb n i ≡ t → meaning (No f) ≡ judgeOf cells i row room
+          by true t = rw (e, asks, seven n i (leb-true n i t)) (no-query (leb-true n i t))
+          by false t = by-room (leb-false n i t) (ltb room count) refl
 
 -- a text that is refused, and one that is read
 read-no : (text : List ℕ) (a : Answer) (n room : ℕ) → room ≡ 12271 → answerOf a ≡ answer (readCells text) room → a ≡ Refused n → readCells text ≡ refused n

@@ -20,7 +20,7 @@ use Rattle.scope_graph.proofs.Pigeon.{distinct-bounded}
 use Rattle.text_field.specs.Bytes.{isCapital}
 use Rattle.text_field.specs.Number.{numberText}
 use Rattle.graph_file.specs.Format.{labelSection}
-use Rattle.graph_file.specs.Outcome.{done}
+use Rattle.text_field.specs.Outcome.{done}
 use Rattle.graph_file.specs.Admission.{Row, value}
 use Rattle.graph_file.specs.File.{readCells}
 use Rattle.graph_file.specs.Decode.{rowsIn, rulesOf, graphOf, queriesOf, lettersOf, scopesOf}

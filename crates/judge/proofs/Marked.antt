@@ -4,11 +4,11 @@ use mathlib.Core.List.{List, [], _∷_}
 use Prim.Native.Nat.{ℕ}
 use Rattle.scope_graph.specs.Computed.{Standing, is-visible, is-shadowed, is-unreached, judged}
 use Rattle.text_field.specs.Bytes.{within, isDigit, isCapital}
-use Rattle.text_field.specs.Number.{growing, digitsFrom, numberHere}
-use Rattle.graph_file.specs.Outcome.{Outcome, done, andThen, refuseIf}
+use Rattle.text_field.specs.Number.{growing, digitsFrom, numberHere, numberPlaced, numberMeaning}
+use Rattle.text_field.specs.Outcome.{Outcome, done, andThen, refuseIf}
 use Rattle.graph_file.specs.File.{isEmpty}
 use Rattle.graph_file.specs.Line.{startsWith}
-use Rattle.path_row.specs.Form.{atMost, numberUpTo, stepBy, stepHere, stepsOf, afterSteps, startBy, markBy, headHere, rowBy, rowHere}
+use Rattle.path_row.specs.Form.{atMost, numberUpTo, stepBy, stepHere, stepsOf, afterSteps, startBy, spaceBy, markBy, headHere, rowBy, rowHere}
 use Rattle.path_row.specs.Compare.{numberFrom, labelNumber, hopOf, pathOf}
 use Rattle.resolution.specs.Marked.{exampleText}
 use Rattle.resolution.proofs.Marked.{answers, exampleCells, example-read}
@@ -21,7 +21,7 @@ unfolding judgeAnswer andThen
 of-table row s e = ap (λ (o : Outcome (List ℕ)). andThen o (λ cells. judgeOf cells 0 row 63)) example-read ∙ e
 
 pub m10 : M10
-unfolding answers within isDigit isCapital growing digitsFrom numberHere andThen refuseIf isEmpty startsWith atMost numberUpTo stepBy stepHere stepsOf afterSteps startBy markBy headHere rowBy rowHere numberFrom labelNumber hopOf pathOf judged ruled judgeOf
+unfolding answers within isDigit isCapital growing digitsFrom numberHere numberPlaced numberMeaning andThen refuseIf isEmpty startsWith atMost numberUpTo stepBy stepHere stepsOf afterSteps startBy spaceBy markBy headHere rowBy rowHere numberFrom labelNumber hopOf pathOf judged ruled judgeOf
 m10 = record {
   shadowed = of-table (49 ∷ 48 ∷ 32 ∷ 50 ∷ 80 ∷ 49 ∷ []) is-shadowed refl;
   visible = of-table (50 ∷ 49 ∷ 32 ∷ 50 ∷ []) is-visible refl;

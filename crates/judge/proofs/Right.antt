@@ -12,7 +12,7 @@ use Rattle.scope_graph.specs.Rows.{language}
 use Rattle.scope_graph.specs.Computed.{Standing, is-visible, is-shadowed, is-unreached, judged}
 use Rattle.scope_graph.specs.Promises.{QueryPromises}
 use Rattle.scope_graph.proofs.Promises.{promises}
-use Rattle.graph_file.specs.Outcome.{Outcome, refused, done, andThen, refuseIf}
+use Rattle.text_field.specs.Outcome.{Outcome, refused, done, andThen, refuseIf}
 use Rattle.graph_file.specs.File.{readCells}
 use Rattle.graph_file.specs.Decode.{rulesOf, graphOf, opensOf, queriesOf, scopesOf}
 use Rattle.path_row.specs.Form.{PathRow, rowHere}

@@ -14,7 +14,7 @@ use Rattle.scope_graph.specs.Path.{PathRow as RulesRow}
 use Rattle.scope_graph.specs.Rows.{PackedName, Rules, anyOf, sameName, language}
 use Rattle.scope_graph.specs.Computed.{Standing, is-visible, is-shadowed, is-unreached, keep, marksAt, standing, judged}
 use Rattle.graph_file.specs.Format.{countSection, declarationSection}
-use Rattle.graph_file.specs.Outcome.{Outcome, done}
+use Rattle.text_field.specs.Outcome.{Outcome, done}
 use Rattle.graph_file.specs.Admission.{Row, value, blank}
 use Rattle.graph_file.specs.Accepted.{AcceptedTable}
 use Rattle.graph_file.specs.Decode.{rowsIn, lettersOf, rulesOf, nameAt, declarationOf, graphOf, scopesOf}

@@ -19,7 +19,7 @@ use Rattle.search.proofs.Cells.{free-taken}
 use Rattle.prepared.specs.Sections.{rowsOf}
 use Rattle.path_row.specs.declared.form.StepRead.{StepRead}
 use Rattle.path_row.specs.declared.form.StepRead.the-variants.{Taken, NoStep}
-use Rattle.path_row.specs.Form.{stepHere, stepsOf, stepPlaced}
+use Rattle.path_row.specs.Form.{stepMeaning, stepFrom, stepsOf}
 use Rattle.path_row.specs.Compare.{labelNumber}
 use Rattle.path_row.specs.Scan.{scannedLetters}
 use Rattle.path_row.proofs.Steps.{steps-next, steps-none}
@@ -36,7 +36,7 @@ module _ (table row : List ℕ) where
   hops-full zero i h = refl
   hops-full (suc left) i h = absurd (omega arith)
 
-  module _ (i left : ℕ) (a : StepRead) (e : a ≡ stepPlaced i (stepHere (drop i row))) where
+  module _ (i left : ℕ) (a : StepRead) (e : stepMeaning a ≡ stepFrom i row) where
     pub hops-end : a ≡ NoStep → hops left i ≡ []
     unfolding hopsBy
     hops-end f = rw (steps-none row i left a e f)
@@ -141,7 +141,7 @@ module _ (edges delta goal order free : List ℕ) (s q l t : ℕ) (hs : List (Ho
       pub cut-on : r ≤ 15 → (free′ : List ℕ) → free′ ≡ set free t 0 → cut fuel free s q (hopTo l t ∷ hs) e ≡ cut (fuel - 1) free′ t r hs e
       cut-on g free′ m = split fuel h ∙ rw (← k, f) (leads-on edges delta goal free q l t r is _ g ∙ rw (m, free-taken free t))
 
--- the same with the steps that are left of a row
+-- a row is reached, and an end cut, along the steps that are left of the row
 module _ (table edges decls delta goal : List ℕ) (high low mark : ℕ) (row : List ℕ) (free : List ℕ) (s q i left : ℕ) where
   abbrev reaches : List ℕ → ℕ → ℕ → ℕ → ℕ → Bool
   reaches free′ s′ q′ left′ i′ = rowReached edges decls delta goal high low mark free′ s′ q′ (hops table row left′ i′)
@@ -149,7 +149,7 @@ module _ (table edges decls delta goal : List ℕ) (high low mark : ℕ) (row : 
   pub reaches-full : (u : Bool) → ((edges′ delta′ free′ : List ℕ) → u ≡ rowReached edges′ decls delta′ goal high low mark free′ s q []) → left ≤ 0 → u ≡ reaches free s q left i
   reaches-full u e h = rw (hops-full table row left i h) (e edges delta free)
 
-  module _ (a : StepRead) (e : a ≡ stepPlaced i (stepHere (drop i row))) where
+  module _ (a : StepRead) (e : stepMeaning a ≡ stepFrom i row) where
     pub reaches-end : (u : Bool) → ((edges′ delta′ free′ : List ℕ) → u ≡ rowReached edges′ decls delta′ goal high low mark free′ s q []) → a ≡ NoStep → u ≡ reaches free s q left i
     reaches-end u f n = rw (hops-end table row i left a e n) (f edges delta free)
 
@@ -176,7 +176,7 @@ module _ (table edges delta goal order row free : List ℕ) (s q i left fuel : �
   unfolding cutAlong
   cuts-none h = rw h
 
-  module _ (a : StepRead) (e : a ≡ stepPlaced i (stepHere (drop i row))) where
+  module _ (a : StepRead) (e : stepMeaning a ≡ stepFrom i row) where
     pub cuts-end : (u : Bool) → u ≡ stopped → a ≡ NoStep → u ≡ cuts fuel free s q left i
     unfolding endOf
     cuts-end u f n = rw (hops-end table row i left a e n) f

@@ -1,4 +1,5 @@
--- A path row judged for a query of a gym file (document 01, "Paths" and "Who can cause a refusal"). Assumes nothing: these are definitions.
+-- A path row judged for a query of a gym file (document 01, "Paths" and "Who can cause a refusal").
+-- Assumes nothing: these are definitions.
 use Prim.Native.Nat.{ℕ}
 use mathlib.Core.List.{List}
 use lib.Dec.{leb, ltb}
@@ -6,7 +7,7 @@ use lib.ListN.{length}
 use Rattle.scope_graph.specs.Rows.{language}
 use Rattle.scope_graph.specs.Path.{PathRow as RulesRow}
 use Rattle.scope_graph.specs.Computed.{Standing, is-visible, is-shadowed, is-unreached, judged}
-use Rattle.graph_file.specs.Outcome.{Outcome, refused, done, andThen, refuseIf}
+use Rattle.text_field.specs.Outcome.{Outcome, refused, done, andThen, refuseIf}
 use Rattle.graph_file.specs.File.{readCells}
 use Rattle.graph_file.specs.Decode.{rulesOf, graphOf, queriesOf, lettersOf}
 use Rattle.path_row.specs.Form.{PathRow, rowHere}
@@ -15,18 +16,21 @@ use Rattle.resolution.specs.Listing.{queryAt}
 use Rattle.judge.specs.declared.standing.Judged.{Judged}
 use Rattle.judge.specs.declared.standing.Judged.the-variants.{Visible, Shadowed, Unreached, Refused}
 
--- what an answer means: a refusal by its number, or one of the three standings (01, "Where each language form goes")
+-- what an answer means: a refusal by its number, or one of the three standings (01, "Where each
+-- language form goes")
 unfoldable pub meaning : Judged → Outcome Standing
 meaning Visible = done is-visible
 meaning Shadowed = done is-shadowed
 meaning Unreached = done is-unreached
 meaning (Refused n) = refused n
 
--- The row as the rules have it: its steps by their labels' numbers. A letter that is not listed has a number that no edge has.
+-- The row as the rules have it: its steps by their labels' numbers. A letter that is not listed has
+-- a number that no edge has.
 unfoldable pub ruled : (cells : List ℕ) → PathRow → RulesRow (language (rulesOf cells))
 ruled cells p = record { mark = p .mark; path = pathOf (rulesOf cells) (lettersOf cells) p }
 
--- With the graph table in hand: 7 where there is no query i, 8 for a row that is none, 9 where its steps outnumber the records lent for them.
+-- With the graph table in hand: 7 where there is no query i, 8 for a row that is none, 9 where its
+-- steps outnumber the records lent for them.
 unfoldable pub judgeOf : List ℕ → ℕ → List ℕ → ℕ → Outcome Standing
 judgeOf cells i row room =
     refuseIf (leb (length (queriesOf cells)) i) 7

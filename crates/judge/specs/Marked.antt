@@ -1,8 +1,9 @@
--- Document 01's marked trial M10, as the judge answers it, for the query `2 service` of the example's text. The value is in proofs/Marked.antt. Assumes nothing: these are statements.
+-- Document 01's marked trial M10, as the judge answers it, for the query `2 service` of the
+-- example's text. The value is in proofs/Marked.antt. Assumes nothing: these are statements.
 use mathlib.Core.Path.{_≡_}
 use mathlib.Core.List.{[], _∷_}
 use Rattle.scope_graph.specs.Computed.{is-visible, is-shadowed, is-unreached}
-use Rattle.graph_file.specs.Outcome.{done}
+use Rattle.text_field.specs.Outcome.{done}
 use Rattle.resolution.specs.Marked.{exampleText}
 use Rattle.judge.specs.Judge.{judgeAnswer}
 

@@ -1,5 +1,6 @@
--- What the judge answers is what the rules say (document 01, "Paths": visible, shadowed, unreached). This is the statement; proofs/Right.antt has the
--- value. Assumes nothing: these are definitions.
+-- What the judge answers is what the rules say (document 01, "Paths": visible, shadowed,
+-- unreached). This is the statement; proofs/Right.antt has the value. Assumes nothing: these are
+-- definitions.
 use Prim.Native.Nat.{ℕ, _≤_, _<_}
 use mathlib.Core.Path.{_≡_}
 use mathlib.Core.Logic.{_↔_}
@@ -8,14 +9,15 @@ use lib.ListN.{length}
 use Rattle.scope_graph.specs.Rows.{language}
 use Rattle.scope_graph.specs.Path.{Reached, Shadowed, MarkDeclared, Entry}
 use Rattle.scope_graph.specs.Computed.{Standing, is-visible, is-shadowed, is-unreached}
-use Rattle.graph_file.specs.Outcome.{done}
+use Rattle.text_field.specs.Outcome.{done}
 use Rattle.graph_file.specs.File.{readCells}
 use Rattle.graph_file.specs.Decode.{rulesOf, graphOf, queriesOf}
 use Rattle.path_row.specs.Form.{PathRow, rowHere}
 use Rattle.resolution.specs.Listing.{queryAt}
 use Rattle.judge.specs.Judge.{ruled, judgeAnswer}
 
--- The row has this standing for query i: its path is visible, shadowed or unreached, and one with a mark that no matching declaration has is unreached.
+-- The row has this standing for query i: its path is visible, shadowed or unreached, and one with a
+-- mark that no matching declaration has is unreached.
 abbrev pub Stands : (cells : List ℕ) → ℕ → PathRow → Standing → Type 0
 Stands cells i p is-visible = Entry (language (rulesOf cells)) (graphOf cells) (queryAt cells i) (ruled cells p)
 Stands cells i p is-shadowed =
@@ -32,7 +34,8 @@ pub record RightStanding (cells : List ℕ) (i : ℕ) (p : PathRow) (text row : 
   pub stands : Stands cells i p standing
   pub only : (s : Standing) → Stands cells i p s → s ≡ standing
 
--- every text that is read, every query of it, every row that is one and fits the records lent for its steps
+-- every text that is read, every query of it, every row that is one and fits the records lent for
+-- its steps
 abbrev pub JudgedRight : Type 0
 JudgedRight = (text cells : List ℕ) → readCells text ≡ done cells → (i : ℕ) → i < length (queriesOf cells)
     → (row : List ℕ) (p : PathRow) → rowHere row ≡ done p → (room : ℕ) → length (p .steps) ≤ room → RightStanding cells i p text row room

@@ -1,9 +1,10 @@
--- What the steps of the judge's code answer: a declaration's row, an edge that leaves a scope, the state after a hop, whether a row's path is reached. Assumes nothing: these are
+-- What the steps of the judge's code answer: which refusal is told, a declaration's row, an edge that
+-- leaves a scope, the state after a hop, whether a row's path is reached. Assumes nothing: these are
 -- definitions.
-use Prim.Native.Nat.{ℕ}
+use Prim.Native.Nat.{ℕ, zero, suc}
 use mathlib.Core.Bool.{Bool, true, false, _&&_}
 use mathlib.Core.List.{List, [], _∷_, map}
-use lib.Dec.{eqb}
+use lib.Dec.{eqb, leb, ltb}
 use Rattle.scope_graph.specs.Path.{HopOf}
 use Rattle.scope_graph.specs.Rows.{anyOf}
 use Rattle.graph_file.specs.Admission.{Row, value}
@@ -13,6 +14,19 @@ use Rattle.edge_rows.specs.Rows.{hopTo, rowHops}
 use Rattle.prepared.specs.Sections.{rowsOf}
 use Rattle.path_row.specs.declared.form.Step.{Step}
 use Rattle.path_row.specs.Compare.{labelNumber}
+
+-- The refusal of query number i where there are n queries, and of a table with room for fewer
+-- records than there are steps (01, "Who can cause a refusal"); 0 for none.
+unfoldable pub queryFault : ℕ → ℕ → ℕ
+queryFault n i = elim (leb n i) [ true ↦ 7 | false ↦ 0 ]
+
+unfoldable pub roomFault : ℕ → ℕ → ℕ
+roomFault room count = elim (ltb room count) [ true ↦ 9 | false ↦ 0 ]
+
+-- of two refusals the one that is told: the sooner one, if it is one
+unfoldable pub firstFault : ℕ → ℕ → ℕ
+firstFault zero later = later
+firstFault (suc n) later = suc n
 
 -- the row has these first four values
 unfoldable pub rowIs : ℕ → ℕ → ℕ → ℕ → Row → Bool
@@ -29,7 +43,8 @@ hasHop h hops = anyOf (λ k. eqb (k .step) (h .step) && eqb (k .to) (h .to)) hop
 unfoldable pub hopsBy : List ℕ → List Step → List (HopOf ℕ)
 hopsBy letters steps = map (λ (s : Step). hopTo (labelNumber letters (s .label)) (s .scope)) steps
 
--- the state after a hop to a free scope, or 16; and the same for a hop along an edge that leaves the scope
+-- the state after a hop to a free scope, or 16; and the same for a hop along an edge that leaves
+-- the scope
 unfoldable pub stateOn : List ℕ → List ℕ → ℕ → HopOf ℕ → ℕ
 stateOn delta free q h = elim (freeFlag free (h .to)) [ true ↦ nextCell delta q (h .step) | false ↦ 16 ]
 

@@ -15,7 +15,7 @@ ghost use Rattle.judge.specs.Steps.{rowIs, hasRow, hasHop, stateOn, stat
 
 // Does row i have these first values?
 fn row_is(rows: &[u64], i: usize, a: u64, b: u64, c: u64, d: u64) -> bool
-    ensures { λ r. ⌜ r ≡ rowIs a b c d (getD (rowsOf (now (rows .entry))) i blank) ⌝ }
+    ensures answer { λ r. ⌜ r ≡ rowIs a b c d (getD (rowsOf (now (rows .entry))) i blank) ⌝ }
 {
     if row_value(rows, i, 0) != a {
         return false;
@@ -31,7 +31,7 @@ fn row_is(rows: &[u64], i: usize, a: u64, b: u64, c: u64, d: u64) -> bool
 
 // Is there such a row?
 pub fn has_row(rows: &[u64], a: u64, b: u64, c: u64, d: u64) -> bool
-    ensures { λ r. ⌜ r ≡ hasRow a b c d (rowsOf (now (rows .entry))) ⌝ }
+    ensures answer { λ r. ⌜ r ≡ hasRow a b c d (rowsOf (now (rows .entry))) ⌝ }
 {
     let n = row_count(rows);
     let mut i: usize = 0;
@@ -73,7 +73,7 @@ fn has_edge(edges: &[u64], s: u64, label: u64, to: u64) -> bool
 
 // The state after a hop to a free scope; 16 or above for none.
 pub fn state_on(delta: &[u64], free: [u8; 64], q: u64, label: u64, to: u64) -> u64
-    ensures { λ r. ⌜ r ≡ stateOn (now (delta .entry)) free q (hopTo label to) ⌝ }
+    ensures answer { λ r. ⌜ r ≡ stateOn (now (delta .entry)) free q (hopTo label to) ⌝ }
 {
     if !is_free(free, to) {
         return 16;
@@ -81,7 +81,7 @@ pub fn state_on(delta: &[u64], free: [u8; 64], q: u64, label: u64, to: u64) -> u
     next_state(delta, q, label)
 }
 
-// The same along an edge that leaves the scope.
+// The state after a hop to a free scope along an edge that leaves the scope; 16 or above for none.
 pub fn state_along(
     edges: &[u64],
     delta: &[u64],
@@ -91,7 +91,7 @@ pub fn state_along(
     label: u64,
     to: u64,
 ) -> u64
-    ensures { λ r. ⌜ r ≡ stateAlong (now (edges .entry)) (now (delta .entry)) free s q (hopTo label to) ⌝ }
+    ensures answer { λ r. ⌜ r ≡ stateAlong (now (edges .entry)) (now (delta .entry)) free s q (hopTo label to) ⌝ }
 {
     if !has_edge(edges, s, label, to) {
         return 16;

@@ -29,7 +29,7 @@ ghost use Rattle.scope_graph.specs.Computed.{judged};
 ghost use Rattle.search.specs.Board.{cutAlong};
 ghost use Rattle.search.specs.Live.{Closed, any-way};
 ghost use Rattle.search.specs.Tables.{placeFlag, freeFlag, tableOrder, tableBoard};
-ghost use Rattle.graph_file.specs.Outcome.{done};
+ghost use Rattle.text_field.specs.Outcome.{done};
 ghost use Rattle.graph_file.specs.Decode.{rulesOf, graphOf};
 ghost use Rattle.path_row.specs.Form.{mostSteps, stepsOf, stepsIn};
 ghost use Rattle.path_row.specs.Scan.{scannedLetters};
@@ -47,7 +47,7 @@ pub enum Judged {
 
 // Is what is sought here, and declared with the mark?
 fn ends_here(decls: &[u64], goal: &[u64], high: u64, low: u64, mark: u64, s: u64, q: u64) -> bool
-    ensures { λ r. ⌜ ((edges delta free : List ℕ) → r ≡ rowReached edges (now (decls .entry)) delta (now (goal .entry)) high low mark free s q []) ⌝ }
+    ensures answer { λ r. ⌜ ((edges delta free : List ℕ) → r ≡ rowReached edges (now (decls .entry)) delta (now (goal .entry)) high low mark free s q []) ⌝ }
 {
     if !place(goal, s, q) {
         return false;
@@ -55,7 +55,8 @@ fn ends_here(decls: &[u64], goal: &[u64], high: u64, low: u64, mark: u64, s: u64
     has_row(decls, s, high, low, mark)
 }
 
-// Do the steps from place `at` of the row on lead from the start, along edges and by free scopes, to what is sought, declared with the mark?
+// Do the steps from place `at` of the row on lead from the start, along edges and by free scopes,
+// to what is sought, declared with the mark?
 fn is_reached(
     table: &[u64],
     edges: &[u64],
@@ -70,7 +71,7 @@ fn is_reached(
     row: &[u8],
     at: usize,
 ) -> bool
-    ensures { λ r. ⌜ r ≡ rowReached (now (edges .entry)) (now (decls .entry)) (now (delta .entry)) (now (goal .entry)) high low mark free start 0 (hopsBy (scannedLetters (now (table .entry))) (stepsOf mostSteps (drop at (now (row .entry))))) ⌝ }
+    ensures answer { λ r. ⌜ r ≡ rowReached (now (edges .entry)) (now (decls .entry)) (now (delta .entry)) (now (goal .entry)) high low mark free start 0 (hopsBy (scannedLetters (now (table .entry))) (stepsOf mostSteps (drop at (now (row .entry))))) ⌝ }
 {
     let mut left: usize = 63;
     let mut i = at;
@@ -110,8 +111,8 @@ fn end_cut(
     q: u64,
     e: u64,
 ) -> bool
-    requires { ⌜ Closed (tableBoard (now edges) (now delta) (now goal)) (placeFlag (now goal)) (any-way (tableBoard (now edges) (now delta) (now goal))) (freeFlag free) (placeFlag (now live)) ⌝ }
-    ensures { λ r. ⌜ r ≡ cutAlong (tableBoard (now (edges .entry)) (now (delta .entry)) (now (goal .entry))) (tableOrder (now (order .entry))) fuel (freeFlag free) s q [] (endOf e) ⌝ }
+    requires closed { ⌜ Closed (tableBoard (now edges) (now delta) (now goal)) (placeFlag (now goal)) (any-way (tableBoard (now edges) (now delta) (now goal))) (freeFlag free) (placeFlag (now live)) ⌝ }
+    ensures answer { λ r. ⌜ r ≡ cutAlong (tableBoard (now (edges .entry)) (now (delta .entry)) (now (goal .entry))) (tableOrder (now (order .entry))) fuel (freeFlag free) s q [] (endOf e) ⌝ }
 {
     if fuel == 0 {
         return false;
@@ -134,7 +135,7 @@ fn end_cut(
     told.cut
 }
 
-// The same of a label by its number.
+// Is the label with this number, as an end, cut at the scope and state? One past the labels is not.
 fn label_cut(
     edges: &[u64],
     delta: &[u64],
@@ -148,8 +149,8 @@ fn label_cut(
     q: u64,
     label: u64,
 ) -> bool
-    requires { ⌜ Closed (tableBoard (now edges) (now delta) (now goal)) (placeFlag (now goal)) (any-way (tableBoard (now edges) (now delta) (now goal))) (freeFlag free) (placeFlag (now live)) ⌝ }
-    ensures { λ r. ⌜ r ≡ cutAlong (tableBoard (now (edges .entry)) (now (delta .entry)) (now (goal .entry))) (tableOrder (now (order .entry))) fuel (freeFlag free) s q [] (by label) ⌝ }
+    requires closed { ⌜ Closed (tableBoard (now edges) (now delta) (now goal)) (placeFlag (now goal)) (any-way (tableBoard (now edges) (now delta) (now goal))) (freeFlag free) (placeFlag (now live)) ⌝ }
+    ensures answer { λ r. ⌜ r ≡ cutAlong (tableBoard (now (edges .entry)) (now (delta .entry)) (now (goal .entry))) (tableOrder (now (order .entry))) fuel (freeFlag free) s q [] (by label) ⌝ }
 {
     if 7 < label {
         return false;
@@ -169,8 +170,9 @@ fn label_cut(
     )
 }
 
-// Is some end cut where the steps from place `at` of the row on go by it, or `$` where they end? The table of places worth entering serves all the way: a closed one
-// stays closed with fewer free scopes.
+// Is some end cut where the steps from place `at` of the row on go by it, or `$` where they end?
+// The table of places worth entering serves all the way: a closed one stays closed with fewer free
+// scopes.
 fn is_cut(
     table: &[u64],
     edges: &[u64],
@@ -185,8 +187,8 @@ fn is_cut(
     row: &[u8],
     at: usize,
 ) -> bool
-    requires { ⌜ Closed (tableBoard (now edges) (now delta) (now goal)) (placeFlag (now goal)) (any-way (tableBoard (now edges) (now delta) (now goal))) (freeFlag free) (placeFlag (now live)) ⌝ }
-    ensures { λ r. ⌜ r ≡ cutAlong (tableBoard (now (edges .entry)) (now (delta .entry)) (now (goal .entry))) (tableOrder (now (order .entry))) scopes (freeFlag free) start 0 (hopsBy (scannedLetters (now (table .entry))) (stepsOf mostSteps (drop at (now (row .entry))))) stop ⌝ }
+    requires closed { ⌜ Closed (tableBoard (now edges) (now delta) (now goal)) (placeFlag (now goal)) (any-way (tableBoard (now edges) (now delta) (now goal))) (freeFlag free) (placeFlag (now live)) ⌝ }
+    ensures answer { λ r. ⌜ r ≡ cutAlong (tableBoard (now (edges .entry)) (now (delta .entry)) (now (goal .entry))) (tableOrder (now (order .entry))) scopes (freeFlag free) start 0 (hopsBy (scannedLetters (now (table .entry))) (stepsOf mostSteps (drop at (now (row .entry))))) stop ⌝ }
 {
     let mut left: usize = 63;
     let mut i = at;
@@ -223,12 +225,13 @@ fn is_cut(
 
 // All scopes are free but the start.
 fn free_from(start: u64) -> [u8; 64]
-    ensures { λ r. ⌜ r ≡ set (replicate 64 1) start 0 ⌝ }
+    ensures answer { λ r. ⌜ r ≡ set (replicate 64 1) start 0 ⌝ }
 {
     taken([1; 64], start)
 }
 
-// The standing of a row with this mark and start for a query of the table, by the query's start and name.
+// The standing of a row with this mark and start for a query of the table, by the query's start and
+// name.
 pub fn standing(
     table: &[u64],
     start: u64,
@@ -238,8 +241,8 @@ pub fn standing(
     from: u64,
     row: &[u8],
 ) -> Judged
-    requires { ⌜ Asked (now table) start ⌝ }
-    ensures { λ r. ⌜ meaning r ≡ done (judged (language (rulesOf (now (table .entry)))) (graphOf (now (table .entry))) (queryFrom (now (table .entry)) start high low) (ruled (now (table .entry)) (record { mark = mark; start = from; steps = stepsIn (now (row .entry)) }))) ⌝ }
+    requires asked { ⌜ Asked (now table) start ⌝ }
+    ensures answer { λ r. ⌜ meaning r ≡ done (judged (language (rulesOf (now (table .entry)))) (graphOf (now (table .entry))) (queryFrom (now (table .entry)) start high low) (ruled (now (table .entry)) (record { mark = mark; start = from; steps = stepsIn (now (row .entry)) }))) ⌝ }
 {
     if from != start {
         return Judged::Unreached;

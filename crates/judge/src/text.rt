@@ -1,31 +1,63 @@
 // A path row judged for a query of a graph table that was read, and of a text.
 use crate::standing::Judged;
 use crate::standing::standing;
-use graph_file::Answer;
+use graph_file::TABLE_CELLS;
 use graph_file::read;
 use path_row::form::RowRead;
 use path_row::form::read_row;
 use prepared::section;
 use resolution::row_count;
 use resolution::row_value;
+use text_field::Answer;
 ghost use mathlib.Core.Path.{_≡_};
-ghost use Rattle.resolution.specs.Asked.{WasRead};
+ghost use Rattle.graph_file.specs.Decode.{WasRead};
 ghost use Rattle.judge.specs.Judge.{meaning, judgeOf, judgeAnswer};
+ghost use Rattle.judge.specs.Steps.{queryFault, roomFault, firstFault};
 
-// The standing of a row for a query of a table that was read, where `room` records are lent for its steps: refusals 7, 8, 9.
+// The refusal of a query number, 7 where it is not below `count`, the number of queries; 0 for none.
+fn query_fault(count: usize, query: usize) -> u64
+    ensures answer { λ r. ⌜ r ≡ queryFault count query ⌝ }
+{
+    if count <= query {
+        return 7;
+    }
+    0
+}
+
+// The refusal of a table for `count` steps, 9 where it has too little room; 0 for none.
+fn room_fault(room: usize, count: usize) -> u64
+    ensures answer { λ r. ⌜ r ≡ roomFault room count ⌝ }
+{
+    if room < count {
+        return 9;
+    }
+    0
+}
+
+// Of two refusals the one that is told, where `sooner` is tested before `later`.
+fn first_fault(sooner: u64, later: u64) -> u64
+    ensures answer { λ r. ⌜ r ≡ firstFault sooner later ⌝ }
+{
+    if sooner == 0 {
+        return later;
+    }
+    sooner
+}
+
+// The standing of a row for a query of a table that was read, where `room` records are lent for its
+// steps: refusals 7, 8, 9.
 pub fn judge_of(table: &[u64], query: usize, row: &[u8], room: usize) -> Judged
-    requires { ⌜ WasRead (now table) ⌝ }
-    ensures { λ r. ⌜ meaning r ≡ judgeOf (now (table .entry)) query (now (row .entry)) room ⌝ }
+    requires read { ⌜ WasRead (now table) ⌝ }
+    ensures answer { λ r. ⌜ meaning r ≡ judgeOf (now (table .entry)) query (now (row .entry)) room ⌝ }
 {
     let queries = section(table, 8);
-    if row_count(queries) <= query {
-        return Judged::Refused(7);
-    }
+    let unasked = query_fault(row_count(queries), query);
     let RowRead::Row(mark, from, count) = read_row(row) else {
-        return Judged::Refused(8);
+        return Judged::Refused(first_fault(unasked, 8));
     };
-    if room < count {
-        return Judged::Refused(9);
+    let fault = first_fault(unasked, room_fault(room, count));
+    if fault != 0 {
+        return Judged::Refused(fault);
     }
     let start = row_value(queries, query, 0);
     let high = row_value(queries, query, 1);
@@ -33,11 +65,12 @@ pub fn judge_of(table: &[u64], query: usize, row: &[u8], room: usize) -> Judged
     standing(table, start, high, low, mark, from, row)
 }
 
-// The same for a query of a text: refusals 1 to 6 first. No file makes more than 12,271 cells.
+// The standing of a row for a query of a text: refusals 1 to 6, then those of `judge_of`. No file
+// makes more than 12,271 cells.
 pub fn judge_text<'s>(text: &'s [u8], query: usize, row: &'s [u8], room: usize) -> Judged
-    ensures { λ r. ⌜ meaning r ≡ judgeAnswer (now (text .entry)) query (now (row .entry)) room ⌝ }
+    ensures answer { λ r. ⌜ meaning r ≡ judgeAnswer (now (text .entry)) query (now (row .entry)) room ⌝ }
 {
-    let mut table = [0u64; 12271];
+    let mut table = [0u64; TABLE_CELLS];
     let a = read(text, &mut table);
     match a {
         Answer::Refused(n) => Judged::Refused(n),

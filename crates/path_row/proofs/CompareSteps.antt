@@ -8,8 +8,9 @@ use borrow.Author.Tests.{ne-eqb, eq-eqb, lt-ltb, le-ltb}
 use lib.Dec.{eqb, ltb}
 use lib.ListN.{length, drop}
 use lib.Seq.{drop-length}
-use Rattle.graph_file.specs.Outcome.{Outcome, refused, done, andThen, refuseIf}
+use Rattle.text_field.specs.Outcome.{Outcome, refused, done, andThen, refuseIf}
 use Rattle.graph_file.specs.File.{isEmpty}
+use Rattle.graph_file.proofs.DecodeWay.{andThen-done, done-is}
 use Rattle.scope_graph.specs.Language.{End, stop, by}
 use Rattle.scope_graph.specs.Rows.{preferredBy, language}
 use Rattle.scope_graph.specs.Computed.{preferredTo, sameHop, moreSpecific}
@@ -23,28 +24,28 @@ use Rattle.path_row.specs.declared.form.RowRead.{RowRead}
 use Rattle.path_row.specs.declared.form.RowRead.the-variants.{Row, NoRow}
 use Rattle.path_row.specs.declared.form.StepRead.{StepRead}
 use Rattle.path_row.specs.declared.form.StepRead.the-variants.{Taken, NoStep}
-use Rattle.path_row.specs.Form.{PathRow, mostSteps, mostBytes, stepHere, stepsOf, afterSteps, stepPlaced, headHere, rowBy, rowHere, rowAnswer, stepsAfter, stepsIn}
-use Rattle.graph_file.specs.Decode.{lettersOf}
+use Rattle.path_row.specs.Form.{PathRow, mostSteps, mostBytes, stepHere, stepsOf, afterSteps, stepPlaced, stepMeaning, stepFrom, Front, headMeaning, headHere, behindFront, firstStep, rowBy, rowHere, InLarge, inLarge, rowInLarge, rowMeaning, stepsAfter, stepsIn}
+use Rattle.graph_file.specs.Decode.{lettersOf, WasRead}
 use Rattle.scope_graph.specs.Rows.{Rules}
-use Rattle.path_row.specs.Compare.{Comparison, whichOf, first, second, neither, labelNumber, hopOf, pathOf, rowBefore, comparison, WasRead, compareRows}
+use Rattle.path_row.specs.Compare.{Comparison, whichOf, first, second, neither, labelNumber, hopOf, pathOf, rowBefore, comparison, compareRows}
 use Rattle.path_row.specs.Scan.{scannedLetters, scannedOrder, scannedRules, stepsPreferred, stepsCompared, endHere}
 use Rattle.path_row.specs.Compare.{meaning as meaningOf}
 use Rattle.path_row.specs.declared.compare.Compared.{Compared}
 use Rattle.path_row.specs.declared.compare.Compared.the-variants.{First, Second, Neither, Refused}
 use Rattle.path_row.proofs.FormLaws.{steps-on, steps-off, refuse-done, refuse-through}
-use Rattle.path_row.proofs.Steps.{steps-next, steps-none}
+use Rattle.path_row.proofs.Steps.{same-step, steps-next, steps-none}
 use Rattle.path_row.proofs.ScanLaws.{letters-scanned, rules-scanned}
 
 -- how a path goes on by a step that was read
-pub end-stop : (cells : List ℕ) (i : ℕ) (r a : StepRead) → a ≡ stepPlaced i r → a ≡ NoStep → meaning Stop ≡ endHere cells r
+pub end-stop : (cells : List ℕ) (i : ℕ) (r a : StepRead) → stepMeaning a ≡ stepMeaning (stepPlaced i r) → a ≡ NoStep → meaning Stop ≡ endHere cells r
 unfolding stepPlaced endHere meaning
 end-stop cells i NoStep a e f = refl
-end-stop cells i (Taken x v w) a e f = absurd (let z : _≡_ {A = ℕ} 0 1 = cc in omega arith)
+end-stop cells i (Taken x v w) a e f = absurd (let g = same-step a (Taken x v (i + w)) e in let z : _≡_ {A = ℕ} 0 1 = cc in omega arith)
 
-pub end-label : (cells : List ℕ) (i : ℕ) (r a : StepRead) (x v next n : ℕ) → a ≡ stepPlaced i r → a ≡ Taken x v next → n ≡ labelNumber (scannedLetters cells) x → meaning (Label n) ≡ endHere cells r
+pub end-label : (cells : List ℕ) (i : ℕ) (r a : StepRead) (x v next n : ℕ) → stepMeaning a ≡ stepMeaning (stepPlaced i r) → a ≡ Taken x v next → n ≡ labelNumber (scannedLetters cells) x → meaning (Label n) ≡ endHere cells r
 unfolding stepPlaced endHere meaning
-end-label cells i NoStep a x v next n e f g = absurd (let z : _≡_ {A = ℕ} 0 1 = cc in omega arith)
-end-label cells i (Taken y u w) a x v next n e f g = let p : y ≡ x = cc in rw (g, p)
+end-label cells i NoStep a x v next n e f g = absurd (let t = same-step a NoStep e in let z : _≡_ {A = ℕ} 0 1 = cc in omega arith)
+end-label cells i (Taken y u w) a x v next n e f g = let t = same-step a (Taken y u (i + w)) e in let p : y ≡ x = cc in rw (g, p)
 
 or-none : (u : Bool) → (u || false) ≡ u
 or-none true = refl
@@ -98,14 +99,14 @@ module _ (cells : List ℕ) where
     pub preferred-here : u ≡ true → here ≡ true
     preferred-here f = split ∙ rw f
 
-    module _ (f : u ≡ false) (r : StepRead) (e : r ≡ stepPlaced i (stepHere (drop i a))) where
+    module _ (f : u ≡ false) (r : StepRead) (e : stepMeaning r ≡ stepFrom i a) where
       onward : here ≡ further (stepsOf left (drop i a)) (stepsOf left (drop j b))
       onward = split ∙ rw f
 
       pub preferred-ends : r ≡ NoStep → here ≡ false
       preferred-ends n = onward ∙ rw (steps-none a i left r e n)
 
-      module _ (x v ni : ℕ) (n : r ≡ Taken x v ni) (r′ : StepRead) (e′ : r′ ≡ stepPlaced j (stepHere (drop j b))) where
+      module _ (x v ni : ℕ) (n : r ≡ Taken x v ni) (r′ : StepRead) (e′ : stepMeaning r′ ≡ stepFrom j b) where
         pub preferred-stops : r′ ≡ NoStep → here ≡ false
         preferred-stops n′ = onward ∙ rw (steps-none b j left r′ e′ n′) (further-none (stepsOf left (drop i a)))
 
@@ -128,66 +129,70 @@ module _ (cells : List ℕ) where
   preferred-full (suc n) s t u h m = absurd (omega arith)
 
 -- where a row's steps begin
-pub first-none : (s : List ℕ) (a : HeadRead) → a ≡ headHere s → a ≡ NoHead → stepsOf mostSteps (drop (length s) s) ≡ stepsIn s
-unfolding stepsIn stepsAfter stepsOf stepHere
-first-none s a e f = rw (drop-length s, ← e, f)
+pub first-none : (s : List ℕ) (a : HeadRead) → headMeaning a ≡ headHere s → a ≡ NoHead → length s ≡ firstStep s
+unfolding headMeaning firstStep behindFront
+first-none s a e f = rw (← e, f)
 
-pub first-some : (s : List ℕ) (a : HeadRead) (m v w : ℕ) → a ≡ headHere s → a ≡ Head m v w → stepsOf mostSteps (drop w s) ≡ stepsIn s
-unfolding stepsIn stepsAfter
+pub first-some : (s : List ℕ) (a : HeadRead) (m v w : ℕ) → headMeaning a ≡ headHere s → a ≡ Head m v w → w ≡ firstStep s
+unfolding headMeaning firstStep behindFront
 first-some s a m v w e f = rw (← e, f)
 
+-- the steps that a text shows are read from there on
+first-steps : (s : List ℕ) (o : Outcome Front) → stepsOf mostSteps (drop (behindFront o s) s) ≡ stepsAfter o s
+unfolding behindFront stepsAfter stepsOf stepHere
+first-steps s (done h) = refl
+first-steps s (refused n) = rw (drop-length s)
+
+pub steps-first : (s : List ℕ) (i : ℕ) → i ≡ firstStep s → stepsOf mostSteps (drop i s) ≡ stepsIn s
+unfolding firstStep stepsIn
+steps-first s i e = rw e (first-steps s (headHere s))
+
 -- a row that was read in the large
-pub record RowIs (s : List ℕ) (start count : ℕ) : Type 0 where
+pub record RowIs (s : List ℕ) (mark start count : ℕ) : Type 0 where
   pub row : PathRow
   pub read : rowHere s ≡ done row
+  pub marks : row .mark ≡ mark
   pub starts : row .start ≡ start
   pub counts : length (row .steps) ≡ count
   pub steps : row .steps ≡ stepsIn s
 
-refuse-eight : {A : Type 0} (t : Bool) (o : Outcome A) (n : ℕ) → ((k : ℕ) → o ≡ refused k → k ≡ 8) → refuseIf t 8 o ≡ refused n → n ≡ 8
-unfolding refuseIf
-refuse-eight true o n h e = cc
-refuse-eight false o n h e = h n e
-
-row-refused : (s : List ℕ) (h : HeadRead) (n : ℕ) → rowBy h s ≡ refused n → n ≡ 8
-unfolding rowBy
-row-refused s NoHead n e = cc
-row-refused s (Head m v w) n e =
-    refuse-eight (not (isEmpty (afterSteps mostSteps (drop w s)))) (done (record { mark = m; start = v; steps = stepsOf mostSteps (drop w s) })) n (λ k f. absurd (let z : _≡_ {A = ℕ} 0 1 = cc in omega arith)) e
-
--- the only refusal of a row is 8
-pub only-eight : (s : List ℕ) (n : ℕ) → rowHere s ≡ refused n → n ≡ 8
-unfolding rowHere
-only-eight s n e = refuse-eight (ltb mostBytes (length s)) (rowBy (headHere s) s) n (row-refused s (headHere s)) e
-
 -- the steps of a row are those that its text shows
-steps-by : (s : List ℕ) (h : HeadRead) (r : PathRow) → rowBy h s ≡ done r → r .steps ≡ stepsAfter h s
-unfolding rowBy stepsAfter
-steps-by s NoHead r e = absurd (let z : _≡_ {A = ℕ} 0 1 = cc in omega arith)
-steps-by s (Head m v w) r e =
-    let q = refuse-done (not (isEmpty (afterSteps mostSteps (drop w s)))) (record { mark = m; start = v; steps = stepsOf mostSteps (drop w s) }) r e
-    in ap (λ (x : PathRow). x .steps) (sym (q .1))
-
 pub steps-shown : (s : List ℕ) (r : PathRow) → rowHere s ≡ done r → r .steps ≡ stepsIn s
-unfolding rowHere stepsIn
-steps-shown s r e = steps-by s (headHere s) r (refuse-through (ltb mostBytes (length s)) (rowBy (headHere s) s) r e)
+unfolding rowHere rowBy stepsIn stepsAfter
+steps-shown s r e =
+    let c = andThen-done (headHere s) (λ h. rowBy h s) (refuse-through (ltb mostBytes (length s)) (andThen (headHere s) (λ h. rowBy h s)) r e)
+    in let w = c .0 .width
+    in let q = refuse-done (not (isEmpty (afterSteps mostSteps (drop w s)))) (record { mark = c .0 .mark; start = c .0 .start; steps = stepsOf mostSteps (drop w s) }) r (c .2)
+    in rw (c .1) (ap (λ (x : PathRow). x .steps) (sym (q .1)))
 
-read-refused : (o : Outcome PathRow) → NoRow ≡ rowAnswer o → ((n : ℕ) → o ≡ refused n → n ≡ 8) → o ≡ refused 8
-unfolding rowAnswer
-read-refused (refused n) e h = ap refused (h n refl)
-read-refused (done r) e h = absurd (let z : _≡_ {A = ℕ} 0 1 = cc in omega arith)
+-- what the reader's answer tells of the row
+read-refused : (o : Outcome PathRow) → rowMeaning NoRow ≡ andThen o (λ r. done (inLarge r)) → o ≡ refused 8
+unfolding rowMeaning andThen
+read-refused (refused n) e = let z : n ≡ 8 = cc in ap refused z
+read-refused (done r) e = absurd (let z : _≡_ {A = ℕ} 0 1 = cc in omega arith)
 
-read-done : (s : List ℕ) (o : Outcome PathRow) (m start count : ℕ) → rowHere s ≡ o → Row m start count ≡ rowAnswer o → RowIs s start count
-unfolding rowAnswer
+read-done : (s : List ℕ) (o : Outcome PathRow) (m start count : ℕ) → rowHere s ≡ o → rowMeaning (Row m start count) ≡ andThen o (λ r. done (inLarge r)) → RowIs s m start count
+unfolding rowMeaning andThen
 read-done s (refused n) m start count f e = absurd (let z : _≡_ {A = ℕ} 0 1 = cc in omega arith)
-read-done s (done r) m start count f e = record { row = r; read = f; starts = cc; counts = cc; steps = steps-shown s r f }
+read-done s (done r) m start count f e =
+    let q : record { mark = m; start = start; count = count } ≡ inLarge r = done-is e
+    in record {
+      row = r;
+      read = f;
+      marks = ap (λ (x : InLarge). x .mark) (sym q);
+      starts = ap (λ (x : InLarge). x .start) (sym q);
+      counts = ap (λ (x : InLarge). x .count) (sym q);
+      steps = steps-shown s r f;
+    }
 
-module _ (s : List ℕ) (a : RowRead) (e : a ≡ rowAnswer (rowHere s)) where
+module _ (s : List ℕ) (a : RowRead) (e : rowMeaning a ≡ rowInLarge s) where
   pub row-is-refused : a ≡ NoRow → rowHere s ≡ refused 8
-  row-is-refused f = read-refused (rowHere s) (sym f ∙ e) (only-eight s)
+  unfolding rowInLarge
+  row-is-refused f = read-refused (rowHere s) (ap rowMeaning (sym f) ∙ e)
 
-  pub row-is : (m start count : ℕ) → a ≡ Row m start count → RowIs s start count
-  row-is m start count f = read-done s (rowHere s) m start count refl (sym f ∙ e)
+  pub row-is : (m start count : ℕ) → a ≡ Row m start count → RowIs s m start count
+  unfolding rowInLarge
+  row-is m start count f = read-done s (rowHere s) m start count refl (ap rowMeaning (sym f) ∙ e)
 
 -- which of two rows with one start is more specific
 module _ (cells : List ℕ) (ss ts : List Step) (t : Bool) (e : t ≡ stepsPreferred cells ss ts) where
@@ -236,12 +241,12 @@ module _ (cells a b : List ℕ) (n m : ℕ) where
   unfolding meaningOf compareRows andThen
   first-bad e = rw e
 
-  module _ (start count : ℕ) (p : RowIs a start count) where
+  module _ (mark start count : ℕ) (p : RowIs a mark start count) where
     pub second-bad : rowHere b ≡ refused 8 → meaningOf (Refused 8) ≡ whole
     unfolding meaningOf compareRows andThen
     second-bad e = rw (p .read, e)
 
-    module _ (other more : ℕ) (q : RowIs b other more) where
+    module _ (mark′ other more : ℕ) (q : RowIs b mark′ other more) where
       opened : whole ≡ refuseIf (ltb n count) 9 (refuseIf (ltb m more) 9 (done (comparison cells (p .row) (q .row))))
       unfolding compareRows andThen
       opened = rw (p .read, q .read, p .counts, q .counts)

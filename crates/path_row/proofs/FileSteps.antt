@@ -8,14 +8,15 @@ use borrow.Author.Tests.{le-ltb}
 use lib.Dec.{ltb}
 use lib.ListN.{length, take, drop}
 use lib.Seq.{take-at, length-take-le}
-use Rattle.graph_file.specs.Outcome.{Outcome, refused, done, andThen, refuseIf}
-use Rattle.graph_file.specs.File.{readCells, answer, written, leaves}
-use Rattle.graph_file.specs.Reader.{answerOf}
-use Rattle.graph_file.specs.declared.reader.Answer.{Answer}
-use Rattle.graph_file.specs.declared.reader.Answer.the-variants.{Refused, Written}
+use Rattle.text_field.specs.Outcome.{Outcome, refused, done, andThen, refuseIf}
+use Rattle.graph_file.specs.Decode.{WasRead}
+use Rattle.graph_file.specs.File.{readCells}
+use Rattle.text_field.specs.Answer.{answer, written, leaves, answerOf}
+use Rattle.text_field.specs.declared.answer.Answer.{Answer}
+use Rattle.text_field.specs.declared.answer.Answer.the-variants.{Refused, Written}
 use Rattle.path_row.specs.declared.compare.Compared.{Compared}
 use Rattle.path_row.specs.declared.compare.Compared.the-variants.{Refused as No}
-use Rattle.path_row.specs.Compare.{meaning, WasRead, compareRows, compareAnswer}
+use Rattle.path_row.specs.Compare.{meaning, compareRows, compareAnswer}
 use Rattle.graph_file.proofs.DecodeAccepted.{read-accepted}
 
 -- what was read, where the table holds any file's cells

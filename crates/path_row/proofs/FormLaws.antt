@@ -9,20 +9,19 @@ use lib.ListN.{length, getD, drop, length-append}
 use lib.Seq.{drop-at, drop-drop}
 use borrow.Author.Tests.{lt-ltb, le-ltb, ltb-true, ltb-false, le-leb, lt-leb, leb-true, eqb-true, not-false}
 use Rattle.text_field.specs.Bytes.{isDigit, isCapital, within}
-use Rattle.text_field.specs.Number.{numberText, numberHere}
+use Rattle.text_field.specs.Number.{numberText, numberHere, numberPlaced, numberMeaning}
 use Rattle.text_field.specs.declared.NumberRead.{NumberRead}
 use Rattle.text_field.specs.declared.NumberRead.the-variants.{Number, NoNumber}
 use Rattle.text_field.proofs.ByteLaws.{both, clash, within-bounds}
 use Rattle.text_field.proofs.NumberLaws.{NumberStands, number-found, number-back, length-below}
-use Rattle.graph_file.specs.Outcome.{Outcome, done, refuseIf}
+use Rattle.text_field.specs.Outcome.{Outcome, refused, done, andThen, refuseIf}
+use Rattle.graph_file.proofs.DecodeWay.{andThen-done, done-is}
 use Rattle.graph_file.specs.Line.{startsWith}
 use Rattle.graph_file.specs.File.{isEmpty}
 use Rattle.path_row.specs.declared.form.Step.{Step}
-use Rattle.path_row.specs.declared.form.HeadRead.{HeadRead}
-use Rattle.path_row.specs.declared.form.HeadRead.the-variants.{Head, NoHead}
 use Rattle.path_row.specs.declared.form.StepRead.{StepRead}
 use Rattle.path_row.specs.declared.form.StepRead.the-variants.{Taken, NoStep}
-use Rattle.path_row.specs.Form.{PathRow, mostMark, mostScope, mostSteps, mostBytes, atMost, numberUpTo, stepBy, stepHere, stepsOf, afterSteps, stepsWidth, startBy, markBy, headHere, rowBy, rowHere, stepsText, rowText, stepsMade, rowMade, areSteps, isRow, rowWritten}
+use Rattle.path_row.specs.Form.{PathRow, mostMark, mostScope, mostSteps, mostBytes, atMost, numberUpTo, stepBy, stepHere, stepsOf, afterSteps, stepsWidth, Front, front, startBy, spaceBy, markBy, headHere, rowBy, rowHere, stepsText, rowText, stepsMade, rowMade, areSteps, isRow, rowWritten}
 use Rattle.path_row.specs.Inverse.{ReadThenWritten, WrittenThenRead, PartsThenRead, lettersIn, scopesIn, ReadThenParts}
 
 -- a number up to a limit
@@ -179,17 +178,18 @@ steps-back (suc n) (s ∷ ss) h l =
 
 -- the front of a row
 pub head-on : (m w : ℕ) (s : List ℕ) → startsWith 32 (drop w s) ≡ true → markBy (Number m w) s ≡ startBy m (w + 1) (numberUpTo mostScope (drop (w + 1) s))
-unfolding markBy
-head-on m w s h = rw (h, markBy)
+unfolding markBy spaceBy numberMeaning andThen
+head-on m w s h = rw (h, spaceBy)
 
-pub head-off : (m w : ℕ) (s : List ℕ) → startsWith 32 (drop w s) ≡ false → markBy (Number m w) s ≡ NoHead
-unfolding markBy
-head-off m w s h = rw (h, markBy)
+pub head-off : (m w : ℕ) (s : List ℕ) → startsWith 32 (drop w s) ≡ false → markBy (Number m w) s ≡ refused 8
+unfolding markBy spaceBy numberMeaning andThen
+head-off m w s h = rw (h, spaceBy)
 
 pub record HeadStands (s : List ℕ) (m v w : ℕ) : Type 0 where
   pub text : s ≡ numberText m ++ (32 ∷ (numberText v ++ drop w s))
   pub mark : m ≤ 65535
   pub start : v ≤ 63
+  pub place : w ≡ length (numberText m) + 1 + length (numberText v)
 
 space-first : (s : List ℕ) → startsWith 32 s ≡ true → s ≡ 32 ∷ drop 1 s
 unfolding startsWith
@@ -197,12 +197,13 @@ space-first [] h = absurd (clash h refl)
 space-first (x ∷ s) h = ap (λ (z : ℕ). z ∷ s) (eqb-true x 32 h)
 
 by-start : (s : List ℕ) (m w v k : ℕ) (r : NumberRead) → NumberStands s m w → m ≤ 65535 → startsWith 32 (drop w s) ≡ true
-    → numberUpTo mostScope (drop (w + 1) s) ≡ r → startBy m (w + 1) r ≡ Head m v k → HeadStands s m v k
-unfolding startBy numberUpTo
+    → numberUpTo mostScope (drop (w + 1) s) ≡ r → startBy m (w + 1) r ≡ done (front m v k) → HeadStands s m v k
+unfolding startBy numberMeaning numberPlaced andThen numberUpTo
 by-start s m w v k NoNumber n l h e f = absurd (let z : _≡_ {A = ℕ} 0 1 = cc in omega arith)
 by-start s m w v k (Number u j) n l h e f =
-    let a : u ≡ v = cc
-    in let b : w + 1 + j ≡ k = cc
+    let x : front m u (w + 1 + j) ≡ front m v k = done-is f
+    in let a : u ≡ v = ap (λ (h : Front). h .start) x
+    in let b : w + 1 + j ≡ k = ap (λ (h : Front). h .width) x
     in let g = up-found mostScope (numberHere (drop (w + 1) s)) u j e
     in let q = number-found (drop (w + 1) s) u j (g .found)
     in let d : drop j (drop (w + 1) s) ≡ drop k s = drop-drop j (w + 1) s ∙ ap (λ (z : ℕ). drop z s) b
@@ -211,18 +212,19 @@ by-start s m w v k (Number u j) n l h e f =
       text = n .whole ∙ ap (λ (z : List ℕ). numberText m ++ z) (c ∙ ap (λ (z : List ℕ). 32 ∷ z) (q .whole ∙ ap (λ (z : ℕ). numberText z ++ drop j (drop (w + 1) s)) a ∙ ap (λ (z : List ℕ). numberText v ++ z) d));
       mark = l;
       start = omega (arith, g .small);
+      place = let c : j ≡ length (numberText v) = q .width ∙ ap (λ (z : ℕ). length (numberText z)) a in omega (arith, n .width);
     }
 
-start-mark : (m n b v k : ℕ) (r : NumberRead) → startBy m b r ≡ Head n v k → m ≡ n
-unfolding startBy
+start-mark : (m n b v k : ℕ) (r : NumberRead) → startBy m b r ≡ done (front n v k) → m ≡ n
+unfolding startBy numberMeaning numberPlaced andThen
 start-mark m n b v k NoNumber e = absurd (let z : _≡_ {A = ℕ} 0 1 = cc in omega arith)
-start-mark m n b v k (Number u j) e = cc
+start-mark m n b v k (Number u j) e = ap (λ (h : Front). h .mark) (done-is e)
 
-no-mark : (s : List ℕ) (m v k : ℕ) → markBy NoNumber s ≡ Head m v k → ⊥
-unfolding markBy
+no-mark : (s : List ℕ) (m v k : ℕ) → markBy NoNumber s ≡ done (front m v k) → ⊥
+unfolding markBy numberMeaning andThen
 no-mark s m v k g = let z : _≡_ {A = ℕ} 0 1 = cc in omega arith
 
-by-mark : (s : List ℕ) (r : NumberRead) (m v k : ℕ) → numberUpTo mostMark s ≡ r → markBy r s ≡ Head m v k → HeadStands s m v k
+by-mark : (s : List ℕ) (r : NumberRead) (m v k : ℕ) → numberUpTo mostMark s ≡ r → markBy r s ≡ done (front m v k) → HeadStands s m v k
 unfolding numberUpTo
 by-mark s NoNumber m v k e f = absurd (no-mark s m v k f)
 by-mark s (Number n w) m v k e f = by (startsWith 32 (drop w s)) refl
@@ -230,12 +232,12 @@ by-mark s (Number n w) m v k e f = by (startsWith 32 (drop w s)) refl
     by : (t : Bool) → startsWith 32 (drop w s) ≡ t → HeadStands s m v k
     by true t =
         let g = up-found mostMark (numberHere s) n w e
-        in let h : startBy n (w + 1) (numberUpTo mostScope (drop (w + 1) s)) ≡ Head m v k = sym (head-on n w s t) ∙ f
+        in let h : startBy n (w + 1) (numberUpTo mostScope (drop (w + 1) s)) ≡ done (front m v k) = sym (head-on n w s t) ∙ f
         in let i = start-mark n m (w + 1) v k (numberUpTo mostScope (drop (w + 1) s)) h
         in by-start s m w v k (numberUpTo mostScope (drop (w + 1) s)) (rw i at (number-found s n w (g .found))) (omega (arith, g .small)) t refl (rw i at h)
     by false t = absurd (let z : _≡_ {A = ℕ} 0 1 = cc (head-off n w s t) in omega arith)
 
-pub head-found : (s : List ℕ) (m v w : ℕ) → headHere s ≡ Head m v w → HeadStands s m v w
+pub head-found : (s : List ℕ) (m v w : ℕ) → headHere s ≡ done (front m v w) → HeadStands s m v w
 unfolding headHere
 head-found s m v w e = by-mark s (numberUpTo mostMark s) m v w refl e
 
@@ -254,7 +256,7 @@ unfolding isEmpty
 empty-is [] h = refl
 empty-is (x ∷ s) h = absurd (clash h refl)
 
-row-of : (s : List ℕ) (m v w : ℕ) → headHere s ≡ Head m v w → afterSteps mostSteps (drop w s) ≡ []
+row-of : (s : List ℕ) (m v w : ℕ) → headHere s ≡ done (front m v w) → afterSteps mostSteps (drop w s) ≡ []
     → (rowText (record { mark = m; start = v; steps = stepsOf mostSteps (drop w s) }) ≡ s) × (isRow (record { mark = m; start = v; steps = stepsOf mostSteps (drop w s) }) ≡ true)
 unfolding rowText isRow
 row-of s m v w e n =
@@ -266,17 +268,19 @@ row-of s m v w e n =
       rw (le-leb m 65535 (h .mark), le-leb v 63 (h .start), le-leb (length (stepsOf mostSteps (drop w s))) 63 (p .few)) (p .steps),
     )
 
-row-by : (s : List ℕ) (h : HeadRead) (r : PathRow) → headHere s ≡ h → rowBy h s ≡ done r → (rowText r ≡ s) × (isRow r ≡ true)
+row-by : (s : List ℕ) (h : Front) (r : PathRow) → headHere s ≡ done h → rowBy h s ≡ done r → (rowText r ≡ s) × (isRow r ≡ true)
 unfolding rowBy
-row-by s NoHead r e f = absurd (let z : _≡_ {A = ℕ} 0 1 = cc in omega arith)
-row-by s (Head m v w) r e f =
-    let q = refuse-done (not (isEmpty (afterSteps mostSteps (drop w s)))) (record { mark = m; start = v; steps = stepsOf mostSteps (drop w s) }) r f
-    in rw (q .1) at (row-of s m v w e (empty-is (afterSteps mostSteps (drop w s)) (not-false (isEmpty (afterSteps mostSteps (drop w s))) (q .0))))
+row-by s h r e f =
+    let w = h .width
+    in let q = refuse-done (not (isEmpty (afterSteps mostSteps (drop w s)))) (record { mark = h .mark; start = h .start; steps = stepsOf mostSteps (drop w s) }) r f
+    in rw (q .1) at (row-of s (h .mark) (h .start) w e (empty-is (afterSteps mostSteps (drop w s)) (not-false (isEmpty (afterSteps mostSteps (drop w s))) (q .0))))
 
 -- what was read is written back byte for byte
 pub read-then-written : ReadThenWritten
 unfolding rowHere
-read-then-written s r e = row-by s (headHere s) r refl (refuse-through (ltb mostBytes (length s)) (rowBy (headHere s) s) r e)
+read-then-written s r e =
+    let c = andThen-done (headHere s) (λ h. rowBy h s) (refuse-through (ltb mostBytes (length s)) (andThen (headHere s) (λ h. rowBy h s)) r e)
+    in row-by s (c .0) r (c .1) (c .2)
 
 -- what can be written is read back
 steps-short : (ss : List Step) → areSteps ss ≡ true → length (stepsText ss) ≤ 3 * length ss
@@ -295,11 +299,11 @@ space-plain = refl
 
 record HeadBack (m v : ℕ) (t : List ℕ) : Type 0 where
   width : ℕ
-  head : headHere (numberText m ++ (32 ∷ (numberText v ++ t))) ≡ Head m v width
+  head : headHere (numberText m ++ (32 ∷ (numberText v ++ t))) ≡ done (front m v width)
   rest : drop width (numberText m ++ (32 ∷ (numberText v ++ t))) ≡ t
 
 head-back : (m v : ℕ) (t : List ℕ) → m ≤ 65535 → v ≤ 63 → isDigit (getD t 0 0) ≡ false → HeadBack m v t
-unfolding headHere startsWith startBy
+unfolding headHere startsWith startBy numberMeaning numberPlaced andThen
 head-back m v t h g d =
     let s : List ℕ = numberText m ++ (32 ∷ (numberText v ++ t))
     in let w : ℕ = length (numberText m)
@@ -328,7 +332,7 @@ row-short r h =
     in omega (arith, length-append (numberText (r .mark)) (32 ∷ (numberText (r .start) ++ t)), length-append (numberText (r .start)) t, length-below 4 (r .mark) (omega arith), length-below 1 (r .start) (omega arith), steps-short (r .steps) (u .1))
 
 pub written-then-read : WrittenThenRead
-unfolding rowHere rowBy isRow rowText refuseIf isEmpty
+unfolding rowHere rowBy andThen isRow rowText refuseIf isEmpty
 written-then-read r h =
     let p = both (leb (r .mark) mostMark) (leb (r .start) mostScope && (leb (length (r .steps)) mostSteps && areSteps (r .steps))) h
     in let q = both (leb (r .start) mostScope) (leb (length (r .steps)) mostSteps && areSteps (r .steps)) (p .1)
@@ -341,7 +345,7 @@ written-then-read r h =
     in let k = steps-back mostSteps (r .steps) (u .1) n
     in rw (le-ltb 256 (length (rowText r)) (row-short r h), b .head, b .rest, k .after, k .steps)
 
--- the same with the row in parts
+-- what is written from parts is read back as the row that they make
 pub parts-then-read : PartsThenRead
 unfolding rowWritten
 parts-then-read mark start count letters scopes text e =

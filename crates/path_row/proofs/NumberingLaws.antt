@@ -1,5 +1,5 @@
--- The numbers of letters: different letters have different numbers, and a letter that is not listed has a number past those of the labels.
--- Assumes nothing.
+-- The numbers of letters: different letters have different numbers, and a letter that is not listed
+-- has a number past those of the labels. Assumes nothing.
 use mathlib.Core.Path.{_≡_, refl, sym, ap, _∙_}
 use mathlib.Core.Bool.{Bool, true, false}
 use mathlib.Core.Logic.{⊎-elim}

@@ -1,4 +1,5 @@
--- Steps of the code that looks through a graph table's labels and order pairs, over plain lists. Assumes nothing.
+-- Steps of the code that looks through a graph table's labels and order pairs, over plain lists.
+-- Assumes nothing.
 use mathlib.Core.Path.{_≡_, refl, sym, ap, _∙_}
 use mathlib.Core.Bool.{Bool, true, false, _&&_}
 use mathlib.Core.List.{List, [], _∷_, map}

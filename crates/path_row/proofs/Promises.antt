@@ -1,13 +1,13 @@
 -- The values of specs/Promises. Assumes nothing.
 use Prim.Native.Nat.{ℕ, _≤_, _<_}
-use mathlib.Core.Path.{_≡_, refl, sym, ap}
+use mathlib.Core.Path.{_≡_, refl}
 use mathlib.Core.Bool.{Bool, true, false}
 use mathlib.Core.Logic.{_↔_}
 use mathlib.Core.List.{List}
 use native.Mathlib.Omega.{arith}
 use lib.ListN.{length}
 use borrow.Author.Tests.{le-ltb}
-use Rattle.graph_file.specs.Outcome.{Outcome, refused, done, andThen, refuseIf}
+use Rattle.text_field.specs.Outcome.{done, andThen, refuseIf}
 use Rattle.graph_file.specs.File.{readCells}
 use Rattle.graph_file.specs.Decode.{lettersOf, rulesOf}
 use Rattle.graph_file.specs.Accepted.{AcceptedTable}
@@ -18,20 +18,21 @@ use Rattle.scope_graph.specs.Promises.{OrderPromises}
 use Rattle.scope_graph.proofs.Lists.{not-true, true-false}
 use Rattle.scope_graph.proofs.Rows.{preferredBy-row}
 use Rattle.scope_graph.proofs.Promises.{promises}
-use Rattle.path_row.specs.Form.{PathRow, rowHere, rowAnswer, inLarge, rowMeaning}
+use Rattle.path_row.specs.Form.{PathRow, behindFront, firstStep, rowHere}
 use Rattle.path_row.specs.Compare.{first, second, neither, whichOf, labelNumber, pathIn, rowBefore, comparison, compareRows, compareAnswer}
-use Rattle.path_row.specs.Promises.{RowMeant, Numbers, LettersNumbered, SaysWhich, CompareIs, FilledIs}
-use Rattle.path_row.proofs.CompareSteps.{only-eight}
+use Rattle.path_row.specs.Promises.{FirstSteps, Numbers, LettersNumbered, SaysWhich, CompareIs, FilledIs}
+use Rattle.path_row.proofs.FormLaws.{head-found}
+use Rattle.path_row.proofs.CompareSteps.{steps-first}
 use Rattle.path_row.proofs.LentLaws.{filled-part}
 use Rattle.path_row.proofs.NumberingLaws.{number-tells, number-beyond, number-within}
 
-meant : (o : Outcome PathRow) → ((n : ℕ) → o ≡ refused n → n ≡ 8) → rowMeaning (rowAnswer o) ≡ andThen o (λ r. done (inLarge r))
-unfolding rowAnswer rowMeaning andThen
-meant (done r) eight = refl
-meant (refused n) eight = ap refused (sym (eight n refl))
-
-pub row-meant : RowMeant
-row-meant s = meant (rowHere s) (only-eight s)
+pub first-step : FirstSteps
+unfolding firstStep behindFront
+first-step s = record {
+  behind = λ h e. rw e (head-found s (h .mark) (h .start) (h .width) e .place);
+  at-end = λ e. rw e;
+  steps = steps-first s (firstStep s) refl;
+}
 
 module _ (cells : List ℕ) (table : AcceptedTable cells) where
   numbers : Numbers cells

@@ -1,24 +1,25 @@
--- On cells that were read, the letters and the rules that the code's look through the rows finds are those of graph_file's Decode. Assumes nothing.
+-- On cells that were read, the letters and the rules that the code's look through the rows finds
+-- are those of graph_file's Decode. Assumes nothing.
 use mathlib.Core.Path.{_≡_, refl, sym, ap, _∙_}
 use mathlib.Core.Bool.{false}
 use mathlib.Core.List.{List, [], _∷_, _++_, map, append-nil, append-assoc}
 use Prim.Native.Nat.{ℕ, zero, suc, _+_, _*_, _≤_, _<_}
 use native.Mathlib.Omega.{arith}
 use borrow.Author.Tests.{ne-eqb, eq-eqb}
-use lib.ListN.{length, drop, length-append}
+use lib.ListN.{length, drop}
 use lib.Seq.{drop-drop, drop-at}
 use Rattle.graph_file.specs.Format.{form, labelSection, pairSection, sectionAt, sections, labels, pairs}
 use Rattle.graph_file.specs.Admission.{Row, rowOf, Sofar, nothing, begun, taken}
 use Rattle.graph_file.specs.Line.{startsWith}
 use Rattle.graph_file.specs.Table.{rowsAt}
-use Rattle.graph_file.specs.Decode.{rowsIn, lettersOf, orderPairOf, rulesOf, sectionPlace}
+use Rattle.graph_file.specs.Decode.{rowsIn, lettersOf, orderPairOf, rulesOf, sectionPlace, WasRead}
 use Rattle.graph_file.specs.Accepted.{AcceptedTable}
 use Rattle.graph_file.proofs.DecodeWay.{takenAll, AdmittedRows, cellsOf, tableCells, AdmittedSections, AdmittedTable, read-admitted}
 use Rattle.graph_file.proofs.DecodeSections.{joinedIf, gathered, gathered-later}
 use Rattle.graph_file.proofs.DecodeTable.{rows-are}
+use Rattle.graph_file.proofs.DecodePlaces.{cells-length}
 use Rattle.graph_file.proofs.DecodeAccepted.{read-accepted}
 use Rattle.scope_graph.specs.Rows.{OrderPair}
-use Rattle.path_row.specs.Compare.{WasRead}
 use Rattle.path_row.specs.Scan.{rowsFrom, scannedLabels, scannedPairs, firstValue, scannedLetters, scannedOrder, scannedRules}
 use Rattle.path_row.proofs.OrderSteps.{rows-on, rows-off}
 
@@ -28,13 +29,6 @@ unfolding startsWith tableCells cellsOf
 later-none k j [] h = refl
 later-none k j ([] ∷ rest) h = later-none k (suc j) rest (omega arith)
 later-none k j ((row ∷ rows) ∷ rest) h = ne-eqb j k (λ e. omega arith)
-
-cells-six : (k : ℕ) (st : Sofar) (rows : List Row) → AdmittedRows k st rows → length (cellsOf k rows) ≡ 6 * length rows
-unfolding cellsOf
-cells-six k st [] h = refl
-cells-six k st (row ∷ rows) h =
-    let five = h .1
-    in omega (arith, cells-six k (taken k st row) rows (h .2), length-append row (cellsOf k rows))
 
 -- the look through a section's rows takes all of them, and ends behind them
 rows-scanned : (n k : ℕ) (st : Sofar) (rows : List Row) (more : List ℕ) → AdmittedRows k st rows → length rows ≤ n → startsWith k more ≡ false
@@ -75,7 +69,7 @@ module _ (cells : List ℕ) (was : WasRead cells) where
       in let second : drop (1 + 6 * length (rowsIn 0 cells)) cells ≡ cellsOf 1 b ++ tableCells 2 rest =
       sym (drop-drop (6 * length (rowsIn 0 cells)) 1 cells)
       ∙ ap (drop (6 * length (rowsIn 0 cells))) first
-      ∙ drop-at (cellsOf 0 a) (tableCells 1 (b ∷ rest)) (6 * length (rowsIn 0 cells)) (cells-six 0 (begun nothing) a (h .0) ∙ ap (λ (l : List Row). 6 * length l) (sym labelled))
+      ∙ drop-at (cellsOf 0 a) (tableCells 1 (b ∷ rest)) (6 * length (rowsIn 0 cells)) (cells-length 0 (begun nothing) a (h .0) ∙ ap (λ (l : List Row). 6 * length l) (sym labelled))
       in let found : rowsFrom 8 0 (drop 1 cells) ≡ rowsIn 0 cells = section-scanned 8 0 (begun nothing) a (b ∷ rest) (omega arith) labelled refl (h .0) first
       in (
         found,

@@ -12,8 +12,8 @@ use lib.Seq.{drop-cons, drop-drop}
 use Rattle.text_field.specs.Bytes.{isCapital}
 use Rattle.text_field.specs.declared.NumberRead.{NumberRead}
 use Rattle.text_field.specs.declared.NumberRead.the-variants.{Number, NoNumber}
-use Rattle.text_field.specs.Number.{numberPlaced, numberHere}
-use Rattle.graph_file.specs.Outcome.{Outcome, refused, done, refuseIf}
+use Rattle.text_field.specs.Number.{numberPlaced, numberHere, numberMeaning}
+use Rattle.text_field.specs.Outcome.{Outcome, refused, done, andThen, refuseIf}
 use Rattle.graph_file.specs.Line.{startsWith}
 use Rattle.graph_file.specs.File.{isEmpty}
 use Rattle.path_row.specs.declared.form.Step.{Step}
@@ -23,7 +23,7 @@ use Rattle.path_row.specs.declared.form.RowRead.{RowRead}
 use Rattle.path_row.specs.declared.form.RowRead.the-variants.{Row, NoRow}
 use Rattle.path_row.specs.declared.form.StepRead.{StepRead}
 use Rattle.path_row.specs.declared.form.StepRead.the-variants.{Taken, NoStep}
-use Rattle.path_row.specs.Form.{mostMark, mostScope, mostSteps, noStep, atMost, numberUpTo, stepBy, stepHere, stepsOf, afterSteps, stepsWidth, stepPlaced, startBy, markBy, headHere, rowBy, rowHere, rowAnswer, stepsAfter, stepsIn}
+use Rattle.path_row.specs.Form.{mostMark, mostScope, mostSteps, noStep, atMost, numberUpTo, stepBy, stepHere, stepsOf, afterSteps, stepsWidth, stepPlaced, StepFound, stepMeaning, stepFrom, front, headMeaning, startBy, markBy, headHere, rowBy, rowHere, rowMeaning, rowInLarge, stepsAfter, stepsIn}
 use Rattle.path_row.proofs.FormLaws.{most-in, most-past, UpTo, up-found, step-on, step-off, head-on, head-off, steps-on, steps-off, after-on, after-off, width-on, width-off}
 
 -- a number read at a place is held to its limit
@@ -117,18 +117,18 @@ a-space : (s : List ℕ) (i : ℕ) → i < length s → getD s i 0 ≡ 32 → st
 unfolding startsWith
 a-space s i h e = rw (drop-cons s i 0 h) (eq-eqb (getD s i 0) 32 e)
 
-start-none : (m b : ℕ) (r : NumberRead) → numberPlaced b r ≡ NoNumber → NoHead ≡ startBy m b r
-unfolding numberPlaced startBy
+start-none : (m b : ℕ) (r : NumberRead) → numberPlaced b r ≡ NoNumber → refused 8 ≡ startBy m b r
+unfolding numberPlaced numberMeaning andThen startBy
 start-none m b NoNumber e = refl
 start-none m b (Number v w) e = absurd (let z : _≡_ {A = ℕ} 0 1 = cc in omega arith)
 
-start-some : (m b v next : ℕ) (r : NumberRead) → numberPlaced b r ≡ Number v next → Head m v next ≡ startBy m b r
-unfolding numberPlaced startBy
+start-some : (m b v next : ℕ) (r : NumberRead) → numberPlaced b r ≡ Number v next → done (front m v next) ≡ startBy m b r
+unfolding numberPlaced numberMeaning andThen startBy
 start-some m b v next NoNumber e = absurd (let z : _≡_ {A = ℕ} 0 1 = cc in omega arith)
 start-some m b v next (Number u w) e = let p : u ≡ v = cc in let q : b + w ≡ next = cc in rw (p, q)
 
-markless : (s : List ℕ) → NoHead ≡ markBy NoNumber s
-unfolding markBy
+markless : (s : List ℕ) → refused 8 ≡ markBy NoNumber s
+unfolding markBy numberMeaning andThen
 markless s = refl
 
 module _ (s : List ℕ) (a : NumberRead) (e : a ≡ numberPlaced 0 (numberUpTo mostMark s)) where
@@ -136,28 +136,46 @@ module _ (s : List ℕ) (a : NumberRead) (e : a ≡ numberPlaced 0 (numberUpTo m
   unfolding headHere
   is-mark = ap (λ (r : NumberRead). markBy r s) (sym (placed-front (numberUpTo mostMark s)) ∙ sym e)
 
-  pub head-none : a ≡ NoNumber → NoHead ≡ headHere s
+  pub head-none : a ≡ NoNumber → headMeaning NoHead ≡ headHere s
+  unfolding headMeaning
   head-none n = rw (is-mark, n) (markless s)
 
   module _ (m i : ℕ) (n : a ≡ Number m i) where
     marked : headHere s ≡ markBy (Number m i) s
     marked = is-mark ∙ ap (λ (r : NumberRead). markBy r s) n
 
-    pub head-short : length s ≤ i → NoHead ≡ headHere s
+    pub head-short : length s ≤ i → headMeaning NoHead ≡ headHere s
+    unfolding headMeaning
     head-short h = sym (marked ∙ head-off m i s (no-space s i h))
 
-    pub head-other : i < length s → (getD s i 0 ≡ 32 → ⊥) → NoHead ≡ headHere s
+    pub head-other : i < length s → (getD s i 0 ≡ 32 → ⊥) → headMeaning NoHead ≡ headHere s
+    unfolding headMeaning
     head-other h k = sym (marked ∙ head-off m i s (other-byte s i h k))
 
     module _ (h : i < length s) (k : getD s i 0 ≡ 32) (b : NumberRead) (f : b ≡ numberPlaced (i + 1) (numberUpTo mostScope (drop (i + 1) s))) where
       opened-head : headHere s ≡ startBy m (i + 1) (numberUpTo mostScope (drop (i + 1) s))
       opened-head = marked ∙ head-on m i s (a-space s i h k)
 
-      pub head-bare : b ≡ NoNumber → NoHead ≡ headHere s
+      pub head-bare : b ≡ NoNumber → headMeaning NoHead ≡ headHere s
+      unfolding headMeaning
       head-bare j = rw opened-head (start-none m (i + 1) (numberUpTo mostScope (drop (i + 1) s)) (sym f ∙ j))
 
-      pub head-whole : (v next : ℕ) → b ≡ Number v next → Head m v next ≡ headHere s
+      pub head-whole : (v next : ℕ) → b ≡ Number v next → headMeaning (Head m v next) ≡ headHere s
+      unfolding headMeaning
       head-whole v next j = rw opened-head (start-some m (i + 1) v next (numberUpTo mostScope (drop (i + 1) s)) (sym f ∙ j))
+
+-- the meanings tell the answers of the step's reader apart
+pub same-step : (a b : StepRead) → stepMeaning a ≡ stepMeaning b → a ≡ b
+unfolding stepMeaning
+same-step (Taken x v n) (Taken y w k) e =
+    let q : _≡_ {A = StepFound} (record { label = x; scope = v; next = n }) (record { label = y; scope = w; next = k }) = cc
+    in let a : x ≡ y = ap (λ (f : StepFound). f .label) q
+    in let b : v ≡ w = ap (λ (f : StepFound). f .scope) q
+    in let c : n ≡ k = ap (λ (f : StepFound). f .next) q
+    in rw (a, b, c)
+same-step (Taken x v n) NoStep e = absurd (let z : _≡_ {A = ℕ} 0 1 = cc in omega arith)
+same-step NoStep (Taken y w k) e = absurd (let z : _≡_ {A = ℕ} 0 1 = cc in omega arith)
+same-step NoStep NoStep e = refl
 
 -- the steps from a place on: one more, or no more
 record Placed (s : List ℕ) (i x v next : ℕ) : Type 0 where
@@ -199,10 +217,10 @@ after-width (suc n) s = by (stepHere s) refl (λ w. after-width n (drop w s))
     by NoStep e onward = rw (width-off n s e, after-off n s e)
     by (Taken x v w) e onward = rw (width-on n s x v w e, after-on n s x v w e) (sym (drop-drop (stepsWidth n (drop w s)) w s) ∙ onward w)
 
-module _ (s : List ℕ) (i left : ℕ) (a : StepRead) (e : a ≡ stepPlaced i (stepHere (drop i s))) where
+module _ (s : List ℕ) (i left : ℕ) (a : StepRead) (e : stepMeaning a ≡ stepFrom i s) where
   module _ (x v next : ℕ) (f : a ≡ Taken x v next) (h : 1 ≤ left) where
     found-here : Placed s i x v next
-    found-here = placed-step s i x v next (stepHere (drop i s)) refl (sym e ∙ f)
+    found-here = placed-step s i x v next (stepHere (drop i s)) refl (sym (same-step a (stepPlaced i (stepHere (drop i s))) e) ∙ f)
 
     one-more : left ≡ suc (left - 1)
     one-more = omega arith
@@ -225,10 +243,10 @@ module _ (s : List ℕ) (i left : ℕ) (a : StepRead) (e : a ≡ stepPlaced i (s
         in omega (arith, found-here .place)
 
   pub steps-none : a ≡ NoStep → stepsOf left (drop i s) ≡ []
-  steps-none f = no-steps left (drop i s) (unplaced i (stepHere (drop i s)) (sym e ∙ f))
+  steps-none f = no-steps left (drop i s) (unplaced i (stepHere (drop i s)) (sym (same-step a (stepPlaced i (stepHere (drop i s))) e) ∙ f))
 
   pub width-none : a ≡ NoStep → i + stepsWidth left (drop i s) ≡ i
-  width-none f = let w : stepsWidth left (drop i s) ≡ 0 = no-width left (drop i s) (unplaced i (stepHere (drop i s)) (sym e ∙ f)) in omega arith
+  width-none f = let w : stepsWidth left (drop i s) ≡ 0 = no-width left (drop i s) (unplaced i (stepHere (drop i s)) (sym (same-step a (stepPlaced i (stepHere (drop i s))) e) ∙ f)) in omega arith
 
 -- Going through the steps from place `at` on: place i is come to, and `left` more may be taken.
 pub record Going (s : List ℕ) (at i left : ℕ) : Type 0 where
@@ -243,7 +261,7 @@ going-first s at = record { few = omega arith; counted = omega arith; placed = r
 abbrev pub WalkEnds : List ℕ → ℕ → ℕ → ℕ → Type 0
 WalkEnds s at count i = (count ≡ length (stepsOf mostSteps (drop at s))) × (i ≡ at + stepsWidth mostSteps (drop at s))
 
-module _ (s : List ℕ) (at i left : ℕ) (g : Going s at i left) (a : StepRead) (e : a ≡ stepPlaced i (stepHere (drop i s))) where
+module _ (s : List ℕ) (at i left : ℕ) (g : Going s at i left) (a : StepRead) (e : stepMeaning a ≡ stepFrom i s) where
   pub going-on : (x v next : ℕ) → a ≡ Taken x v next → 1 ≤ left → Going s at next (left - 1)
   going-on x v next f h =
       record { few = omega (arith, g .few); counted = g .counted ∙ rw (steps-next s i left a e x v next f h) (omega (arith, g .few)); placed = g .placed ∙ width-next s i left a e x v next f h }
@@ -262,7 +280,7 @@ going-full s at i (suc n) g h = absurd (omega arith)
 abbrev pub pick : ℕ → List ℕ → ℕ → Step
 pick left s k = getD (stepsOf left s) k noStep
 
-module _ (s : List ℕ) (i left k : ℕ) (a : StepRead) (e : a ≡ stepPlaced i (stepHere (drop i s))) where
+module _ (s : List ℕ) (i left k : ℕ) (a : StepRead) (e : stepMeaning a ≡ stepFrom i s) where
   pub pick-none : a ≡ NoStep → pick left (drop i s) k ≡ noStep
   pick-none f = rw (steps-none s i left a e f)
 
@@ -282,40 +300,40 @@ pick-full s (suc n) k h = absurd (omega arith)
 
 -- a row in the large
 module _ (s : List ℕ) where
-  pub row-long : 256 < length s → NoRow ≡ rowAnswer (rowHere s)
-  unfolding rowAnswer rowHere refuseIf
+  pub row-long : 256 < length s → rowMeaning NoRow ≡ rowInLarge s
+  unfolding rowMeaning rowInLarge rowHere andThen refuseIf
   row-long h = rw (lt-ltb 256 (length s) h, refuseIf)
 
   module _ (l : length s ≤ 256) where
-    short : rowHere s ≡ rowBy (headHere s) s
+    short : rowHere s ≡ andThen (headHere s) (λ h. rowBy h s)
     unfolding rowHere refuseIf
     short = rw (le-ltb 256 (length s) l, refuseIf)
 
-    pub row-headless : (a : HeadRead) → a ≡ headHere s → a ≡ NoHead → NoRow ≡ rowAnswer (rowHere s)
-    unfolding rowAnswer rowBy
+    pub row-headless : (a : HeadRead) → headMeaning a ≡ headHere s → a ≡ NoHead → rowMeaning NoRow ≡ rowInLarge s
+    unfolding rowMeaning rowInLarge headMeaning andThen
     row-headless a e f = rw (short, ← e, f)
 
-    module _ (a : HeadRead) (e : a ≡ headHere s) (m v w : ℕ) (f : a ≡ Head m v w) (count i : ℕ) (g : WalkEnds s w count i) where
+    module _ (a : HeadRead) (e : headMeaning a ≡ headHere s) (m v w : ℕ) (f : a ≡ Head m v w) (count i : ℕ) (g : WalkEnds s w count i) where
       ended : drop i s ≡ afterSteps mostSteps (drop w s)
       ended = ap (λ (k : ℕ). drop k s) (g .1) ∙ sym (drop-drop (stepsWidth mostSteps (drop w s)) w s) ∙ after-width mostSteps (drop w s)
 
       judged : (t : Bool) → not (isEmpty (drop i s)) ≡ t → rowHere s ≡ refuseIf t 8 (done (record { mark = m; start = v; steps = stepsOf mostSteps (drop w s) }))
-      unfolding rowBy
+      unfolding rowBy headMeaning andThen
       judged t h = short ∙ rw (← e, f, ← ended, h)
 
-      pub row-more : i < length s → NoRow ≡ rowAnswer (rowHere s)
-      unfolding rowAnswer refuseIf isEmpty
+      pub row-more : i < length s → rowMeaning NoRow ≡ rowInLarge s
+      unfolding rowMeaning rowInLarge andThen refuseIf isEmpty
       row-more h = rw (judged true (rw (drop-cons s i 0 h)))
 
-      pub row-whole : length s ≤ i → Row m v count ≡ rowAnswer (rowHere s)
-      unfolding rowAnswer refuseIf isEmpty
+      pub row-whole : length s ≤ i → rowMeaning (Row m v count) ≡ rowInLarge s
+      unfolding rowMeaning rowInLarge andThen refuseIf isEmpty
       row-whole h = rw (judged false (rw (drop-of-length-le s {i = i} h)), g .0)
 
 -- a row's steps
-pub shown-none : (s : List ℕ) (i : ℕ) (a : HeadRead) → a ≡ headHere s → a ≡ NoHead → noStep ≡ getD (stepsIn s) i noStep
-unfolding stepsIn stepsAfter
+pub shown-none : (s : List ℕ) (i : ℕ) (a : HeadRead) → headMeaning a ≡ headHere s → a ≡ NoHead → noStep ≡ getD (stepsIn s) i noStep
+unfolding stepsIn stepsAfter headMeaning
 shown-none s i a e f = rw (← e, f)
 
-pub shown : (s : List ℕ) (i : ℕ) (r : Step) (a : HeadRead) (m v w : ℕ) → a ≡ headHere s → a ≡ Head m v w → r ≡ getD (stepsOf mostSteps (drop w s)) i noStep → r ≡ getD (stepsIn s) i noStep
-unfolding stepsIn stepsAfter
+pub shown : (s : List ℕ) (i : ℕ) (r : Step) (a : HeadRead) (m v w : ℕ) → headMeaning a ≡ headHere s → a ≡ Head m v w → r ≡ getD (stepsOf mostSteps (drop w s)) i noStep → r ≡ getD (stepsIn s) i noStep
+unfolding stepsIn stepsAfter headMeaning
 shown s i r a m v w e f g = g ∙ rw (← e, f)

@@ -13,7 +13,7 @@ use Rattle.text_field.specs.Bytes.{isCapital}
 use Rattle.text_field.specs.Number.{numberText}
 use Rattle.text_field.specs.Buffer.{Buf, put, puts}
 use Rattle.text_field.proofs.BufferLaws.{puts-step, puts-then, puts-one, puts-none, puts-fits}
-use Rattle.graph_file.specs.Outcome.{refused, done, refuseIf}
+use Rattle.text_field.specs.Outcome.{refused, done, refuseIf}
 use Rattle.path_row.specs.declared.form.Step.{Step}
 use Rattle.path_row.specs.Form.{PathRow, mostScope, stepsText, rowText, stepsMade, rowMade, areSteps, isRow, rowWritten}
 use Rattle.path_row.proofs.FormLaws.{row-short}

@@ -1,14 +1,16 @@
--- The form of a path row, read and written (document 01, "Paths", the row `mark path`). Assumes nothing: these are definitions.
+-- The form of a path row, read and written (document 01, "Paths", the row `mark path`). Assumes
+-- nothing: these are definitions.
 use Prim.Native.Nat.{ℕ, zero, suc, _+_}
 use mathlib.Core.List.{List, [], _∷_, _++_}
 use mathlib.Core.Bool.{Bool, true, false, not, _&&_}
+use mathlib.Core.Option.{Option, some, none}
 use lib.Dec.{leb, ltb}
 use lib.ListN.{length, getD, drop}
 use Rattle.text_field.specs.declared.NumberRead.{NumberRead}
 use Rattle.text_field.specs.declared.NumberRead.the-variants.{Number, NoNumber}
 use Rattle.text_field.specs.Bytes.{isCapital}
-use Rattle.text_field.specs.Number.{numberText, numberHere}
-use Rattle.graph_file.specs.Outcome.{Outcome, refused, done, refuseIf}
+use Rattle.text_field.specs.Number.{numberText, numberHere, numberPlaced, numberMeaning}
+use Rattle.text_field.specs.Outcome.{Outcome, refused, done, andThen, refuseIf}
 use Rattle.graph_file.specs.Line.{startsWith}
 use Rattle.graph_file.specs.File.{isEmpty}
 use Rattle.path_row.specs.declared.form.Step.{Step}
@@ -72,36 +74,61 @@ unfoldable pub stepsWidth : ℕ → List ℕ → ℕ
 stepsWidth zero s = 0
 stepsWidth (suc n) s = elim (stepHere s) [ Taken x v width ↦ width + stepsWidth n (drop width s) | NoStep ↦ 0 ]
 
--- a row's front, by its mark, the bytes before its start, and what is read there; then by what is read as its mark
-unfoldable pub startBy : ℕ → ℕ → NumberRead → HeadRead
-startBy m before (Number v width) = Head m v (before + width)
-startBy m before NoNumber = NoHead
+-- A row's front: its mark, a space and its start, and how many bytes these take, which is the place
+-- of the first step.
+pub record Front : Type 0 where
+  pub mark : ℕ
+  pub start : ℕ
+  pub width : ℕ
 
-unfoldable pub markBy : NumberRead → List ℕ → HeadRead
-markBy (Number m width) s = elim (startsWith 32 (drop width s)) [ true ↦ startBy m (width + 1) (numberUpTo mostScope (drop (width + 1) s)) | false ↦ NoHead ]
-markBy NoNumber s = NoHead
+abbrev pub front : ℕ → ℕ → ℕ → Front
+front m v width = record { mark = m; start = v; width = width }
 
--- the mark, the space and the start, and how many bytes they take
-unfoldable pub headHere : List ℕ → HeadRead
+-- what the answer of the front's reader means (01, "Where each language form goes"): these values,
+-- or refusal 8
+unfoldable pub headMeaning : HeadRead → Outcome Front
+headMeaning (Head m v width) = done (front m v width)
+headMeaning NoHead = refused 8
+
+-- A row's front, by its mark, the bytes before its start, and what is read there: in a path row a
+-- number that is not there is refusal 8.
+unfoldable pub startBy : ℕ → ℕ → NumberRead → Outcome Front
+startBy m before r = andThen (numberMeaning 8 (numberPlaced before r)) (λ f. done (front m (f .value) (f .next)))
+
+-- by its mark and the place after that, where a space stands, or refusal 8
+unfoldable pub spaceBy : ℕ → ℕ → List ℕ → Outcome Front
+spaceBy m next s =
+    elim (startsWith 32 (drop next s)) [ true ↦ startBy m (next + 1) (numberUpTo mostScope (drop (next + 1) s)) | false ↦ refused 8 ]
+
+-- and by what is read as its mark
+unfoldable pub markBy : NumberRead → List ℕ → Outcome Front
+markBy r s = andThen (numberMeaning 8 r) (λ f. spaceBy (f .value) (f .next) s)
+
+-- the front of a text, or refusal 8
+unfoldable pub headHere : List ℕ → Outcome Front
 headHere s = markBy (numberUpTo mostMark s) s
 
--- a row, by what is read at its front
-unfoldable pub rowBy : HeadRead → List ℕ → Outcome PathRow
-rowBy (Head m v width) s =
-    refuseIf (not (isEmpty (afterSteps mostSteps (drop width s)))) 8
-    (done (record { mark = m; start = v; steps = stepsOf mostSteps (drop width s) }))
-rowBy NoHead s = refused 8
+-- where the steps begin: behind the front, and at the end of a text that has none
+unfoldable pub behindFront : Outcome Front → List ℕ → ℕ
+behindFront (done h) s = h .width
+behindFront (refused n) s = length s
 
--- A path row, or refusal 8 (01, "Who can cause a refusal"): too many bytes, no mark and start at its front, or something after its steps.
+-- of a whole text
+unfoldable pub firstStep : List ℕ → ℕ
+firstStep s = behindFront (headHere s) s
+
+-- a row, by its front: refusal 8 where something stands after the steps
+unfoldable pub rowBy : Front → List ℕ → Outcome PathRow
+rowBy h s =
+    refuseIf (not (isEmpty (afterSteps mostSteps (drop (h .width) s)))) 8
+    (done (record { mark = h .mark; start = h .start; steps = stepsOf mostSteps (drop (h .width) s) }))
+
+-- A path row, or refusal 8 (01, "Who can cause a refusal"): too many bytes, no mark and start at
+-- its front, or something after its steps.
 unfoldable pub rowHere : List ℕ → Outcome PathRow
-rowHere s = refuseIf (ltb mostBytes (length s)) 8 (rowBy (headHere s) s)
+rowHere s = refuseIf (ltb mostBytes (length s)) 8 (andThen (headHere s) (λ h. rowBy h s))
 
--- what the reader answers of a row in the large: its mark, its start and how many steps it has; `NoRow` is refusal 8
-unfoldable pub rowAnswer : Outcome PathRow → RowRead
-rowAnswer (done r) = Row (r .mark) (r .start) (length (r .steps))
-rowAnswer (refused n) = NoRow
-
--- a row in the large, and what the reader's answer means (01, "Where each language form goes"): these values, or refusal 8
+-- a row in the large: its mark, its start, and how many steps it has
 pub record InLarge : Type 0 where
   pub mark : ℕ
   pub start : ℕ
@@ -110,15 +137,20 @@ pub record InLarge : Type 0 where
 abbrev pub inLarge : PathRow → InLarge
 inLarge r = record { mark = r .mark; start = r .start; count = length (r .steps) }
 
+unfoldable pub rowInLarge : List ℕ → Outcome InLarge
+rowInLarge s = andThen (rowHere s) (λ r. done (inLarge r))
+
+-- what the answer of the row's reader means (01, "Where each language form goes"): these values, or
+-- refusal 8
 unfoldable pub rowMeaning : RowRead → Outcome InLarge
 rowMeaning (Row mark start count) = done (record { mark = mark; start = start; count = count })
 rowMeaning NoRow = refused 8
 
--- The steps that stand behind a text's mark and start, as far as they are of their form. Of a path row these are its steps, all of them; a text without
--- mark and start has none.
-unfoldable pub stepsAfter : HeadRead → List ℕ → List Step
-stepsAfter (Head m v width) s = stepsOf mostSteps (drop width s)
-stepsAfter NoHead s = []
+-- The steps that stand behind a text's front, as far as they are of their form. Of a path row these
+-- are its steps, all of them; a text without a front has none.
+unfoldable pub stepsAfter : Outcome Front → List ℕ → List Step
+stepsAfter (done h) s = stepsOf mostSteps (drop (h .width) s)
+stepsAfter (refused n) s = []
 
 -- of a whole text
 unfoldable pub stepsIn : List ℕ → List Step
@@ -133,6 +165,23 @@ unfoldable pub stepPlaced : ℕ → StepRead → StepRead
 stepPlaced at (Taken x v width) = Taken x v (at + width)
 stepPlaced at NoStep = NoStep
 
+-- a step in a text: the label's letter, the scope that it comes to, and the place after it
+pub record StepFound : Type 0 where
+  pub label : ℕ
+  pub scope : ℕ
+  pub next : ℕ
+
+-- What the answer of the step's reader means (01, "Where each language form goes"): these values, or
+-- that no step stands there. By itself that is no refusal, since a row may end there: `rowBy` tells
+-- where it is refusal 8.
+unfoldable pub stepMeaning : StepRead → Option StepFound
+stepMeaning (Taken x v next) = some (record { label = x; scope = v; next = next })
+stepMeaning NoStep = none
+
+-- the step at a place of a text, if one stands there
+abbrev pub stepFrom : ℕ → List ℕ → Option StepFound
+stepFrom at s = stepMeaning (stepPlaced at (stepHere (drop at s)))
+
 -- the text of steps, and of a row
 unfoldable pub stepsText : List Step → List ℕ
 stepsText [] = []
@@ -141,7 +190,8 @@ stepsText (s ∷ ss) = s .label ∷ (numberText (s .scope) ++ stepsText ss)
 unfoldable pub rowText : PathRow → List ℕ
 rowText r = numberText (r .mark) ++ (32 ∷ (numberText (r .start) ++ stepsText (r .steps)))
 
--- a row from its parts: `count` steps, whose letters and scopes stand in two lists; past their ends stands 0
+-- a row from its parts: `count` steps, whose letters and scopes stand in two lists; past their ends
+-- stands 0
 unfoldable pub stepsMade : ℕ → List ℕ → List ℕ → List Step
 stepsMade zero letters scopes = []
 stepsMade (suc count) letters scopes = record { label = getD letters 0 0; scope = getD scopes 0 0 } ∷ stepsMade count (drop 1 letters) (drop 1 scopes)
@@ -158,7 +208,8 @@ areSteps (s ∷ ss) = isCapital (s .label) && (leb (s .scope) mostScope && areSt
 unfoldable pub isRow : PathRow → Bool
 isRow r = leb (r .mark) mostMark && (leb (r .start) mostScope && (leb (length (r .steps)) mostSteps && areSteps (r .steps)))
 
--- The text of a row that is made from its parts, or refusal 8 (01, "Who can cause a refusal"): parts that make no row of the form.
+-- The text of a row that is made from its parts, or refusal 8 (01, "Who can cause a refusal"):
+-- parts that make no row of the form.
 unfoldable pub rowWritten : ℕ → ℕ → ℕ → List ℕ → List ℕ → Outcome (List ℕ)
 rowWritten mark start count letters scopes =
     refuseIf (not (isRow (rowMade mark start count letters scopes))) 8 (done (rowText (rowMade mark start count letters scopes)))

@@ -1,11 +1,11 @@
--- The promises that tie reading and writing a path row together (document 01, "Paths"). These are the statements; their proofs are in
--- proofs/. Assumes nothing: these are definitions.
+-- The promises that tie reading and writing a path row together (document 01, "Paths"). These are
+-- the statements; their proofs are in proofs/. Assumes nothing: these are definitions.
 use Prim.Native.Nat.{ℕ}
 use mathlib.Core.Path.{_≡_}
 use mathlib.Core.Bool.{true}
 use mathlib.Core.List.{List, map}
 use lib.ListN.{length}
-use Rattle.graph_file.specs.Outcome.{done}
+use Rattle.text_field.specs.Outcome.{done}
 use Rattle.path_row.specs.declared.form.Step.{Step}
 use Rattle.path_row.specs.Form.{PathRow, rowHere, rowText, rowMade, isRow, rowWritten}
 
@@ -17,7 +17,7 @@ ReadThenWritten = (s : List ℕ) (r : PathRow) → rowHere s ≡ done r → (row
 abbrev pub WrittenThenRead : Type 0
 WrittenThenRead = (r : PathRow) → isRow r ≡ true → rowHere (rowText r) ≡ done r
 
--- the same of a row in parts, as the writer takes them: what is written is read back as what the parts make
+-- what is written from parts, as the writer takes them, is read back as the row that the parts make
 abbrev pub PartsThenRead : Type 0
 PartsThenRead = (mark start count : ℕ) (letters scopes text : List ℕ) → rowWritten mark start count letters scopes ≡ done text → rowHere text ≡ done (rowMade mark start count letters scopes)
 

@@ -1,8 +1,9 @@
--- A lent step table (document 01, "Paths") as the code fills it, record by record; what it is to hold is said by Compare's stepsLeft. Assumes nothing: these are definitions.
+-- A lent step table (document 01, "Paths") as the code fills it, record by record; what it is to
+-- hold is said by Compare's stepsLeft. Assumes nothing: these are definitions.
 use Prim.Native.Nat.{ℕ, zero, suc}
 use mathlib.Core.List.{List}
 use lib.ListN.{length, set, getD}
-use Rattle.graph_file.specs.Outcome.{Outcome, refused, done}
+use Rattle.text_field.specs.Outcome.{Outcome, refused, done}
 use Rattle.path_row.specs.declared.form.Step.{Step}
 use Rattle.path_row.specs.Form.{noStep}
 

@@ -1,25 +1,34 @@
--- What is proved of a row in the large, of labels' numbers, of comparing two rows and of a lent table (document 01, "Paths"). These are the statements; their proofs are in
--- proofs/Promises. Assumes nothing: these are definitions.
-use Prim.Native.Nat.{ℕ, _≤_, _<_}
+-- What is proved of a row's first step, of labels' numbers, of comparing two rows and of a lent
+-- table (document 01, "Paths"). These are the statements; their proofs are in proofs/Promises.
+-- Assumes nothing: these are definitions.
+use Prim.Native.Nat.{ℕ, _+_, _≤_, _<_}
 use mathlib.Core.Path.{_≡_}
 use mathlib.Core.Bool.{false}
 use mathlib.Core.Logic.{_↔_}
 use mathlib.Core.List.{List, _++_}
 use lib.ListN.{length, getD, take, drop}
-use Rattle.graph_file.specs.Outcome.{Outcome, done, andThen}
+use Rattle.text_field.specs.Number.{numberText}
+use Rattle.text_field.specs.Outcome.{Outcome, refused, done}
 use Rattle.graph_file.specs.File.{readCells}
 use Rattle.graph_file.specs.Decode.{lettersOf, rulesOf}
 use Rattle.scope_graph.specs.Language.{_∈_, End, by}
 use Rattle.scope_graph.specs.Rows.{language}
 use Rattle.scope_graph.specs.Path.{MoreSpecific}
-use Rattle.path_row.specs.Form.{PathRow, rowHere, rowAnswer, inLarge, rowMeaning}
+use Rattle.path_row.specs.Form.{PathRow, Front, mostSteps, stepsOf, headHere, firstStep, rowHere, stepsIn}
 use Rattle.path_row.specs.Compare.{Comparison, first, second, neither, labelNumber, pathIn, compareAnswer}
 use Rattle.path_row.specs.declared.form.Step.{Step}
 use Rattle.path_row.specs.Lent.{filled}
 
--- what the reader answers of a row means the row's values in the large, or the row's refusal
-abbrev pub RowMeant : Type 0
-RowMeant = (s : List ℕ) → rowMeaning (rowAnswer (rowHere s)) ≡ andThen (rowHere s) (λ r. done (inLarge r))
+-- The place of the first step: behind the bytes of the mark, a space and the bytes of the start; at
+-- the end of a text that does not begin so.
+pub record FirstStepIs (s : List ℕ) : Type 0 where
+  pub behind : (h : Front) → headHere s ≡ done h → firstStep s ≡ length (numberText (h .mark)) + 1 + length (numberText (h .start))
+  pub at-end : headHere s ≡ refused 8 → firstStep s ≡ length s
+  -- from there on the steps are read that the text shows
+  pub steps : stepsOf mostSteps (drop (firstStep s) s) ≡ stepsIn s
+
+abbrev pub FirstSteps : Type 0
+FirstSteps = (s : List ℕ) → FirstStepIs s
 
 -- the numbers of letters in a file
 pub record Numbers (cells : List ℕ) : Type 0 where
@@ -36,18 +45,21 @@ pub record Numbers (cells : List ℕ) : Type 0 where
 abbrev pub LettersNumbered : Type 0
 LettersNumbered = (text cells : List ℕ) → readCells text ≡ done cells → Numbers cells
 
--- the answer says which row is more specific, as the rules have the term: each answer is given exactly where it holds
+-- the answer says which row is more specific, as the rules have the term: each answer is given
+-- exactly where it holds
 pub record SaysWhich (cells : List ℕ) (p q : PathRow) (answer : Outcome Comparison) : Type 0 where
   pub first-is : (answer ≡ done first) ↔ MoreSpecific (language (rulesOf cells)) (pathIn cells p) (pathIn cells q)
   pub second-is : (answer ≡ done second) ↔ MoreSpecific (language (rulesOf cells)) (pathIn cells q) (pathIn cells p)
   pub neither-is : (answer ≡ done neither)
       ↔ ((¬ MoreSpecific (language (rulesOf cells)) (pathIn cells p) (pathIn cells q)) × (¬ MoreSpecific (language (rulesOf cells)) (pathIn cells q) (pathIn cells p)))
 
--- for a text that is read, and two texts that are path rows whose steps fit into the records lent for them
+-- for a text that is read, and two texts that are path rows whose steps fit into the records lent
+-- for them
 abbrev pub CompareIs : Type 0
 CompareIs = (text cells a b : List ℕ) (roomA roomB : ℕ) (p q : PathRow) → readCells text ≡ done cells → rowHere a ≡ done p → rowHere b ≡ done q
     → length (p .steps) ≤ roomA → length (q .steps) ≤ roomB → SaysWhich cells p q (compareAnswer text a b roomA roomB)
 
--- n records filled, where there are as many steps and as many records: the first n steps, and the records behind them as they were
+-- n records filled, where there are as many steps and as many records: the first n steps, and the
+-- records behind them as they were
 abbrev pub FilledIs : Type 0
 FilledIs = (steps lent : List Step) (n : ℕ) → n ≤ length steps → n ≤ length lent → filled steps n lent ≡ take n steps ++ drop n lent

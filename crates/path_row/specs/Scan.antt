@@ -1,6 +1,6 @@
 -- How the code looks through a graph table for the labels and the order pairs: row by row from a place on, while the rows are of the section that
--- is sought. What a file's letters and rules are is said by graph_file's Decode; on cells that were read the two agree (proofs/ScanLaws), and
--- public contracts speak of Decode's alone. Assumes nothing: these are definitions.
+-- is sought. What a file's letters and rules are is said by graph_file's Decode; on cells that were read the two agree (proofs/ScanLaws). The entry
+-- points' contracts speak of Decode's; that of `label_number`, which takes any cells, speaks of these. Assumes nothing: these are definitions.
 use Prim.Native.Nat.{ℕ, zero, suc, _+_, _*_}
 use mathlib.Core.List.{List, [], _∷_, map}
 use mathlib.Core.Bool.{Bool, true, false}

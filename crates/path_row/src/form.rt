@@ -6,7 +6,18 @@ ghost use mathlib.Core.Path.{_≡_};
 ghost use Prim.Native.Nat.{ℕ, _+_};
 ghost use lib.ListN.{length, drop, getD};
 ghost use Rattle.text_field.specs.Number.{numberPlaced};
-ghost use Rattle.path_row.specs.Form.{mostSteps, numberUpTo, stepHere, stepsOf, stepsWidth, stepPlaced, headHere, rowHere, rowAnswer, stepsIn, noStep};
+ghost use Rattle.path_row.specs.Form.{mostSteps, numberUpTo, stepMeaning, stepFrom, stepsOf, stepsWidth};
+ghost use Rattle.path_row.specs.Form.{headMeaning, headHere, rowMeaning, rowInLarge, stepsIn, noStep};
+
+// A file has 64 scopes at most, so none has a number past 63.
+pub const MOST_SCOPE: u64 = 63;
+// A path meets no scope twice, so it has at least one step fewer than there are scopes.
+pub const MOST_STEPS: usize = 63;
+// A mark is a number of 16 bits.
+pub const MOST_MARK: u64 = 65535;
+// The longest row, of a mark of 5 digits, a space, a start and 63 steps by scopes of 2 digits, has
+// 197 bytes. The limit leaves room, and a text past it is not looked at.
+pub const MOST_BYTES: usize = 256;
 
 // A step of a path: the label's letter, and the scope that it comes to.
 #[repr(C)]
@@ -35,7 +46,7 @@ pub enum RowRead {
 
 // The number at a place, if it is at most `most`.
 fn number_up_to(s: &[u8], at: usize, most: u64) -> NumberRead
-    ensures { λ r. ⌜ r ≡ numberPlaced at (numberUpTo most (drop at (now (s .entry)))) ⌝ }
+    ensures answer { λ r. ⌜ r ≡ numberPlaced at (numberUpTo most (drop at (now (s .entry)))) ⌝ }
 {
     let NumberRead::Number(v, next) = read_number(s, at) else {
         return NumberRead::NoNumber;
@@ -48,9 +59,9 @@ fn number_up_to(s: &[u8], at: usize, most: u64) -> NumberRead
 
 // The mark and the start of a row, and the place of its first step.
 pub fn read_head(s: &[u8]) -> HeadRead
-    ensures { λ r. ⌜ r ≡ headHere (now (s .entry)) ⌝ }
+    ensures answer { λ r. ⌜ headMeaning r ≡ headHere (now (s .entry)) ⌝ }
 {
-    let NumberRead::Number(mark, next) = number_up_to(s, 0, 65535) else {
+    let NumberRead::Number(mark, next) = number_up_to(s, 0, MOST_MARK) else {
         return HeadRead::NoHead;
     };
     if s.len() <= next {
@@ -59,15 +70,16 @@ pub fn read_head(s: &[u8]) -> HeadRead
     if s[next] != b' ' {
         return HeadRead::NoHead;
     }
-    let NumberRead::Number(start, at) = number_up_to(s, next + 1, 63) else {
+    let NumberRead::Number(start, at) = number_up_to(s, next + 1, MOST_SCOPE) else {
         return HeadRead::NoHead;
     };
     HeadRead::Head(mark, start, at)
 }
 
-// The step at a place.
+// The step at a place. Where there is none the steps have ended; whether they may end there is for
+// `read_row` to say.
 pub fn next_step(s: &[u8], at: usize) -> StepRead
-    ensures { λ r. ⌜ r ≡ stepPlaced at (stepHere (drop at (now (s .entry)))) ⌝ }
+    ensures answer { λ r. ⌜ stepMeaning r ≡ stepFrom at (now (s .entry)) ⌝ }
 {
     if s.len() <= at {
         return StepRead::NoStep;
@@ -76,41 +88,46 @@ pub fn next_step(s: &[u8], at: usize) -> StepRead
     if !is_capital(x) {
         return StepRead::NoStep;
     }
-    let NumberRead::Number(v, next) = number_up_to(s, at + 1, 63) else {
+    let NumberRead::Number(v, next) = number_up_to(s, at + 1, MOST_SCOPE) else {
         return StepRead::NoStep;
     };
     StepRead::Taken(x, v as u8, next)
 }
 
-// How far steps go from a place on: how many there are, at most 63, and the place after them.
+// How far steps go: how many there are, and the place after them.
 pub struct Walked {
     pub count: usize,
     pub at: usize,
 }
 
+// The steps from a place on, as many as a path may have.
 pub fn walk(s: &[u8], at: usize) -> Walked
-    ensures { λ r. ⌜ (r .count ≡ length (stepsOf mostSteps (drop at (now (s .entry))))) × (r .at ≡ at + stepsWidth mostSteps (drop at (now (s .entry)))) ⌝ }
+    ensures number { λ r. ⌜ r .count ≡ length (stepsOf mostSteps (drop at (now (s .entry)))) ⌝ }
+    ensures place { λ r. ⌜ r .at ≡ at + stepsWidth mostSteps (drop at (now (s .entry))) ⌝ }
 {
     let mut i = at;
-    let mut left: usize = 63;
+    let mut left: usize = MOST_STEPS;
     while left > 0 {
         let StepRead::Taken(_, _, next) = next_step(s, i) else {
             return Walked {
-                count: 63 - left,
+                count: MOST_STEPS - left,
                 at: i,
             };
         };
         i = next;
         left -= 1;
     }
-    Walked { count: 63, at: i }
+    Walked {
+        count: MOST_STEPS,
+        at: i,
+    }
 }
 
 // A path row in the large, or refusal 8.
 pub fn read_row(s: &[u8]) -> RowRead
-    ensures { λ r. ⌜ r ≡ rowAnswer (rowHere (now (s .entry))) ⌝ }
+    ensures answer { λ r. ⌜ rowMeaning r ≡ rowInLarge (now (s .entry)) ⌝ }
 {
-    if 256 < s.len() {
+    if MOST_BYTES < s.len() {
         return RowRead::NoRow;
     }
     let HeadRead::Head(mark, start, first) = read_head(s) else {
@@ -125,10 +142,10 @@ pub fn read_row(s: &[u8]) -> RowRead
 
 // Step i of those that start at a place.
 fn step_from(s: &[u8], at: usize, i: usize) -> Step
-    ensures { λ r. ⌜ r ≡ getD (stepsOf mostSteps (drop at (now (s .entry)))) i noStep ⌝ }
+    ensures answer { λ r. ⌜ r ≡ getD (stepsOf mostSteps (drop at (now (s .entry)))) i noStep ⌝ }
 {
     let mut place = at;
-    let mut left: usize = 63;
+    let mut left: usize = MOST_STEPS;
     let mut k = i;
     while left > 0 {
         let StepRead::Taken(label, scope, next) = next_step(s, place) else {
@@ -146,7 +163,7 @@ fn step_from(s: &[u8], at: usize, i: usize) -> Step
 
 // Step i of a row.
 pub fn step_at(s: &[u8], i: usize) -> Step
-    ensures { λ r. ⌜ r ≡ getD (stepsIn (now (s .entry))) i noStep ⌝ }
+    ensures answer { λ r. ⌜ r ≡ getD (stepsIn (now (s .entry))) i noStep ⌝ }
 {
     let HeadRead::Head(_, _, first) = read_head(s) else {
         return Step { label: 0, scope: 0 };

@@ -1,4 +1,5 @@
-// The step tables that the host lends. A lent slice of records is walked by hand, so these functions only call and copy.
+// The step tables of a comparison are the caller's memory. Proofs about such memory are long, so
+// these functions only call and copy.
 use crate::compare::Compared;
 use crate::compare::steps_due;
 use crate::file::decide;
@@ -13,8 +14,8 @@ ghost use Rattle.path_row.specs.Lent.{filled};
 
 // The first n records become the first n steps of the row.
 pub fn fill<'o, 'a>(out: &'o mut [Step], row: &'a [u8], n: usize)
-    requires { ⌜ n ≤ length (now out) ⌝ }
-    ensures { λ _. ⌜ now (out .exit) ≡ filled (stepsIn (now (row .entry))) n (now (out .entry)) ⌝ }
+    requires room { ⌜ n ≤ length (now out) ⌝ }
+    ensures memory { λ _. ⌜ now (out .exit) ≡ filled (stepsIn (now (row .entry))) n (now (out .entry)) ⌝ }
 {
     let mut i = 0;
     while i < n {
@@ -23,8 +24,9 @@ pub fn fill<'o, 'a>(out: &'o mut [Step], row: &'a [u8], n: usize)
     }
 }
 
-// Which of two rows is more specific, by the order in a gym file's text. The steps of each go into the table lent for it, and the records behind
-// them stay as they were; after a refusal both tables do.
+// Which of two rows is more specific, by the order in a gym file's text. The steps of each go into
+// the table lent for it, and the records behind them stay as they were; after a refusal both tables
+// do.
 pub fn compare<'s, 'p, 'q>(
     text: &'s [u8],
     a: &'s [u8],
@@ -32,7 +34,8 @@ pub fn compare<'s, 'p, 'q>(
     first: &'p mut [Step],
     second: &'q mut [Step],
 ) -> Compared
-    ensures { λ r. ⌜ (meaning r ≡ compareAnswer (now (text .entry)) (now (a .entry)) (now (b .entry)) (length (now (first .entry))) (length (now (second .entry))))
+    ensures answer_and_memory { λ r. ⌜ (meaning r ≡ compareAnswer (now (text .entry)) (now (a .entry)) (now (b .entry))
+        (length (now (first .entry))) (length (now (second .entry))))
         × (now (first .exit) ≡ stepsLeft (meaning r) (now (a .entry)) (now (first .entry)))
         × (now (second .exit) ≡ stepsLeft (meaning r) (now (b .entry)) (now (second .entry))) ⌝ }
 {

@@ -1,5 +1,9 @@
 // A path row put together as text.
-use graph_file::Answer;
+use crate::form::MOST_BYTES;
+use crate::form::MOST_MARK;
+use crate::form::MOST_SCOPE;
+use crate::form::MOST_STEPS;
+use text_field::Answer;
 use text_field::byte_at;
 use text_field::is_capital;
 use text_field::put_byte;
@@ -11,13 +15,14 @@ ghost use lib.Dec.{leb};
 ghost use lib.ListN.{length, drop};
 ghost use Rattle.text_field.specs.Bytes.{isCapital};
 ghost use Rattle.text_field.specs.Buffer.{Buf, puts};
-ghost use Rattle.graph_file.specs.File.{answer, leaves};
-ghost use Rattle.graph_file.specs.Reader.{answerOf};
-ghost use Rattle.path_row.specs.Form.{mostScope, stepsText, rowText, stepsMade, rowMade, areSteps, isRow, rowWritten};
+ghost use Rattle.text_field.specs.Answer.{answer, leaves, answerOf};
+ghost use Rattle.path_row.specs.Form.{mostScope, stepsText, rowText, stepsMade, rowMade};
+ghost use Rattle.path_row.specs.Form.{areSteps, isRow, rowWritten};
 
 // The text of the first `count` steps, from their letters and scopes.
 fn put_steps(out: &mut [u8], n: usize, letters: &[u8], scopes: &[u8], count: usize) -> usize
-    ensures { λ r. ⌜ _≡_ {A = Buf} (now (out .exit), r) (puts (now (out .entry), n) (stepsText (stepsMade count (now (letters .entry)) (now (scopes .entry))))) ⌝ }
+    ensures written { λ r. ⌜ _≡_ {A = Buf} (now (out .exit), r)
+        (puts (now (out .entry), n) (stepsText (stepsMade count (now (letters .entry)) (now (scopes .entry))))) ⌝ }
 {
     let mut k = n;
     let mut i: usize = 0;
@@ -39,7 +44,8 @@ fn put_row(
     scopes: &[u8],
     count: usize,
 ) -> usize
-    ensures { λ r. ⌜ _≡_ {A = Buf} (now (out .exit), r) (puts (now (out .entry), n) (rowText (rowMade mark start count (now (letters .entry)) (now (scopes .entry))))) ⌝ }
+    ensures written { λ r. ⌜ _≡_ {A = Buf} (now (out .exit), r)
+        (puts (now (out .entry), n) (rowText (rowMade mark start count (now (letters .entry)) (now (scopes .entry))))) ⌝ }
 {
     let after = put_number(out, n, mark);
     let space = put_byte(out, after, b' ');
@@ -49,17 +55,17 @@ fn put_row(
 
 // Can a step be written: is it a letter A to Z and a scope?
 fn is_step(label: u8, scope: u8) -> bool
-    ensures { λ r. ⌜ r ≡ (isCapital label && leb scope mostScope) ⌝ }
+    ensures answer { λ r. ⌜ r ≡ (isCapital label && leb scope mostScope) ⌝ }
 {
     if !is_capital(label) {
         return false;
     }
-    scope <= 63
+    scope as u64 <= MOST_SCOPE
 }
 
 // Can each of the first `count` steps be written?
 fn are_steps(letters: &[u8], scopes: &[u8], count: usize) -> bool
-    ensures { λ r. ⌜ r ≡ areSteps (stepsMade count (now (letters .entry)) (now (scopes .entry))) ⌝ }
+    ensures answer { λ r. ⌜ r ≡ areSteps (stepsMade count (now (letters .entry)) (now (scopes .entry))) ⌝ }
 {
     let mut i: usize = 0;
     while i < count {
@@ -73,30 +79,31 @@ fn are_steps(letters: &[u8], scopes: &[u8], count: usize) -> bool
 
 // Do the parts make a path row?
 fn is_row(mark: u64, start: u64, count: usize, letters: &[u8], scopes: &[u8]) -> bool
-    ensures { λ r. ⌜ r ≡ isRow (rowMade mark start count (now (letters .entry)) (now (scopes .entry))) ⌝ }
+    ensures answer { λ r. ⌜ r ≡ isRow (rowMade mark start count (now (letters .entry)) (now (scopes .entry))) ⌝ }
 {
-    if 65535 < mark {
+    if MOST_MARK < mark {
         return false;
     }
-    if 63 < start {
+    if MOST_SCOPE < start {
         return false;
     }
-    if 63 < count {
+    if MOST_STEPS < count {
         return false;
     }
     are_steps(letters, scopes, count)
 }
 
-// How many bytes a path row takes: at most 256, so they fit.
+// How many bytes a path row takes: no more than a row may have, so they fit.
 fn row_len(mark: u64, start: u64, count: usize, letters: &[u8], scopes: &[u8]) -> usize
-    requires { ⌜ isRow (rowMade mark start count (now letters) (now scopes)) ≡ true ⌝ }
-    ensures { λ r. ⌜ r ≡ length (rowText (rowMade mark start count (now (letters .entry)) (now (scopes .entry)))) ⌝ }
+    requires row { ⌜ isRow (rowMade mark start count (now letters) (now scopes)) ≡ true ⌝ }
+    ensures answer { λ r. ⌜ r ≡ length (rowText (rowMade mark start count (now (letters .entry)) (now (scopes .entry)))) ⌝ }
 {
-    let mut text = [0u8; 256];
+    let mut text = [0u8; MOST_BYTES];
     put_row(&mut text, 0, mark, start, letters, scopes, count)
 }
 
-// A path row written from its parts: its mark, its start, and the letters and scopes of its first `count` steps. After a refusal the buffer is as it was.
+// A path row written from its parts: its mark, its start, and the letters and scopes of its first
+// `count` steps. After a refusal the buffer is as it was.
 pub fn write_row(
     mark: u64,
     start: u64,
@@ -105,8 +112,10 @@ pub fn write_row(
     scopes: &[u8],
     out: &mut [u8],
 ) -> Answer
-    ensures { λ r. ⌜ answerOf r ≡ answer (rowWritten mark start count (now (letters .entry)) (now (scopes .entry))) (length (now (out .entry))) ⌝ }
-    ensures { λ _. ⌜ now (out .exit) ≡ leaves (rowWritten mark start count (now (letters .entry)) (now (scopes .entry))) (now (out .entry)) ⌝ }
+    ensures answer { λ r. ⌜ answerOf r
+        ≡ answer (rowWritten mark start count (now (letters .entry)) (now (scopes .entry))) (length (now (out .entry))) ⌝ }
+    ensures memory { λ _. ⌜ now (out .exit)
+        ≡ leaves (rowWritten mark start count (now (letters .entry)) (now (scopes .entry))) (now (out .entry)) ⌝ }
 {
     if !is_row(mark, start, count, letters, scopes) {
         return Answer::Refused(8);

@@ -5,7 +5,7 @@ use mathlib.Core.List.{List, [], _∷_, _++_, append-assoc}
 use native.Mathlib.Omega.{arith}
 use lib.ListN.{length, drop}
 use Rattle.scope_graph.specs.Language.{End, stop, by}
-use Rattle.graph_file.specs.Outcome.{done}
+use Rattle.text_field.specs.Outcome.{done}
 use Rattle.graph_file.specs.Admission.{Row, Sofar, nothing, begun, taken}
 use Rattle.graph_file.specs.File.{readCells, writeText}
 use Rattle.graph_file.specs.Decode.{rulesOf, scopesOf, graphOf}

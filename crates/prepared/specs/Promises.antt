@@ -12,7 +12,7 @@ use Rattle.scope_graph.specs.Order.{endOf}
 use Rattle.scope_graph.specs.Graph.{Declaration, Query}
 use Rattle.scope_graph.specs.Computed.{leadsOn, usable, openEnd}
 use Rattle.graph_file.specs.Format.{labelSection, pairSection, transitionSection, acceptSection, edgeSection, declarationSection}
-use Rattle.graph_file.specs.Outcome.{done}
+use Rattle.text_field.specs.Outcome.{done}
 use Rattle.graph_file.specs.File.{readCells, writeText}
 use Rattle.graph_file.specs.Decode.{rowsIn, lettersOf, rulesOf, graphOf}
 use Rattle.edge_rows.specs.Rows.{rowHops, allHops, RowsAscend}

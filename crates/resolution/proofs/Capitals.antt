@@ -7,28 +7,20 @@ use mathlib.Core.List.{List, [], _∷_, _++_, flatMap, append-nil, List·Memᴰ�
 use native.Mathlib.Omega.{arith}
 use lib.Dec.{eqb, ltb}
 use lib.ListN.{length, drop}
-use lib.Seq.{sets, length-sets}
+use lib.Seq.{sets}
 use borrow.Author.Tests.{eqb-true}
 use Rattle.scope_graph.specs.Language.{_∈_}
 use Rattle.scope_graph.proofs.Lists.{Two, here, there}
 use Rattle.text_field.specs.Bytes.{isCapital}
 use Rattle.graph_file.specs.Format.{Item, byte, field, letter, labels, sections, sectionAt, form, labelSection}
-use Rattle.graph_file.specs.Outcome.{Outcome, refused, done, andThen}
+use Rattle.text_field.specs.Outcome.{Outcome, refused, done, andThen}
 use Rattle.graph_file.specs.Admission.{Row, value, blank}
 use Rattle.graph_file.specs.Line.{Reading, byteTaken, first, readField, startsWith, readItem, placeOf, readItems}
 use Rattle.graph_file.specs.File.{Piece, readNames, readRow, reading, readStage, madeOf, readCells}
 use Rattle.graph_file.specs.Decode.{keptIf, rowsAmong, rowsIn}
-use Rattle.graph_file.proofs.DecodeWay.{andThen-done, done-is, either-done, Tells, whole-admitted}
+use Rattle.graph_file.proofs.DecodeWay.{andThen-done, done-is, either-done, names-made, row-made, Tells, whole-admitted}
+use Rattle.graph_file.proofs.DecodeSections.{among-row}
 use Rattle.resolution.proofs.ListLaws.{flatMap-append}
-
--- a line that is read fills the row it is read into
-read-length : (letters : List ℕ) (items : List Item) (row text : List ℕ) (r : Reading) → readItems letters items row text ≡ done r
-    → length (r .values) ≡ length row
-unfolding readItems
-read-length letters [] row text r e = ap (λ (x : Reading). length (x .values)) (sym (done-is e))
-read-length letters (i ∷ items) row text r e =
-    let c = andThen-done (readItem letters i text) _ e in
-    read-length letters items (sets row (placeOf i) (c .0 .values)) (c .0 .rest) r (c .2) ∙ length-sets row (placeOf i) (c .0 .values)
 
 byte-taken : (t : Bool) (v : ℕ) (text : List ℕ) (r : Reading) → byteTaken t v text ≡ done r → (t ≡ true) × (r .values ≡ v ∷ [])
 unfolding byteTaken
@@ -68,21 +60,14 @@ record Told (made rest cells : List ℕ) : Type 0 where
   cells-are : cells ≡ form ∷ flat rows
   good : (p : Placed) → p ∈ rows → Good p
 
-names-made : (k : ℕ) (rest : List ℕ) (p : Piece) → readNames k rest ≡ done p → p .made ≡ []
-unfolding readNames
-names-made k rest p e =
-    let c = andThen-done (readItems [] _ blank rest) _ e in
-    ap (λ (x : Piece). x .made) (sym (done-is (c .2)))
-
 letter-at : (k : ℕ) (letters text : List ℕ) (r : Reading) → readItems letters (sectionAt k .row) blank text ≡ done r → k ≡ labelSection → isCapital (value (r .values) 0) ≡ true
 letter-at k letters text r e z = letter-read letters text r (subst (λ (n : ℕ). readItems letters (sectionAt n .row) blank text ≡ done r) z e)
 
-row-made : (k : ℕ) (letters rest : List ℕ) (p : Piece) → readRow k letters rest ≡ done p → Good (k, p .row) × (p .made ≡ k ∷ p .row)
-unfolding readRow Good
-row-made k letters rest p e =
+letter-made : (k : ℕ) (letters rest : List ℕ) (p : Piece) → readRow k letters rest ≡ done p → k ≡ labelSection → isCapital (value (p .row) 0) ≡ true
+unfolding readRow
+letter-made k letters rest p e =
     let c = andThen-done (readItems letters (sectionAt k .row) blank rest) _ e in
-    subst (λ (x : Piece). ((length (x .row) ≡ 5) × (k ≡ labelSection → isCapital (value (x .row) 0) ≡ true)) × (x .made ≡ k ∷ x .row)) (done-is (c .2))
-    ((read-length letters (sectionAt k .row) blank rest (c .0) (c .1), letter-at k letters rest (c .0) (c .1)), refl)
+    subst (λ (x : Piece). k ≡ labelSection → isCapital (value (x .row) 0) ≡ true) (done-is (c .2)) (letter-at k letters rest (c .0) (c .1))
 
 reading-tells : Tells reading Told
 unfolding reading flat flatMap Good
@@ -92,7 +77,7 @@ reading-tells = record {
   row = λ k letters made rest cells p m e t.
       let r = row-made k letters rest p e in
       let one : List Placed = (k, p .row) ∷ [] in (
-        r .0 .0,
+        r .0,
         record {
           so-far = rw (r .1, t .so-far);
           rows = t .rows ++ one;
@@ -102,27 +87,17 @@ reading-tells = record {
               ∙ ap (λ (l : List ℕ). form ∷ l) (sym (flatMap-append (λ (x : Placed). x .0 ∷ x .1) (t .rows) one));
           good = λ x i.
               ⊎-elim (λ j. t .good x j)
-              (λ j. ⊎-elim (λ s. rw s (r .0)) (λ n. absurd (List·Memᴰ·not-nil n)) (List·Memᴰ·cases-cons j))
+              (λ j. ⊎-elim (λ s. rw s (r .0, letter-made k letters rest p e)) (λ n. absurd (List·Memᴰ·not-nil n)) (List·Memᴰ·cases-cons j))
               (List·Memᴰ·append-cases (t .rows) i);
         },
       );
 }
 
-among-row : (k : ℕ) (row more : List ℕ) → length row ≡ 5 → rowsAmong labelSection (k ∷ (row ++ more)) ≡ keptIf (eqb k labelSection) row (rowsAmong labelSection more)
-unfolding rowsAmong
-among-row k [] more h = absurd (omega arith)
-among-row k (a ∷ []) more h = absurd (omega arith)
-among-row k (a ∷ b ∷ []) more h = absurd (omega arith)
-among-row k (a ∷ b ∷ c ∷ []) more h = absurd (omega arith)
-among-row k (a ∷ b ∷ c ∷ d ∷ []) more h = absurd (omega arith)
-among-row k (a ∷ b ∷ c ∷ d ∷ e ∷ []) more h = refl
-among-row k (a ∷ b ∷ c ∷ d ∷ e ∷ f ∷ l) more h = absurd (omega arith)
-
 among-good : (rs : List Placed) → ((p : Placed) → p ∈ rs → Good p) → (row : Row) → row ∈ rowsAmong labelSection (flat rs) → isCapital (value row 0) ≡ true
 unfolding flat flatMap rowsAmong keptIf Good
 among-good [] h row m = absurd (List·Memᴰ·not-nil m)
 among-good (p ∷ rs) h row m =
-    kept (eqb (p .0) labelSection) refl (rw (among-row (p .0) (p .1) (flat rs) (h p here .0)) at m) (among-good rs (λ x i. h x (there i)) row)
+    kept (eqb (p .0) labelSection) refl (rw (among-row labelSection (p .0) (p .1) (flat rs) (h p here .0)) at m) (among-good rs (λ x i. h x (there i)) row)
   where
     kept : (t : Bool) → eqb (p .0) labelSection ≡ t → row ∈ keptIf t (p .1) (rowsAmong labelSection (flat rs))
         → (row ∈ rowsAmong labelSection (flat rs) → isCapital (value row 0) ≡ true) → isCapital (value row 0) ≡ true

@@ -5,7 +5,6 @@ use mathlib.Core.Bool.{Bool, true, false}
 use mathlib.Core.List.{List, [], _∷_, _++_, append-assoc}
 use native.Mathlib.Omega.{arith}
 use native.Mathlib.Numerals.{add-one}
-use native.Mathlib.Nat.{div-le-self}
 use lib.ListN.{length, getD, take, drop, length-append, length-map, drop-of-length-le}
 use lib.Seq.{drop-cons}
 use Rattle.scope_graph.specs.Graph.{Query}
@@ -16,16 +15,18 @@ use Rattle.text_field.specs.Buffer.{Buf, put, puts}
 use Rattle.text_field.proofs.NumberLaws.{length-below}
 use Rattle.text_field.proofs.BufferLaws.{puts-then}
 use Rattle.graph_file.specs.Format.{querySection, queries, sections, sectionAt}
-use Rattle.graph_file.specs.Outcome.{refused, done}
-use Rattle.graph_file.specs.File.{answer, leaves}
-use Rattle.graph_file.specs.Decode.{rowsIn, rulesOf, queryOf, queriesOf}
+use Rattle.text_field.specs.Outcome.{refused, done}
+use Rattle.text_field.specs.Answer.{answer, leaves}
+use Rattle.graph_file.specs.Decode.{rowsIn, rulesOf, queryOf, queriesOf, WasRead}
 use Rattle.graph_file.specs.Admission.{value, blank}
 use Rattle.prepared.specs.Sections.{partOf, rowsOf}
-use Rattle.follow.specs.Text.{summaryLine, shareText, summaryText}
+use Rattle.resolution.specs.Share.{share}
+use Rattle.resolution.specs.Summary.{summaryLine, shareText, summaryText}
 use Rattle.resolution.specs.declared.sums.Figures.{Figures}
 use Rattle.resolution.specs.Listing.{foundFor, queryAt, isFound, countFound, summaryOf}
-use Rattle.resolution.specs.Asked.{WasRead, queryFrom, foundNumber}
+use Rattle.resolution.specs.Asked.{queryFrom, foundNumber}
 use Rattle.resolution.specs.Figures.{figuresAfter, noFigures, figuresOver, fieldText, countsText}
+use Rattle.resolution.proofs.Nearest.{share-small}
 use Rattle.resolution.proofs.Given.{accepted}
 use Rattle.resolution.proofs.Heads.{query-is, inside, count-is, own-within, own-short, own-whole}
 
@@ -154,10 +155,10 @@ pub share-none : (n one : ℕ) (b c : Buf) → n ≡ 0 → c ≡ put b 45 → c 
 unfolding shareText puts
 share-none n one b c e f = rw e f
 
-pub share-some : (n one : ℕ) (b c : Buf) → (n ≡ 0 → ⊥) → c ≡ puts b (numberText (one * 100 / n)) → c ≡ puts b (shareText n one)
+pub share-some : (n one v : ℕ) (b c : Buf) → (n ≡ 0 → ⊥) → v ≡ share one n → c ≡ puts b (numberText v) → c ≡ puts b (shareText n one)
 unfolding shareText
-share-some zero one b c e f = absurd (e refl)
-share-some (suc n) one b c e f = f
+share-some zero one v b c h e f = absurd (h refl)
+share-some (suc n) one v b c h e f = rw (← e) f
 
 parts : (n o s z e : List ℕ) → n ++ (32 ∷ (o ++ (32 ∷ (s ++ (32 ∷ (z ++ (32 ∷ e)))))))
     ≡ ((n ++ (32 ∷ [])) ++ ((o ++ (32 ∷ [])) ++ ((s ++ (32 ∷ [])) ++ (z ++ (32 ∷ []))))) ++ e
@@ -185,7 +186,7 @@ three v h = length-below 2 v (let z : 10 ^ 3 ≡ 1000 = refl in rw z (omega arit
 share-short : (n one : ℕ) → one ≤ 256 → length (shareText n one) ≤ 5
 unfolding shareText
 share-short zero one h = omega arith
-share-short (suc n) one h = length-below 4 (one * 100 / suc n) (let z : 10 ^ 5 ≡ 100000 = refl in let d = div-le-self (one * 100) (suc n) in rw z (omega arith))
+share-short (suc n) one h = length-below 4 (share one (suc n)) (let z : 10 ^ 5 ≡ 100000 = refl in let d = share-small one (suc n) in rw z (omega arith))
 
 pub summary-short : (n one several none : ℕ) → n ≤ 256 → one + several + none ≤ 256 → length (summaryText n one several none) ≤ 64
 unfolding summaryText

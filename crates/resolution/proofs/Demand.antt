@@ -21,8 +21,9 @@ use Rattle.scope_graph.proofs.Promises.{promises}
 use Rattle.scope_graph.proofs.Lists.{here, there}
 use Rattle.text_field.specs.Number.{numberText}
 use Rattle.text_field.proofs.NumberLaws.{length-some}
-use Rattle.graph_file.specs.Outcome.{Outcome, refused, done, andThen, refuseIf}
-use Rattle.graph_file.specs.File.{readCells, answer, written, leaves}
+use Rattle.text_field.specs.Outcome.{Outcome, refused, done, andThen, refuseIf}
+use Rattle.graph_file.specs.File.{readCells}
+use Rattle.text_field.specs.Answer.{answer, written, leaves}
 use Rattle.graph_file.specs.Decode.{rulesOf, graphOf, opensOf, queriesOf, lettersOf, scopesOf}
 use Rattle.graph_file.specs.Accepted.{AcceptedTable}
 use Rattle.graph_file.proofs.DecodeAccepted.{read-accepted}

@@ -16,7 +16,7 @@ use Rattle.scope_graph.proofs.Lists.{Two, and-right}
 use Rattle.text_field.specs.Bytes.{within, isCapital}
 use Rattle.graph_file.specs.Format.{labelSection}
 use Rattle.graph_file.specs.Admission.{Row, value, blank}
-use Rattle.graph_file.specs.Decode.{rowsIn, lettersOf, rulesOf, graphOf}
+use Rattle.graph_file.specs.Decode.{rowsIn, lettersOf, rulesOf, graphOf, WasRead}
 use Rattle.graph_file.specs.Accepted.{AcceptedTable}
 use Rattle.graph_file.proofs.DecodeAccepted.{read-accepted}
 use Rattle.prepared.specs.Sections.{partOf, rowsOf}
@@ -26,7 +26,7 @@ use Rattle.prepared.proofs.SectionLaws.{rows-in-part}
 use Rattle.prepared.proofs.Accepted.{read-sound}
 use Rattle.prepared.proofs.Board.{board-is, order-is, open-is}
 use Rattle.prepared.proofs.Fill.{tabulate-at, tabulate-length}
-use Rattle.resolution.specs.Asked.{WasRead, letterTable}
+use Rattle.resolution.specs.Asked.{letterTable}
 use Rattle.resolution.proofs.Walked.{TablesAre}
 use Rattle.resolution.proofs.Capitals.{capitals}
 use Rattle.resolution.proofs.Demand.{getD-in}

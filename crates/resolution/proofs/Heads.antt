@@ -25,14 +25,14 @@ use Rattle.text_field.proofs.CellLaws.{name-length}
 use Rattle.text_field.proofs.BufferLaws.{puts-then, puts-fits}
 use Rattle.graph_file.specs.Format.{querySection}
 use Rattle.graph_file.specs.Admission.{Row, value, blank}
-use Rattle.graph_file.specs.Outcome.{Outcome, refused, done, andThen, refuseIf}
-use Rattle.graph_file.specs.File.{readCells, answer, written, leaves}
-use Rattle.graph_file.specs.declared.reader.Answer.{Answer}
-use Rattle.graph_file.specs.declared.reader.Answer.the-variants.{Refused, Written}
-use Rattle.graph_file.specs.Reader.{answerOf}
+use Rattle.text_field.specs.Outcome.{Outcome, refused, done, andThen, refuseIf}
+use Rattle.graph_file.specs.File.{readCells}
+use Rattle.text_field.specs.Answer.{answer, written, leaves, answerOf}
+use Rattle.text_field.specs.declared.answer.Answer.{Answer}
+use Rattle.text_field.specs.declared.answer.Answer.the-variants.{Refused, Written}
 use Rattle.graph_file.proofs.DecodeWay.{done-is}
 use Rattle.graph_file.proofs.DecodeAccepted.{read-accepted}
-use Rattle.graph_file.specs.Decode.{rowsIn, rulesOf, scopesOf, graphOf, lettersOf, opensOf, nameAt, queryOf, queriesOf}
+use Rattle.graph_file.specs.Decode.{rowsIn, rulesOf, scopesOf, graphOf, lettersOf, opensOf, nameAt, queryOf, queriesOf, WasRead}
 use Rattle.prepared.specs.Sections.{partOf, rowsOf}
 use Rattle.follow.specs.Text.{headLine, rowsLine, foundText, letterOf, endText}
 use Rattle.follow.specs.declared.Budget.{Budget}
@@ -41,7 +41,7 @@ use Rattle.follow.specs.Pour.{spend}
 use Rattle.resolution.specs.declared.text.Awaits.{Awaits}
 use Rattle.resolution.specs.declared.text.Awaits.the-variants.{Settled, Pair}
 use Rattle.resolution.specs.Listing.{awaitsText, foundFor, entriesText, listingText, queryAt, listingOf, summaryOf, listingFor, summaryFor}
-use Rattle.resolution.specs.Asked.{WasRead, Asked, queryFrom, letterTable, foundNumber, foundFrom, isOver, awaitsMeaning, awaitsBytes, queryText, headText, queryHead}
+use Rattle.resolution.specs.Asked.{Asked, queryFrom, letterTable, foundNumber, foundFrom, isOver, awaitsMeaning, awaitsBytes, queryText, headText, queryHead}
 use Rattle.resolution.proofs.Demand.{getD-in}
 use Rattle.resolution.proofs.Given.{accepted, rows-are, letters-are}
 

@@ -10,5 +10,6 @@ pub mod Totals
 pub mod Given
 pub mod Answers
 pub mod Heads
+pub mod Nearest
 pub mod Counts
 pub mod Marked

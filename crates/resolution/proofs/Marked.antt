@@ -17,10 +17,10 @@ use Rattle.scope_graph.specs.Completion.{Settled, Awaits}
 use Rattle.scope_graph.specs.Promises.{QueryPromises}
 use Rattle.scope_graph.proofs.Promises.{promises}
 use Rattle.text_field.specs.Bytes.{within, isDigit, isCapital, isLower, isNameByte}
-use Rattle.text_field.specs.Number.{digitsOf, numberText, growing, digitsFrom, numberHere}
-use Rattle.text_field.specs.Name.{packed, packHigh, packLow, bytesOf, beforeZero, nameText, nameRun, nameOf, nameHere}
+use Rattle.text_field.specs.Number.{digitsOf, numberText, growing, digitsFrom, numberHere, numberMeaning}
+use Rattle.text_field.specs.Name.{packed, packHigh, packLow, bytesOf, beforeZero, nameText, nameRun, nameOf, nameHere, nameMeaning}
 use Rattle.graph_file.specs.Format.{labels, pairs, transitions, accepts, scopeCount, edges, declarations, openPairs, queries, sections, sectionAt, everyItem}
-use Rattle.graph_file.specs.Outcome.{Outcome, refused, done, andThen, refuseIf}
+use Rattle.text_field.specs.Outcome.{Outcome, refused, done, andThen, refuseIf}
 use Rattle.graph_file.specs.Admission.{nothing, begun, joined, counted, taken, kindInRange, itemInRange, inRange, keyLess, listed, follows, unless, admission}
 use Rattle.graph_file.specs.Line.{numberTaken, nameTaken, byteTaken, place, endTaken, readField, startsWith, readItem, placeOf, readItems}
 use Rattle.graph_file.specs.Order.{someRow, sameEnds, gap, pairFault, orderFault}
@@ -36,7 +36,7 @@ use Rattle.resolution.proofs.Demand.{getD-in, listing-is}
 
 -- what reading a text computes with, and what a query's answers and their text do: each trial names one of these alone on its `unfolding` line
 reads : Unit {0}
-unfolding labels pairs transitions accepts scopeCount edges declarations openPairs queries sections sectionAt andThen refuseIf nothing begun joined counted taken everyItem kindInRange itemInRange inRange keyLess listed follows unless admission someRow sameEnds gap pairFault orderFault ifAdmitted afterRow oneRow throughRows afterNames enough throughSection isEmpty throughSections ordered atStart whole madeOf within isDigit isCapital isLower isNameByte numberTaken nameTaken byteTaken place endTaken readField startsWith readItem placeOf readItems growing digitsFrom numberHere packed packHigh packLow nameRun nameOf nameHere readNames rowFollows readRow reading readStage readCells
+unfolding labels pairs transitions accepts scopeCount edges declarations openPairs queries sections sectionAt andThen refuseIf nothing begun joined counted taken everyItem kindInRange itemInRange inRange keyLess listed follows unless admission someRow sameEnds gap pairFault orderFault ifAdmitted afterRow oneRow throughRows afterNames enough throughSection isEmpty throughSections ordered atStart whole madeOf within isDigit isCapital isLower isNameByte numberTaken numberMeaning nameTaken nameMeaning byteTaken place endTaken readField startsWith readItem placeOf readItems growing digitsFrom numberHere packed packHigh packLow nameRun nameOf nameHere readNames rowFollows readRow reading readStage readCells
 reads = tt
 
 unfoldable pub answers : Unit {0}

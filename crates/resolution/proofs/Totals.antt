@@ -10,11 +10,11 @@ use Rattle.scope_graph.specs.Computed.{Found, found-none, found-one, found-seve
 use Rattle.scope_graph.specs.Listing.{FoundIs}
 use Rattle.scope_graph.proofs.Promises.{promises}
 use Rattle.scope_graph.proofs.Lists.{here, there}
-use Rattle.graph_file.specs.Outcome.{Outcome, done, andThen}
+use Rattle.text_field.specs.Outcome.{Outcome, done, andThen}
 use Rattle.graph_file.specs.File.{readCells}
 use Rattle.graph_file.specs.Decode.{rulesOf, graphOf, opensOf, queriesOf}
 use Rattle.graph_file.proofs.DecodeAccepted.{read-accepted}
-use Rattle.follow.specs.Text.{summaryText}
+use Rattle.resolution.specs.Summary.{summaryText}
 use Rattle.resolution.specs.Listing.{foundFor, isFound, countFound, summaryOf, summaryFor}
 use Rattle.resolution.specs.Totals.{FoundsAre, countIn, SummaryIs, SummaryRight}
 

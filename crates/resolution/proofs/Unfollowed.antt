@@ -29,7 +29,8 @@ use Rattle.follow.specs.declared.Budget.the-variants.{Left}
 use Rattle.follow.specs.Pour.{State, spend, pour}
 use Rattle.follow.specs.Walk.{placeBytes, bytesFrom, walked}
 use Rattle.resolution.specs.declared.tables.Tables.{Tables}
-use Rattle.resolution.specs.Asked.{WasRead, LiveAt, WorthAt, AwayAt, Ready, barred, IsAway, walkWith, letterTable, isOver, followedBy}
+use Rattle.graph_file.specs.Decode.{WasRead}
+use Rattle.resolution.specs.Asked.{LiveAt, WorthAt, AwayAt, Ready, barred, IsAway, walkWith, letterTable, isOver, followedBy}
 use Rattle.resolution.proofs.Walked.{full-free}
 
 -- a place that an open pair asks for is at its scope, in a state where its end is usable

@@ -13,9 +13,7 @@ use Rattle.text_field.specs.Number.{numberText}
 use Rattle.text_field.specs.Name.{nameText}
 use Rattle.graph_file.specs.Format.{labelSection, countSection, edgeSection, declarationSection}
 use Rattle.graph_file.specs.Admission.{Row, value, blank}
-use Rattle.graph_file.specs.Outcome.{done}
-use Rattle.graph_file.specs.File.{readCells}
-use Rattle.graph_file.specs.Decode.{rulesOf, scopesOf, graphOf, opensOf}
+use Rattle.graph_file.specs.Decode.{rulesOf, scopesOf, graphOf, opensOf, WasRead}
 use Rattle.prepared.specs.Sections.{partOf, rowsOf}
 use Rattle.search.specs.Live.{Closed, any-way}
 use Rattle.search.specs.Tables.{placeFlag, pairFlag, freeFlag, tableBoard}
@@ -31,10 +29,6 @@ use Rattle.resolution.specs.Listing.{awaitsText, foundFor}
 use Rattle.resolution.specs.declared.tables.Tables.{Tables}
 use Rattle.resolution.specs.declared.text.Awaits.{Awaits}
 use Rattle.resolution.specs.declared.text.Awaits.the-variants.{Settled, Pair}
-
--- some text is read as these cells
-abbrev pub WasRead : List ℕ → Type 0
-WasRead cells = (text : List ℕ) × (readCells text ≡ done cells)
 
 -- a query of such a table starts at a scope of it
 pub record Asked (cells : List ℕ) (start : ℕ) : Type 0 where
@@ -68,7 +62,8 @@ abbrev pub WorthAt : (cells delta goal order seek : List ℕ) → ℕ → List �
 WorthAt cells delta goal order seek start worth =
     Closed (tableBoard (partOf edgeSection cells) delta goal) (placeFlag seek) (wayOf goal order true) (freeAt start) (placeFlag worth)
 
--- the same of the table of places that are away from the start, made with all scopes free: the start's own place is asked about too
+-- the table of places that are away from the start is closed too, for steps that are not cut and with nothing asked for; it is made with all scopes free, since
+-- the start's own place is asked about as well
 abbrev pub AwayAt : (cells delta goal order away : List ℕ) → Type 0
 AwayAt cells delta goal order away =
     Closed (tableBoard (partOf edgeSection cells) delta goal) (placeFlag []) (wayOf goal order true) (freeFlag (replicate 64 1)) (placeFlag away)
@@ -143,7 +138,7 @@ unfoldable pub headText : List ℕ → ℕ → ℕ → ℕ → ℕ → Awaits �
 headText letters start high low f a =
     queryText start high low ++ (foundText (foundFrom f) ++ (32 ∷ (awaitsBytes letters a ++ (10 ∷ rowsLine))))
 
--- the same of a query of a table, as the rules have it
+-- a listing up to its rows, of a query of a table, with `found` and `awaits` as the rules have them
 unfoldable pub queryHead : (cells : List ℕ) → Query (language (rulesOf cells)) → List ℕ
 queryHead cells q =
     queryText (q .start) (q .name .high) (q .name .low)

@@ -15,8 +15,9 @@ use Rattle.scope_graph.specs.Computed.{Found}
 use Rattle.scope_graph.specs.Listing.{Pairwise, RowBefore, FoundIs}
 use Rattle.text_field.specs.Number.{numberText}
 use Rattle.text_field.specs.Name.{nameText}
-use Rattle.graph_file.specs.Outcome.{refused, done}
-use Rattle.graph_file.specs.File.{readCells, answer, leaves}
+use Rattle.text_field.specs.Outcome.{refused, done}
+use Rattle.graph_file.specs.File.{readCells}
+use Rattle.text_field.specs.Answer.{answer, leaves}
 use Rattle.graph_file.specs.Decode.{rulesOf, graphOf, opensOf, queriesOf, lettersOf}
 use Rattle.follow.specs.Text.{headLine, rowsLine, foundText, rowText}
 use Rattle.resolution.specs.Listing.{awaitsText, queryAt, listingFor}

@@ -5,7 +5,7 @@ use Rattle.scope_graph.specs.Graph.{Query}
 use Rattle.scope_graph.specs.Rows.{language}
 use Rattle.text_field.specs.Number.{numberText}
 use Rattle.graph_file.specs.Decode.{rulesOf}
-use Rattle.follow.specs.Text.{summaryLine}
+use Rattle.resolution.specs.Summary.{summaryLine}
 use Rattle.resolution.specs.declared.sums.Figures.{Figures}
 use Rattle.resolution.specs.Listing.{foundFor}
 use Rattle.resolution.specs.Asked.{foundNumber}

@@ -11,10 +11,11 @@ use Rattle.scope_graph.specs.Rows.{language}
 use Rattle.scope_graph.specs.Computed.{Found, found-none, found-one, found-several, entries, found, awaits}
 use Rattle.text_field.specs.Number.{numberText}
 use Rattle.text_field.specs.Name.{nameText}
-use Rattle.graph_file.specs.Outcome.{Outcome, refused, done, andThen, refuseIf}
+use Rattle.text_field.specs.Outcome.{Outcome, refused, done, andThen, refuseIf}
 use Rattle.graph_file.specs.File.{readCells}
 use Rattle.graph_file.specs.Decode.{rulesOf, graphOf, opensOf, queriesOf, lettersOf}
-use Rattle.follow.specs.Text.{headLine, rowsLine, foundText, rowText, endText, summaryText}
+use Rattle.follow.specs.Text.{headLine, rowsLine, foundText, rowText, endText}
+use Rattle.resolution.specs.Summary.{summaryText}
 
 -- `-`, or the open pair's scope and end
 unfoldable pub awaitsText : (cells : List ℕ) → Option (OpenPair (language (rulesOf cells))) → List ℕ

@@ -14,7 +14,7 @@ use Rattle.scope_graph.specs.Rows.{Rules, language}
 use Rattle.scope_graph.specs.Computed.{Found, found-one, found-several}
 use Rattle.scope_graph.specs.Listing.{Pairwise, RowBefore, FoundIs}
 use Rattle.text_field.specs.Name.{packHigh, packLow}
-use Rattle.graph_file.specs.Outcome.{done}
+use Rattle.text_field.specs.Outcome.{done}
 use Rattle.graph_file.specs.File.{readCells}
 use Rattle.graph_file.specs.Decode.{rulesOf, graphOf, opensOf, queriesOf}
 use Rattle.resolution.specs.Listing.{queryAt, listingFor}

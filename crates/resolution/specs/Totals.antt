@@ -8,10 +8,10 @@ use Rattle.scope_graph.specs.Graph.{Query}
 use Rattle.scope_graph.specs.Rows.{language}
 use Rattle.scope_graph.specs.Computed.{Found, found-none, found-one, found-several}
 use Rattle.scope_graph.specs.Listing.{FoundIs}
-use Rattle.graph_file.specs.Outcome.{done}
+use Rattle.text_field.specs.Outcome.{done}
 use Rattle.graph_file.specs.File.{readCells}
 use Rattle.graph_file.specs.Decode.{rulesOf, graphOf, queriesOf}
-use Rattle.follow.specs.Text.{summaryText}
+use Rattle.resolution.specs.Summary.{summaryText}
 use Rattle.resolution.specs.Listing.{isFound, summaryFor}
 
 module _ (cells : List ℕ) where
@@ -27,8 +27,8 @@ module _ (cells : List ℕ) where
   countIn f [] = 0
   countIn f (x ∷ xs) = isFound cells f x + countIn f xs
 
--- What is printed is the number of queries and how many of them are found so. The share follows from the first two of these: `shareText` in
--- follow/specs/Text has 100 times the one by the other, whole division, and `-` where there is no query.
+-- What is printed is the number of queries and how many of them are found so. The share follows from the first two of these, by `shareText` in
+-- specs/Summary; what number it is says `ShareNearest` in specs/Share.
 pub record SummaryIs (text cells : List ℕ) : Type 0 where
   pub founds : List Found
   pub founds-are : FoundsAre cells (queriesOf cells) founds

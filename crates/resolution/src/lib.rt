@@ -1,6 +1,7 @@
 // A query's listing and the summary, of a table that was read and of a text.
 mod lists;
 mod parts;
+mod share;
 mod sums;
 mod tables;
 mod text;

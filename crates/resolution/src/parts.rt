@@ -7,14 +7,14 @@ ghost use Rattle.prepared.specs.Sections.{rowsOf};
 
 // How many rows there are.
 pub fn row_count(rows: &[u64]) -> usize
-    ensures { λ r. ⌜ r ≡ length (rowsOf (now (rows .entry))) ⌝ }
+    ensures answer { λ r. ⌜ r ≡ length (rowsOf (now (rows .entry))) ⌝ }
 {
     rows.len() / 6
 }
 
 // The value c of row i; 0 where there is none.
 pub fn row_value(rows: &[u64], i: usize, c: usize) -> u64
-    ensures { λ r. ⌜ r ≡ value (getD (rowsOf (now (rows .entry))) i blank) c ⌝ }
+    ensures answer { λ r. ⌜ r ≡ value (getD (rowsOf (now (rows .entry))) i blank) c ⌝ }
 {
     if rows.len() / 6 <= i {
         return 0;

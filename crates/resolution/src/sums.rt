@@ -1,12 +1,14 @@
 // The summary: how many queries are found one, several and none, and the share of those found one.
 use crate::parts::row_count;
 use crate::parts::row_value;
+use crate::share::share_of;
 use crate::tables::hint_table;
 use crate::tables::tables_of;
 use crate::walks::found_of;
-use graph_file::Answer;
+use graph_file::TABLE_CELLS;
 use graph_file::read;
 use prepared::section;
+use text_field::Answer;
 use text_field::put_byte;
 use text_field::put_bytes;
 use text_field::put_number;
@@ -14,13 +16,12 @@ ghost use mathlib.Core.Path.{_≡_};
 ghost use Prim.Native.Nat.{_+_, _<_};
 ghost use lib.ListN.{length};
 ghost use Rattle.text_field.specs.Buffer.{Buf, puts};
-ghost use Rattle.follow.specs.Text.{shareText, summaryText};
-ghost use Rattle.graph_file.specs.Outcome.{done};
-ghost use Rattle.graph_file.specs.File.{answer, leaves};
-ghost use Rattle.graph_file.specs.Reader.{answerOf};
+ghost use Rattle.text_field.specs.Outcome.{done};
+ghost use Rattle.text_field.specs.Answer.{answer, leaves, answerOf};
 ghost use Rattle.graph_file.specs.Decode.{queriesOf};
+ghost use Rattle.resolution.specs.Summary.{shareText, summaryText};
 ghost use Rattle.resolution.specs.Listing.{summaryOf, summaryFor};
-ghost use Rattle.resolution.specs.Asked.{WasRead};
+ghost use Rattle.graph_file.specs.Decode.{WasRead};
 ghost use Rattle.resolution.specs.Figures.{figuresAfter, noFigures, figuresOver, fieldText, countsText};
 
 // How many queries were found so.
@@ -32,8 +33,8 @@ pub struct Figures {
 
 // One query more, by its `found`.
 fn counted(c: Figures, f: u64) -> Figures
-    requires { ⌜ c .one + c .several + c .none < 9223372036854775808 ⌝ }
-    ensures { λ r. ⌜ r ≡ figuresAfter c f ⌝ }
+    requires counted { ⌜ c .one + c .several + c .none < 9223372036854775808 ⌝ }
+    ensures answer { λ r. ⌜ r ≡ figuresAfter c f ⌝ }
 {
     let one = c.one;
     let several = c.several;
@@ -61,8 +62,8 @@ fn counted(c: Figures, f: u64) -> Figures
 
 // All queries of a table that was read, by their entries.
 fn figures_of(table: &[u64]) -> Figures
-    requires { ⌜ WasRead (now table) ⌝ }
-    ensures { λ r. ⌜ r ≡ figuresOver (now (table .entry)) noFigures (queriesOf (now (table .entry))) ⌝ }
+    requires accepted { ⌜ WasRead (now table) ⌝ }
+    ensures answer { λ r. ⌜ r ≡ figuresOver (now (table .entry)) noFigures (queriesOf (now (table .entry))) ⌝ }
 {
     let queries = section(table, 8);
     let n = row_count(queries);
@@ -87,7 +88,7 @@ fn figures_of(table: &[u64]) -> Figures
 
 // A number and the space after it.
 fn put_field(out: &mut [u8], k: usize, v: u64) -> usize
-    ensures { λ r. ⌜ _≡_ {A = Buf} (now (out .exit), r) (puts (now (out .entry), k) (fieldText v)) ⌝ }
+    ensures written { λ r. ⌜ _≡_ {A = Buf} (now (out .exit), r) (puts (now (out .entry), k) (fieldText v)) ⌝ }
 {
     let b = put_number(out, k, v);
     put_byte(out, b, 32)
@@ -95,7 +96,7 @@ fn put_field(out: &mut [u8], k: usize, v: u64) -> usize
 
 // The names line and the four counts.
 fn put_counts(out: &mut [u8], n: u64, one: u64, several: u64, none: u64) -> usize
-    ensures { λ r. ⌜ _≡_ {A = Buf} (now (out .exit), r) (puts (now (out .entry), 0) (countsText n one several none)) ⌝ }
+    ensures written { λ r. ⌜ _≡_ {A = Buf} (now (out .exit), r) (puts (now (out .entry), 0) (countsText n one several none)) ⌝ }
 {
     let b = put_bytes(out, 0, b"queries one several none share\n");
     let c = put_field(out, b, n);
@@ -106,19 +107,19 @@ fn put_counts(out: &mut [u8], n: u64, one: u64, several: u64, none: u64) -> usiz
 
 // The summary's last field (01, "The listing").
 fn put_share(out: &mut [u8], k: usize, n: u64, one: u64) -> usize
-    requires { ⌜ one < 1000 ⌝ }
-    ensures { λ r. ⌜ _≡_ {A = Buf} (now (out .exit), r) (puts (now (out .entry), k) (shareText n one)) ⌝ }
+    requires few { ⌜ one < 1000 ⌝ }
+    ensures written { λ r. ⌜ _≡_ {A = Buf} (now (out .exit), r) (puts (now (out .entry), k) (shareText n one)) ⌝ }
 {
     if n == 0 {
         return put_byte(out, k, 45);
     }
-    put_number(out, k, one * 100 / n)
+    put_number(out, k, share_of(one, n))
 }
 
 // The summary's text.
 fn put_summary(out: &mut [u8], n: u64, one: u64, several: u64, none: u64) -> usize
-    requires { ⌜ one < 1000 ⌝ }
-    ensures { λ r. ⌜ _≡_ {A = Buf} (now (out .exit), r) (puts (now (out .entry), 0) (summaryText n one several none)) ⌝ }
+    requires few { ⌜ one < 1000 ⌝ }
+    ensures written { λ r. ⌜ _≡_ {A = Buf} (now (out .exit), r) (puts (now (out .entry), 0) (summaryText n one several none)) ⌝ }
 {
     let b = put_counts(out, n, one, several, none);
     let c = put_share(out, b, n, one);
@@ -127,9 +128,9 @@ fn put_summary(out: &mut [u8], n: u64, one: u64, several: u64, none: u64) -> usi
 
 // The summary of a table that was read. It is at most 64 bytes long.
 pub fn summary_of(table: &[u64], out: &mut [u8]) -> Answer
-    requires { ⌜ WasRead (now table) ⌝ }
-    ensures { λ r. ⌜ answerOf r ≡ answer (done (summaryOf (now (table .entry)))) (length (now (out .entry))) ⌝ }
-    ensures { λ r. ⌜ now (out .exit) ≡ leaves (done (summaryOf (now (table .entry)))) (now (out .entry)) ⌝ }
+    requires accepted { ⌜ WasRead (now table) ⌝ }
+    ensures answer { λ r. ⌜ answerOf r ≡ answer (done (summaryOf (now (table .entry)))) (length (now (out .entry))) ⌝ }
+    ensures memory { λ r. ⌜ now (out .exit) ≡ leaves (done (summaryOf (now (table .entry)))) (now (out .entry)) ⌝ }
 {
     let c = figures_of(table);
     let n = row_count(section(table, 8)) as u64;
@@ -144,10 +145,10 @@ pub fn summary_of(table: &[u64], out: &mut [u8]) -> Answer
 
 // The summary of a text: refusals 1 to 6, then 9. After a refusal the buffer is as it was.
 pub fn summary(text: &[u8], out: &mut [u8]) -> Answer
-    ensures { λ r. ⌜ answerOf r ≡ answer (summaryFor (now (text .entry))) (length (now (out .entry))) ⌝ }
-    ensures { λ r. ⌜ now (out .exit) ≡ leaves (summaryFor (now (text .entry))) (now (out .entry)) ⌝ }
+    ensures answer { λ r. ⌜ answerOf r ≡ answer (summaryFor (now (text .entry))) (length (now (out .entry))) ⌝ }
+    ensures memory { λ r. ⌜ now (out .exit) ≡ leaves (summaryFor (now (text .entry))) (now (out .entry)) ⌝ }
 {
-    let mut table = [0u64; 12271];
+    let mut table = [0u64; TABLE_CELLS];
     let a = read(text, &mut table);
     match a {
         Answer::Refused(n) => Answer::Refused(n),

@@ -19,7 +19,7 @@ pub enum Awaits {
 
 // `none`, `one` or `several`.
 fn put_found(out: &mut [u8], n: usize, f: u64) -> usize
-    ensures { λ r. ⌜ _≡_ {A = Buf} (now (out .exit), r) (puts (now (out .entry), n) (foundText (foundFrom f))) ⌝ }
+    ensures written { λ r. ⌜ _≡_ {A = Buf} (now (out .exit), r) (puts (now (out .entry), n) (foundText (foundFrom f))) ⌝ }
 {
     match f {
         0 => put_bytes(out, n, b"none"),
@@ -30,7 +30,7 @@ fn put_found(out: &mut [u8], n: usize, f: u64) -> usize
 
 // An end: `$`, or a label's letter.
 fn end_byte(letters: &[u8], end: u64) -> u8
-    ensures { λ r. ⌜ r ≡ endText (now (letters .entry)) (endOf end) ⌝ }
+    ensures answer { λ r. ⌜ r ≡ endText (now (letters .entry)) (endOf end) ⌝ }
 {
     if end == 0 {
         return 36;
@@ -40,7 +40,7 @@ fn end_byte(letters: &[u8], end: u64) -> u8
 
 // `-`, or an open pair.
 fn put_awaits(out: &mut [u8], n: usize, letters: &[u8], a: Awaits) -> usize
-    ensures { λ r. ⌜ _≡_ {A = Buf} (now (out .exit), r) (puts (now (out .entry), n) (awaitsBytes (now (letters .entry)) a)) ⌝ }
+    ensures written { λ r. ⌜ _≡_ {A = Buf} (now (out .exit), r) (puts (now (out .entry), n) (awaitsBytes (now (letters .entry)) a)) ⌝ }
 {
     match a {
         Awaits::Settled => put_byte(out, n, 45),
@@ -53,7 +53,7 @@ fn put_awaits(out: &mut [u8], n: usize, letters: &[u8], a: Awaits) -> usize
 
 // The names line and the query.
 fn put_query(out: &mut [u8], start: u64, high: u64, low: u64) -> usize
-    ensures { λ r. ⌜ _≡_ {A = Buf} (now (out .exit), r) (puts (now (out .entry), 0) (queryText start high low)) ⌝ }
+    ensures written { λ r. ⌜ _≡_ {A = Buf} (now (out .exit), r) (puts (now (out .entry), 0) (queryText start high low)) ⌝ }
 {
     let b = put_bytes(out, 0, b"start seek found awaits\n");
     let c = put_number(out, b, start);
@@ -72,7 +72,7 @@ pub fn put_head(
     f: u64,
     a: Awaits,
 ) -> usize
-    ensures { λ r. ⌜ _≡_ {A = Buf} (now (out .exit), r) (puts (now (out .entry), 0) (headText (now (letters .entry)) start high low f a)) ⌝ }
+    ensures written { λ r. ⌜ _≡_ {A = Buf} (now (out .exit), r) (puts (now (out .entry), 0) (headText (now (letters .entry)) start high low f a)) ⌝ }
 {
     let b = put_query(out, start, high, low);
     let c = put_found(out, b, f);

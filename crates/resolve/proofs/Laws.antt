@@ -1,5 +1,5 @@
 -- The parts of the output: how they are written, that they fit the room lent, that in turn they are the whole. Assumes nothing.
-use Prim.Native.Nat.{ℕ, zero, suc, _+_, _-_, _*_, _/_, _^_, _≤_, _<_}
+use Prim.Native.Nat.{ℕ, zero, suc, _+_, _-_, _*_, _^_, _≤_, _<_}
 use mathlib.Core.Path.{_≡_, refl, sym, ap, _∙_, subst}
 use mathlib.Core.Bool.{Bool, true, false}
 use mathlib.Core.List.{List, [], _∷_, _++_, flatMap, append-assoc, append-nil}
@@ -15,21 +15,18 @@ use Rattle.text_field.specs.Number.{numberText}
 use Rattle.text_field.specs.Buffer.{Buf, put, puts}
 use Rattle.text_field.proofs.NumberLaws.{length-below}
 use Rattle.text_field.proofs.BufferLaws.{puts-then, puts-fits}
-use Rattle.graph_file.specs.Format.{querySection}
-use Rattle.graph_file.specs.Outcome.{Outcome, refused, done, andThen, refuseIf}
-use Rattle.graph_file.specs.File.{readCells, answer, leaves}
-use Rattle.graph_file.specs.declared.reader.Answer.{Answer}
-use Rattle.graph_file.specs.declared.reader.Answer.the-variants.{Refused, Written}
-use Rattle.graph_file.specs.Reader.{answerOf}
+use Rattle.text_field.specs.Outcome.{Outcome, refused, done, andThen, refuseIf}
+use Rattle.graph_file.specs.File.{readCells}
+use Rattle.text_field.specs.Answer.{answer, leaves, answerOf}
+use Rattle.text_field.specs.declared.answer.Answer.{Answer}
+use Rattle.text_field.specs.declared.answer.Answer.the-variants.{Refused, Written}
 use Rattle.graph_file.specs.Decode.{rulesOf, queriesOf}
 use Rattle.graph_file.proofs.DecodeWay.{done-is}
 use Rattle.graph_file.proofs.DecodeAccepted.{read-accepted}
-use Rattle.prepared.specs.Sections.{partOf}
 use Rattle.resolution.specs.Listing.{listingText, queryAt, listingOf, summaryOf}
-use Rattle.resolution.specs.Asked.{WasRead}
+use Rattle.graph_file.specs.Decode.{WasRead}
 use Rattle.resolution.specs.Figures.{noFigures, figuresOver}
-use Rattle.resolution.proofs.Heads.{head-fits, short-answer, short-leaves, whole-answer, whole-leaves, count-is, Made, made-read, own-within}
-use Rattle.resolution.proofs.Texts.{rows-count}
+use Rattle.resolution.proofs.Heads.{head-fits, short-answer, short-leaves, whole-answer, whole-leaves, Made, made-read, own-within}
 use Rattle.resolution.proofs.Counts.{queries-few, figures-few, figures-text, summary-short}
 use Rattle.resolve.specs.Printed.{refusedLine, inPlace, lent, tableText, outcomeText, programText, Due}
 use Rattle.resolve.specs.Parts.{answered, partText, partsText}
@@ -276,10 +273,6 @@ answered-written a n out e = rw e
 pub answered-refused : (a : Answer) (n : ℕ) (out : List ℕ) (b : Buf) → a ≡ Refused n → b ≡ puts (out, 0) (refusedLine n) → b ≡ answered a out
 unfolding answered
 answered-refused a n out b e f = rw e f
-
--- how many queries the code counts
-pub queries-counted : (cells : List ℕ) → WasRead cells → (rows : List ℕ) → rows ≡ partOf querySection cells → length rows / 6 ≡ length (queriesOf cells)
-queries-counted cells was rows part = count-is cells was rows 0 (length rows / 6) part (rows-count rows)
 
 -- a text that stands in the first k bytes of a buffer, and so is due where the text is
 pub record Stands (text h : List ℕ) (k : ℕ) : Type 0 where

@@ -5,9 +5,9 @@ use mathlib.Core.List.{List, [], _∷_, _++_}
 use lib.Dec.{ltb}
 use lib.ListN.{length}
 use Rattle.text_field.specs.Buffer.{Buf, puts}
-use Rattle.graph_file.specs.declared.reader.Answer.{Answer}
-use Rattle.graph_file.specs.declared.reader.Answer.the-variants.{Refused, Written}
-use Rattle.graph_file.specs.Outcome.{done}
+use Rattle.text_field.specs.declared.answer.Answer.{Answer}
+use Rattle.text_field.specs.declared.answer.Answer.the-variants.{Refused, Written}
+use Rattle.text_field.specs.Outcome.{done}
 use Rattle.graph_file.specs.Decode.{queriesOf}
 use Rattle.resolution.specs.Listing.{listingOf, summaryOf}
 use Rattle.resolve.specs.Printed.{refusedLine, inPlace}

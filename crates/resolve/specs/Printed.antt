@@ -6,7 +6,7 @@ use mathlib.Core.List.{List, [], _∷_, _++_, flatMap}
 use lib.Dec.{ltb}
 use lib.ListN.{length, take, drop}
 use Rattle.text_field.specs.Number.{numberText}
-use Rattle.graph_file.specs.Outcome.{Outcome, refused, done}
+use Rattle.text_field.specs.Outcome.{Outcome, refused, done}
 use Rattle.graph_file.specs.File.{readCells}
 use Rattle.graph_file.specs.Decode.{queriesOf}
 use Rattle.resolution.specs.Listing.{listingText, summaryOf}

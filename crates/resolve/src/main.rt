@@ -1,28 +1,39 @@
 // Lists the queries of the gym file on standard input, then the summary; for a refused file only its refusal.
 //
-// Proved: every piece handed to `emit` is what the text's output has at that place, and the place reached in the end is the output's end. No contract can
-// say what a call of C's does, nor that a call is made. So three things are left for the reader to see: `emit` hands its piece to the C library; the
-// functions above it move the place only by calling it, once for each piece; `main` calls `print_for` with what was read.
+// Proved: every piece handed to `emit` is what the text's output has at that place, and the place reached in the end
+// is the output's end. No contract can say what a call of C's does, nor that a call is made. So three things are left
+// for the reader to see: `emit` hands its piece to the C library; the functions above it move the place only by
+// calling it, once for each piece; `main` calls `print_for` with what was read.
 mod parts;
 
-use graph_file::Answer;
+use graph_file::TABLE_CELLS;
 use graph_file::read;
 use parts::put_part;
 use parts::put_refused;
 use parts::query_count;
+use text_field::Answer;
 ghost use Prim.Native.Nat.{_+_};
 ghost use mathlib.Core.Path.{_≡_};
 ghost use lib.ListN.{length};
 ghost use Rattle.text_field.specs.Buffer.{puts};
-ghost use Rattle.resolution.specs.Asked.{WasRead};
+ghost use Rattle.graph_file.specs.Decode.{WasRead};
 ghost use Rattle.resolve.specs.Printed.{refusedLine, lent, tableText, programText, Due};
 ghost use Rattle.resolve.specs.Parts.{partText};
 
-// The one function that writes. What a call of C's writes cannot be promised, so what it is handed is asked: the piece due at place `sent` of the
-// text's output. The place behind it.
+// The room that document 01 has the program lend for a listing; the summary, which is shorter, gets it too.
+const LENT: usize = 65536;
+
+// Room for a line `refused N`, whatever the number: nine bytes beside N, which has at most 20 digits.
+const LINE: usize = 32;
+
+// What is read of the input: one byte more than a file may have, which is enough to know that it is too long.
+const INPUT: usize = 32769;
+
+// The one function that writes. What a call of C's writes cannot be promised, so what it is handed is asked: the
+// piece due at place `sent` of the text's output. The place behind it.
 fn emit(text: &[u8], sent: usize, piece: &[u8]) -> usize
-    requires { ⌜ Due (now text) sent (now piece) ⌝ }
-    ensures { λ r. ⌜ r ≡ sent + length (now (piece .entry)) ⌝ }
+    requires due { ⌜ Due (now text) sent (now piece) ⌝ }
+    ensures answer { λ r. ⌜ r ≡ sent + length (now (piece .entry)) ⌝ }
 {
     io::write_all(1, piece);
     sent + piece.len()
@@ -30,21 +41,22 @@ fn emit(text: &[u8], sent: usize, piece: &[u8]) -> usize
 
 // The line of a refused file; the place behind it.
 fn print_refused(text: &[u8], sent: usize, n: u64) -> usize
-    requires { ⌜ Due (now text) sent (refusedLine n) ⌝ }
-    ensures { λ r. ⌜ r ≡ sent + length (refusedLine n) ⌝ }
+    requires due { ⌜ Due (now text) sent (refusedLine n) ⌝ }
+    ensures answer { λ r. ⌜ r ≡ sent + length (refusedLine n) ⌝ }
 {
-    let mut out = [0u8; 32];
+    let mut out = [0u8; LINE];
     let k = put_refused(&mut out, n);
     emit(text, sent, &out[..k])
 }
 
-// Part i of the output, in one piece; the place behind it. It is made at the front of the bytes lent, whatever stood there; those behind it stay.
+// Part i of the output, in one piece; the place behind it. It is made at the front of the bytes lent, whatever stood
+// there; those behind it stay.
 fn print_part(text: &[u8], sent: usize, table: &[u64], i: usize, out: &mut [u8]) -> usize
-    requires { ⌜ WasRead (now table) ⌝ }
-    requires { ⌜ length (now out) ≡ lent ⌝ }
-    requires { ⌜ Due (now text) sent (partText lent (now table) i) ⌝ }
-    ensures { λ r. ⌜ r ≡ sent + length (partText lent (now (table .entry)) i) ⌝ }
-    ensures { λ r. ⌜ now (out .exit) ≡ puts (now (out .entry), 0) (partText lent (now (table .entry)) i) .0 ⌝ }
+    requires accepted { ⌜ WasRead (now table) ⌝ }
+    requires room { ⌜ length (now out) ≡ lent ⌝ }
+    requires due { ⌜ Due (now text) sent (partText lent (now table) i) ⌝ }
+    ensures answer { λ r. ⌜ r ≡ sent + length (partText lent (now (table .entry)) i) ⌝ }
+    ensures memory { λ r. ⌜ now (out .exit) ≡ puts (now (out .entry), 0) (partText lent (now (table .entry)) i) .0 ⌝ }
 {
     let k = put_part(table, i, out);
     emit(text, sent, &out[..k])
@@ -52,12 +64,12 @@ fn print_part(text: &[u8], sent: usize, table: &[u64], i: usize, out: &mut [u8])
 
 // All parts in turn; the place behind them. One buffer is lent to all of them, so that it is cleared once.
 fn print_parts(text: &[u8], sent: usize, table: &[u64]) -> usize
-    requires { ⌜ WasRead (now table) ⌝ }
-    requires { ⌜ Due (now text) sent (tableText (now table)) ⌝ }
-    ensures { λ r. ⌜ r ≡ sent + length (tableText (now (table .entry))) ⌝ }
+    requires accepted { ⌜ WasRead (now table) ⌝ }
+    requires due { ⌜ Due (now text) sent (tableText (now table)) ⌝ }
+    ensures answer { λ r. ⌜ r ≡ sent + length (tableText (now (table .entry))) ⌝ }
 {
     let n = query_count(table);
-    let mut out = [0u8; 65536];
+    let mut out = [0u8; LENT];
     let mut place = sent;
     let mut i: usize = 0;
     while i <= n {
@@ -69,9 +81,9 @@ fn print_parts(text: &[u8], sent: usize, table: &[u64]) -> usize
 
 // The output for a text, which is read once; its length.
 fn print_for(text: &[u8]) -> usize
-    ensures { λ r. ⌜ r ≡ length (programText (now (text .entry))) ⌝ }
+    ensures answer { λ r. ⌜ r ≡ length (programText (now (text .entry))) ⌝ }
 {
-    let mut table = [0u64; 12271];
+    let mut table = [0u64; TABLE_CELLS];
     let a = read(text, &mut table);
     match a {
         Answer::Refused(n) => print_refused(text, 0, n),
@@ -79,9 +91,8 @@ fn print_for(text: &[u8]) -> usize
     }
 }
 
-// One byte more than a file may have is read, which is enough to know that it is too long.
 fn main() {
-    let mut text = [0u8; 32769];
+    let mut text = [0u8; INPUT];
     let n = io::read_full(0, &mut text);
     print_for(&text[..n]);
 }

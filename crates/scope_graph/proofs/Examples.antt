@@ -222,6 +222,19 @@ unlawful : Shows gym (graph gym 4 ((0, I, 1) ∷ (0, P, 3) ∷ (1, P, 2) ∷ [])
 unfolding computed
 unlawful = (refl, refl, refl)
 
+-- The import declares hours too and I is preferred, but the state after I does not accept: that path is not lawful, so it is not reached and shadows
+-- nothing. The parent's stays visible.
+abbrev unaccepted : Graph (language trap)
+unaccepted = graph trap 3 ((0, I, 1) ∷ (0, P, 2) ∷ []) ((1, hours, 6) ∷ (2, hours, 7) ∷ [])
+
+not-accepted : Shows trap unaccepted [] (0, hours) ((7, 0, (P, 2) ∷ []) ∷ []) found-one none
+unfolding computed
+not-accepted = (refl, refl, refl)
+
+not-accepted-path : Stands trap unaccepted (0, hours) (6, 0, (I, 1) ∷ []) is-unreached
+unfolding computed
+not-accepted-path = (refl, refl)
+
 -- Comparing: another start, the same label to another scope, and the path itself decide nothing; a preferred end does.
 abbrev compares : ℕ → List (ℕ × ℕ) → ℕ → List (ℕ × ℕ) → Bool → Type 0
 compares s p t r b = moreSpecific (language gym) (path-row gym (0, s, p) .path) (path-row gym (0, t, r) .path) ≡ b

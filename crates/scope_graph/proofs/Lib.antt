@@ -1,6 +1,5 @@
 pub mod Lists
 pub mod Rows
-pub mod OrderCells
 pub mod Order
 pub mod Pigeon
 pub mod LeadsOn

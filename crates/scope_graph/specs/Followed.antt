@@ -33,6 +33,6 @@ module _ (L : Language) where
     pub usable : Usable state e
     pub uncut : (r : List (Hop L)) → Reached L g q (record { start = q .start; hops = r }) → ¬ Preferred r hops e
 
-  -- the same of an open pair: of some end that may come there
+  -- an open pair is followed if, at its scope, some end that may come there is
   abbrev pub FollowedAt : Graph L → Query L → OpenPair L → Type 0
   FollowedAt g q o = (e : End (L .Step)) × Admits L (o .end) e × Followed g q (o .at) e

@@ -32,7 +32,7 @@ module _ (L : Language) where
       pub visible : (p : Path L) → (standing L g q p ≡ is-visible) ↔ Visible L g q p
       pub shadowed : (p : Path L) → (standing L g q p ≡ is-shadowed) ↔ Shadowed L g q p
       pub unreached : (p : Path L) → (standing L g q p ≡ is-unreached) ↔ Unreached L g q p
-      -- the same of a path row, whose mark must be declared there too
+      -- exactly one standing holds of each path row too, by its path and by whether its mark is declared at the path's last scope
       pub judged-visible : (r : PathRow L) → (judged L g q r ≡ is-visible) ↔ Entry L g q r
       pub judged-shadowed : (r : PathRow L) → (judged L g q r ≡ is-shadowed) ↔ (Shadowed L g q (r .path) × MarkDeclared L g q r)
       pub judged-unreached : (r : PathRow L) → (judged L g q r ≡ is-unreached) ↔ (¬ (Reached L g q (r .path) × MarkDeclared L g q r))

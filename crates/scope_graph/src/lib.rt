@@ -1,12 +1,11 @@
 // The order pairs of a gym file, and the preference test. The rules themselves stand in specs/.
 ghost use mathlib.Core.Path.{_≡_};
 ghost use mathlib.Core.Bool.{_&&_};
-ghost use lib.ListN.{getD};
-ghost use Rattle.scope_graph.specs.Rows.{sameEnd, preferredBy};
-ghost use Rattle.scope_graph.specs.Order.{endOf, orderRows, noRow, meaning, pairMeaning};
+ghost use Rattle.scope_graph.specs.Rows.{sameEnd};
+ghost use Rattle.scope_graph.specs.Order.{endOf, meaning, pairMeaning};
 
-// The form that document 01 binds for order pairs ("Where each language form goes"): a struct of two of these, and a preference test that matches on
-// both (`same_end`, `holds`).
+// The form that document 01 binds for order pairs ("Where each language form goes"): a struct of two of these, and a
+// preference test that matches on both (`same_end`, `holds`).
 pub enum End {
     Stop,
     Label(u64),
@@ -19,7 +18,7 @@ pub struct Pair {
 
 // An end from its cell: 0 is the end mark, n + 1 the label with number n.
 pub fn end_of(code: u64) -> End
-    ensures { λ r. ⌜ meaning r ≡ endOf code ⌝ }
+    ensures answer { λ r. ⌜ meaning r ≡ endOf code ⌝ }
 {
     if code == 0 {
         return End::Stop;
@@ -27,24 +26,9 @@ pub fn end_of(code: u64) -> End
     End::Label(code - 1)
 }
 
-// Row i of the order rows, two cells a row; past the last row a pair that no accepted file has.
-pub fn pair_at(rows: &[u64], i: usize) -> Pair
-    ensures { λ r. ⌜ pairMeaning r ≡ getD (orderRows (now (rows .entry))) i noRow ⌝ }
-{
-    if i < rows.len() / 2 {
-        let less = end_of(rows[2 * i]);
-        let more = end_of(rows[2 * i + 1]);
-        return Pair { less, more };
-    }
-    Pair {
-        less: End::Stop,
-        more: End::Stop,
-    }
-}
-
 // Both are the end mark, or labels with the same number.
-pub fn same_end(a: End, b: End) -> bool
-    ensures { λ r. ⌜ r ≡ sameEnd (meaning a) (meaning b) ⌝ }
+fn same_end(a: End, b: End) -> bool
+    ensures answer { λ r. ⌜ r ≡ sameEnd (meaning a) (meaning b) ⌝ }
 {
     match a {
         End::Stop => match b {
@@ -60,7 +44,7 @@ pub fn same_end(a: End, b: End) -> bool
 
 // The row prefers the first end to the second: it has both, in this order.
 pub fn holds(p: Pair, less: End, more: End) -> bool
-    ensures { λ r. ⌜ r ≡ (sameEnd (pairMeaning p .less) (meaning less) && sameEnd (pairMeaning p .more) (meaning more)) ⌝ }
+    ensures answer { λ r. ⌜ r ≡ (sameEnd (pairMeaning p .less) (meaning less) && sameEnd (pairMeaning p .more) (meaning more)) ⌝ }
 {
     let first = p.less;
     let second = p.more;
@@ -78,19 +62,4 @@ pub fn holds(p: Pair, less: End, more: End) -> bool
             },
         },
     }
-}
-
-// Some row prefers the first end to the second.
-pub fn prefers(rows: &[u64], less: End, more: End) -> bool
-    ensures { λ r. ⌜ r ≡ preferredBy (orderRows (now (rows .entry))) (meaning less) (meaning more) ⌝ }
-{
-    let n = rows.len() / 2;
-    let mut i = 0;
-    while i < n {
-        if holds(pair_at(rows, i), less, more) {
-            return true;
-        }
-        i += 1;
-    }
-    false
 }

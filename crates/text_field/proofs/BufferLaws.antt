@@ -71,7 +71,8 @@ puts-length (x ∷ xs) b = puts-length xs (put b x) ∙ one (ltb (b .1) (length 
     one true t = ap (λ (z : Buf). length (z .0)) (put-in (b .0) (b .1) x (ltb-true (b .1) (length (b .0)) t)) ∙ length-set (b .0) (b .1) x
     one false t = ap (λ (z : Buf). length (z .0)) (put-full (b .0) (b .1) x (ltb-false (b .1) (length (b .0)) t))
 
--- where there is not room for all: the buffer is filled with the text's beginning, and the place is its end
+-- where there is not room for all: the buffer is filled with the text's beginning, and the place is
+-- its end
 pub puts-cut : (o : List ℕ) (n : ℕ) (xs : List ℕ) → n ≤ length o → length o ≤ n + length xs → puts (o, n) xs ≡ (take n o ++ take (length o - n) xs, length o)
 puts-cut o n xs h k =
     let m : length (take (length o - n) xs) ≡ length o - n = length-take-le (length o - n) xs (omega arith)

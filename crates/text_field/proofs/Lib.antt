@@ -2,6 +2,9 @@
 pub mod Examples
 pub mod ByteLaws
 pub mod BufferLaws
+pub mod OutcomeLaws
+pub mod AnswerLaws
+pub mod MeaningLaws
 pub mod NumberLaws
 pub mod NameLaws
 pub mod OrderLaws

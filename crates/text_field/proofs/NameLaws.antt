@@ -220,7 +220,7 @@ name-found (x ∷ s) high low w e = by (isLower x) refl
         in stands (x ∷ s) (x ∷ nameRun 15 s) (r .rest) high low w (simp (t, r .bytes, le-leb (length (nameRun 15 s)) 15 (r .most))) (ap (λ (z : List ℕ). x ∷ z) (r .text)) (sym (here-on x s t) ∙ e)
     by false t = absurd (let z : _≡_ {A = ℕ} 0 1 = cc (here-off x s t) in omega arith)
 
--- the same of cells that are names' packings
+-- cells that are names' packings are equal where they spell one name
 pub cells-equal : (high low high′ low′ : ℕ) → isNameCells high low ≡ true → isNameCells high′ low′ ≡ true → nameText high low ≡ nameText high′ low′ → (high ≡ high′) × (low ≡ low′)
 cells-equal high low high′ low′ h k e =
     let f = cells-name high low h

@@ -117,7 +117,7 @@ names-order s t h g =
     in let i = name-form t g
     in cells-order 8 8 (alone 8) s t (f .bytes) (i .bytes) (f .most) (i .most)
 
--- the same of cells that are names' packings
+-- cells that are names' packings stand in order exactly as the names they spell do
 pub cells-ordered : (high low high′ low′ : ℕ) → isNameCells high low ≡ true → isNameCells high′ low′ ≡ true → cellsBefore high low high′ low′ ≡ nameBefore (nameText high low) (nameText high′ low′)
 cells-ordered high low high′ low′ h k =
     let f = cells-name high low h

@@ -45,9 +45,6 @@ module _ (k high low place : ℕ) (text : List ℕ) (room : 16 ≤ k) (e : _≡_
   fresh : _≡_ {A = Buf} (text, place) (nameText high low ++ drop (length (nameText high low)) (replicate k 0), length (nameText high low))
   fresh = e ∙ puts-fits (replicate k 0) 0 (nameText high low) (rw length-replicate (omega (arith, name-length high low))) ∙ simp zero-add
 
-  pub spelled-length : place ≡ length (nameText high low)
-  spelled-length = ap (λ (b : Buf). b .1) fresh
-
   -- where the cells are a name's, it is read back
   back : isNameCells high low ≡ true → nameHere text ≡ Name high low (length (nameText high low))
   back h =

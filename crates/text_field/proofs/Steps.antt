@@ -80,12 +80,13 @@ module _ (s : List ℕ) (i : ℕ) where
     unfolding namePlaced
     no-lower t = sym (ap (λ (z : List ℕ). namePlaced i (nameHere z)) (drop-next h) ∙ ap (namePlaced i) (here-off (getD s i 0) (drop (i + 1) s) t))
 
-    module _ (e : ℕ) (n : e ≡ i + 1 + length (nameRun 15 (drop (i + 1) s))) where
-      pub name-inside : e ≤ length s
-      name-inside =
-          let r = run 15 (drop (i + 1) s)
-          in omega (arith, ap length (r .text) ∙ length-append (nameRun 15 (drop (i + 1) s)) (r .rest), length-drop (i + 1) s)
+    -- a run of name bytes ends in the text
+    pub name-inside : (k e : ℕ) → e ≡ i + 1 + length (nameRun k (drop (i + 1) s)) → e ≤ length s
+    name-inside k e n =
+        let r = run k (drop (i + 1) s)
+        in omega (arith, ap length (r .text) ∙ length-append (nameRun k (drop (i + 1) s)) (r .rest), length-drop (i + 1) s)
 
+    module _ (e : ℕ) (n : e ≡ i + 1 + length (nameRun 15 (drop (i + 1) s))) where
       -- the part of the text from i to e is the name
       name-part : take (e - i) (drop i s) ≡ getD s i 0 ∷ nameRun 15 (drop (i + 1) s)
       name-part =

@@ -9,8 +9,9 @@ use lib.ListN.{length, set}
 abbrev pub Buf : Type 0
 Buf = List ℕ × ℕ
 
--- x is written where there is room. In a full buffer nothing is written and the place stays, so the place does not tell an exact fit from a
--- text that was cut: who must know measures first, and writes only what fits (laws `puts-fits`, and `puts-cut` for what a cut text leaves)
+-- x is written where there is room. In a full buffer nothing is written and the place stays, so the
+-- place does not tell an exact fit from a text that was cut: who must know measures first, and
+-- writes only what fits (laws `puts-fits`, and `puts-cut` for what a cut text leaves)
 unfoldable pub put : Buf → ℕ → Buf
 put b x = elim (ltb (b .1) (length (b .0))) [ true ↦ (set (b .0) (b .1) x, b .1 + 1) | false ↦ b ]
 

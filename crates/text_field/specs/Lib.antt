@@ -1,3 +1,5 @@
+pub mod Outcome
+pub mod Answer
 pub mod Bytes
 pub mod Number
 pub mod Name

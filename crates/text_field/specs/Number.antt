@@ -1,4 +1,5 @@
--- Numbers as text (document 01, "The gym file"): decimal, five digits at most, and 0 first in no number but 0. Assumes nothing: these are definitions.
+-- Numbers as text (document 01, "The gym file"): decimal, five digits at most, and 0 first in no
+-- number but 0. Assumes nothing: these are definitions.
 use mathlib.Core.List.{List, [], _∷_, _++_}
 use mathlib.Core.Bool.{Bool, true, false, not, _&&_}
 use Prim.Native.Nat.{ℕ, zero, suc, _+_, _-_, _*_, _/_, _%_}
@@ -6,11 +7,24 @@ use lib.Dec.{eqb, leb, ltb}
 use Rattle.text_field.specs.declared.NumberRead.{NumberRead}
 use Rattle.text_field.specs.declared.NumberRead.the-variants.{Number, NoNumber}
 use Rattle.text_field.specs.Bytes.{isDigit}
+use Rattle.text_field.specs.Outcome.{Outcome, refused, done}
+
+-- a number in a text: its value, and the place after it
+pub record NumberFound : Type 0 where
+  pub value : ℕ
+  pub next : ℕ
+
+-- What the reader of a number answers, by document 01's number: where none stands the text is not
+-- of its form. That is 2 in a gym file and 8 in a path row, so the reader of the text says which.
+unfoldable pub numberMeaning : ℕ → NumberRead → Outcome NumberFound
+numberMeaning refusal (Number v next) = done (record { value = v; next = next })
+numberMeaning refusal NoNumber = refused refusal
 
 -- the decimal digits of v, of which at most `fuel` stand before the last
 unfoldable pub digitsOf : ℕ → ℕ → List ℕ
 digitsOf zero v = (48 + v % 10) ∷ []
-digitsOf (suc fuel) v = elim (ltb v 10) [ true ↦ (48 + v) ∷ [] | false ↦ digitsOf fuel (v / 10) ++ ((48 + v % 10) ∷ []) ]
+digitsOf (suc fuel) v =
+    elim (ltb v 10) [ true ↦ (48 + v) ∷ [] | false ↦ digitsOf fuel (v / 10) ++ ((48 + v % 10) ∷ []) ]
 
 -- v in decimal, and 0 as `0`. Before its last digit v has at most v others, so v is fuel enough
 unfoldable pub numberText : ℕ → List ℕ

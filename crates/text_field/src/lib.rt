@@ -1,4 +1,7 @@
-// Numbers and names as text, and the lent buffer they are written to.
+// Numbers and names as text, the lent buffer they are written to, and what a host is told.
+mod answer;
+
+pub use answer::Answer;
 ghost use mathlib.Core.Path.{_≡_};
 ghost use mathlib.Core.Bool.{_&&_};
 ghost use mathlib.Core.List.{List, [], _∷_};
@@ -21,70 +24,79 @@ pub enum NameRead {
     NoName,
 }
 
+// A number that is greater, or 0, has no further digit: five digits are not passed, and 0 stands
+// alone.
+const GROWS: u64 = 9999;
+
+// The bytes of a name at most, and how many may follow its first.
+const NAME_BYTES: usize = 16;
+
+const NAME_REST: usize = 15;
+
 // The weight of a cell's first byte.
 const TOP: u64 = 72057594037927936;
 
 // The byte at i, or d past the end.
 pub fn byte_at(s: &[u8], i: usize, d: u8) -> u8
-    ensures { λ r. ⌜ r ≡ getD (now (s .entry)) i d ⌝ }
+    ensures answer { λ r. ⌜ r ≡ getD (now (s .entry)) i d ⌝ }
 {
     if i < s.len() { s[i] } else { d }
 }
 
 // The cell at i, or d past the end.
 pub fn cell(s: &[u64], i: usize, d: u64) -> u64
-    ensures { λ r. ⌜ r ≡ getD (now (s .entry)) i d ⌝ }
+    ensures answer { λ r. ⌜ r ≡ getD (now (s .entry)) i d ⌝ }
 {
     if i < s.len() { s[i] } else { d }
 }
 
 pub fn in_range(low: u8, high: u8, b: u8) -> bool
-    ensures { λ r. ⌜ r ≡ within low high b ⌝ }
+    ensures answer { λ r. ⌜ r ≡ within low high b ⌝ }
 {
     low <= b && b <= high
 }
 
 pub fn is_digit(b: u8) -> bool
-    ensures { λ r. ⌜ r ≡ isDigit b ⌝ }
+    ensures answer { λ r. ⌜ r ≡ isDigit b ⌝ }
 {
     in_range(b'0', b'9', b)
 }
 
 pub fn is_capital(b: u8) -> bool
-    ensures { λ r. ⌜ r ≡ isCapital b ⌝ }
+    ensures answer { λ r. ⌜ r ≡ isCapital b ⌝ }
 {
     in_range(b'A', b'Z', b)
 }
 
 pub fn is_lower(b: u8) -> bool
-    ensures { λ r. ⌜ r ≡ isLower b ⌝ }
+    ensures answer { λ r. ⌜ r ≡ isLower b ⌝ }
 {
     in_range(b'a', b'z', b)
 }
 
 pub fn is_name_byte(b: u8) -> bool
-    ensures { λ r. ⌜ r ≡ isNameByte b ⌝ }
+    ensures answer { λ r. ⌜ r ≡ isNameByte b ⌝ }
 {
     is_lower(b) || (is_digit(b) || b == b'_')
 }
 
 // The digit's value, 0 for a byte below the digits.
 fn digit_value(b: u8) -> u64
-    ensures { λ r. ⌜ r ≡ b - 48 ⌝ }
+    ensures answer { λ r. ⌜ r ≡ b - 48 ⌝ }
 {
     if b < b'0' { 0 } else { (b - b'0') as u64 }
 }
 
 // May b be a further digit of a number that is v so far?
 fn goes_on(v: u64, b: u8) -> bool
-    ensures { λ r. ⌜ r ≡ (isDigit b && growing v) ⌝ }
+    ensures answer { λ r. ⌜ r ≡ (isDigit b && growing v) ⌝ }
 {
-    is_digit(b) && (v != 0 && v <= 9999)
+    is_digit(b) && (v != 0 && v <= GROWS)
 }
 
 // The number that was v before place `at`.
 fn digits_from(s: &[u8], value: u64, at: usize) -> NumberRead
-    ensures { λ r. ⌜ r ≡ digitsFrom value at (drop at (now (s .entry))) ⌝ }
+    ensures answer { λ r. ⌜ r ≡ digitsFrom value at (drop at (now (s .entry))) ⌝ }
 {
     let mut v = value;
     let mut i = at;
@@ -101,7 +113,7 @@ fn digits_from(s: &[u8], value: u64, at: usize) -> NumberRead
 
 // The number at a place of the text.
 pub fn read_number(s: &[u8], at: usize) -> NumberRead
-    ensures { λ r. ⌜ r ≡ numberPlaced at (numberHere (drop at (now (s .entry)))) ⌝ }
+    ensures answer { λ r. ⌜ r ≡ numberPlaced at (numberHere (drop at (now (s .entry)))) ⌝ }
 {
     if s.len() <= at {
         return NumberRead::NoNumber;
@@ -115,7 +127,7 @@ pub fn read_number(s: &[u8], at: usize) -> NumberRead
 
 // Eight bytes as one number, big end first.
 fn joined(a: u8, b: u8, c: u8, d: u8, e: u8, f: u8, g: u8, h: u8) -> u64
-    ensures { λ r. ⌜ r ≡ packed 8 (a ∷ b ∷ c ∷ d ∷ e ∷ f ∷ g ∷ h ∷ []) ⌝ }
+    ensures answer { λ r. ⌜ r ≡ packed 8 (a ∷ b ∷ c ∷ d ∷ e ∷ f ∷ g ∷ h ∷ []) ⌝ }
 {
     let ab = a as u64 * 256 + b as u64;
     let cd = c as u64 * 256 + d as u64;
@@ -126,7 +138,7 @@ fn joined(a: u8, b: u8, c: u8, d: u8, e: u8, f: u8, g: u8, h: u8) -> u64
 
 // The cell of a name's bytes 0 to 7.
 pub fn pack_high(name: &[u8]) -> u64
-    ensures { λ r. ⌜ r ≡ packHigh (now (name .entry)) ⌝ }
+    ensures answer { λ r. ⌜ r ≡ packHigh (now (name .entry)) ⌝ }
 {
     joined(
         byte_at(name, 0, 0),
@@ -142,7 +154,7 @@ pub fn pack_high(name: &[u8]) -> u64
 
 // The cell of a name's bytes 8 to 15.
 pub fn pack_low(name: &[u8]) -> u64
-    ensures { λ r. ⌜ r ≡ packLow (now (name .entry)) ⌝ }
+    ensures answer { λ r. ⌜ r ≡ packLow (now (name .entry)) ⌝ }
 {
     joined(
         byte_at(name, 8, 0),
@@ -158,7 +170,7 @@ pub fn pack_low(name: &[u8]) -> u64
 
 // The place after the name bytes from `at` on, of which at most `most` are taken.
 fn name_end(s: &[u8], at: usize, most: usize) -> usize
-    ensures { λ r. ⌜ r ≡ at + length (nameRun most (drop at (now (s .entry)))) ⌝ }
+    ensures answer { λ r. ⌜ r ≡ at + length (nameRun most (drop at (now (s .entry)))) ⌝ }
 {
     let mut i = at;
     let mut left = most;
@@ -177,7 +189,7 @@ fn name_end(s: &[u8], at: usize, most: usize) -> usize
 
 // The name at a place of the text.
 pub fn read_name(s: &[u8], at: usize) -> NameRead
-    ensures { λ r. ⌜ r ≡ namePlaced at (nameHere (drop at (now (s .entry)))) ⌝ }
+    ensures answer { λ r. ⌜ r ≡ namePlaced at (nameHere (drop at (now (s .entry)))) ⌝ }
 {
     if s.len() <= at {
         return NameRead::NoName;
@@ -185,7 +197,7 @@ pub fn read_name(s: &[u8], at: usize) -> NameRead
     if !is_lower(s[at]) {
         return NameRead::NoName;
     }
-    let end = name_end(s, at + 1, 15);
+    let end = name_end(s, at + 1, NAME_REST);
     let high = pack_high(&s[at..end]);
     let low = pack_low(&s[at..end]);
     NameRead::Name(high, low, end)
@@ -193,7 +205,7 @@ pub fn read_name(s: &[u8], at: usize) -> NameRead
 
 // x where there is room, and the next place.
 pub fn put_byte(out: &mut [u8], n: usize, x: u8) -> usize
-    ensures { λ r. ⌜ _≡_ {A = Buf} (now (out .exit), r) (put (now (out .entry), n) x) ⌝ }
+    ensures written { λ r. ⌜ _≡_ {A = Buf} (now (out .exit), r) (put (now (out .entry), n) x) ⌝ }
 {
     if n < out.len() {
         out[n] = x;
@@ -205,7 +217,7 @@ pub fn put_byte(out: &mut [u8], n: usize, x: u8) -> usize
 
 // The bytes of a text.
 pub fn put_bytes(out: &mut [u8], n: usize, s: &[u8]) -> usize
-    ensures { λ r. ⌜ _≡_ {A = Buf} (now (out .exit), r) (puts (now (out .entry), n) (now (s .entry))) ⌝ }
+    ensures written { λ r. ⌜ _≡_ {A = Buf} (now (out .exit), r) (puts (now (out .entry), n) (now (s .entry))) ⌝ }
 {
     let mut k = n;
     let mut i: usize = 0;
@@ -218,14 +230,14 @@ pub fn put_bytes(out: &mut [u8], n: usize, s: &[u8]) -> usize
 
 // The byte of a digit.
 fn digit_byte(v: u64) -> u8
-    ensures { λ r. ⌜ r ≡ 48 + v % 10 ⌝ }
+    ensures answer { λ r. ⌜ r ≡ 48 + v % 10 ⌝ }
 {
     b'0' + (v % 10) as u8
 }
 
 // The number in decimal.
 pub fn put_number(out: &mut [u8], n: usize, v: u64) -> usize
-    ensures { λ r. ⌜ _≡_ {A = Buf} (now (out .exit), r) (puts (now (out .entry), n) (numberText v)) ⌝ }
+    ensures written { λ r. ⌜ _≡_ {A = Buf} (now (out .exit), r) (puts (now (out .entry), n) (numberText v)) ⌝ }
 {
     if v < 10 {
         return put_byte(out, n, digit_byte(v));
@@ -236,7 +248,7 @@ pub fn put_number(out: &mut [u8], n: usize, v: u64) -> usize
 
 // How many bytes the number takes.
 pub fn number_len(v: u64) -> usize
-    ensures { λ r. ⌜ r ≡ length (numberText v) ⌝ }
+    ensures answer { λ r. ⌜ r ≡ length (numberText v) ⌝ }
 {
     let mut len: usize = 1;
     let mut x = v;
@@ -248,21 +260,21 @@ pub fn number_len(v: u64) -> usize
 }
 
 fn first_byte(x: u64) -> u8
-    ensures { λ r. ⌜ r ≡ x / 72057594037927936 ⌝ }
+    ensures answer { λ r. ⌜ r ≡ x / 72057594037927936 ⌝ }
 {
     (x / TOP) as u8
 }
 
 // x without its first byte, and the first byte of y after it.
 fn shifted(x: u64, y: u64) -> u64
-    ensures { λ r. ⌜ r ≡ x % 72057594037927936 * 256 + y / 72057594037927936 ⌝ }
+    ensures answer { λ r. ⌜ r ≡ x % 72057594037927936 * 256 + y / 72057594037927936 ⌝ }
 {
     x % TOP * 256 + y / TOP
 }
 
 // The bytes that two cells spell.
 pub fn put_name(out: &mut [u8], n: usize, high: u64, low: u64) -> usize
-    ensures { λ r. ⌜ _≡_ {A = Buf} (now (out .exit), r) (puts (now (out .entry), n) (nameText high low)) ⌝ }
+    ensures written { λ r. ⌜ _≡_ {A = Buf} (now (out .exit), r) (puts (now (out .entry), n) (nameText high low)) ⌝ }
 {
     let mut k = n;
     let mut h = high;
@@ -275,19 +287,11 @@ pub fn put_name(out: &mut [u8], n: usize, high: u64, low: u64) -> usize
     k
 }
 
-// How many bytes two cells spell: at most 16, so they fit.
-pub fn name_len(high: u64, low: u64) -> usize
-    ensures { λ r. ⌜ r ≡ length (nameText high low) ⌝ }
-{
-    let mut text = [0u8; 16];
-    put_name(&mut text, 0, high, low)
-}
-
 // Are two cells a name's packing? Reading back what they spell tells.
 pub fn is_name(high: u64, low: u64) -> bool
-    ensures { λ r. ⌜ r ≡ isNameCells high low ⌝ }
+    ensures answer { λ r. ⌜ r ≡ isNameCells high low ⌝ }
 {
-    let mut text = [0u8; 16];
+    let mut text = [0u8; NAME_BYTES];
     put_name(&mut text, 0, high, low);
     let NameRead::Name(h, l, _) = read_name(&text, 0) else {
         return false;

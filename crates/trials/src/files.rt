@@ -6,10 +6,10 @@ use crate::lent::cells;
 use crate::lent::front;
 use crate::lent::front_cells;
 use crate::say;
-use graph_file::Answer;
 use graph_file::name_sought;
 use graph_file::read;
 use graph_file::write;
+use text_field::Answer;
 
 // A text read into the first `room` cells.
 fn read_into(text: &[u8], table: &mut [u64], room: usize) -> Answer {

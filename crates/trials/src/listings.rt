@@ -3,9 +3,9 @@ use crate::lent;
 use crate::lent::bytes;
 use crate::lent::front;
 use crate::say;
-use graph_file::Answer;
 use resolution::listing;
 use resolution::summary;
+use text_field::Answer;
 
 // What was answered, and what the lent bytes hold: a short text is printed whole.
 fn shown(verb: &[u8], a: Answer, lent: &[u8]) {

@@ -1,5 +1,5 @@
 // Reads cases from standard input and prints for each what a public function answers, and what became of the memory lent to it. The programs in
-// tools/trials write the cases and, by a reference of their own, the output that is due.
+// tests/trials write the cases and, by a reference of their own, the output that is due.
 mod edges;
 mod files;
 mod input;

@@ -5,7 +5,6 @@ use crate::lent;
 use crate::lent::bytes;
 use crate::lent::front;
 use crate::say;
-use graph_file::Answer;
 use path_row::compare::Compared;
 use path_row::compare::steps_due;
 use path_row::file::decide;
@@ -13,6 +12,7 @@ use path_row::form::RowRead;
 use path_row::form::read_row;
 use path_row::form::step_at;
 use path_row::writer::write_row;
+use text_field::Answer;
 
 // Each step of a row printed, its letters and its scopes kept.
 fn steps(row: &[u8], count: usize, letters: &mut [u8], scopes: &mut [u8]) {

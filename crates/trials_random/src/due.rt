@@ -42,11 +42,20 @@ pub fn put_listing(
     put_all(out, f, rows)
 }
 
+// To the nearest per cent (02, K1), in halves of one: half up, and at an exact half the even one of the two.
 fn share(queries: usize, one: usize) -> usize {
     if queries == 0 {
         return 0;
     }
-    one % 256 * 100 / queries
+    if 768 < queries {
+        return 0;
+    }
+    let halves = one % 256 * 200 + queries;
+    let up = halves / (2 * queries);
+    if halves % (2 * queries) == 0 {
+        return up % 256 / 2 * 2;
+    }
+    up
 }
 
 // Every gym here has a query.

@@ -1,5 +1,5 @@
 // Draws small gyms by chance, and compares for each of their queries what `resolution` and `judge` answer with what a plain enumerator finds. The
-// enumerator shares no code with the search and goes by document 01 alone: for `awaits` it tries completions.
+// enumerator shares no code with the search and goes by the documents alone: for `awaits` it tries completions.
 mod cells;
 mod completed;
 mod drawn;
@@ -16,12 +16,12 @@ use cells::plus;
 use completed::NONE;
 use completed::ROWS;
 use completed::TOO_MANY;
-use graph_file::Answer;
 use gym::SIZE;
 use paths::MOST;
 use paths::ROOM;
 use resolution::listing;
 use resolution::summary;
+use text_field::Answer;
 
 const GYMS: usize = 6000;
 

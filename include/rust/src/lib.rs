@@ -3,6 +3,9 @@
 //! Every function is total. A refusal leaves all that was lent as it was. What each function takes, answers and refuses is
 //! said in `include/tewhoranu.h`; the numbers there are the cases of the enums here.
 
+use std::error::Error;
+use std::fmt;
+
 /// Cells of a graph table that serve every file.
 pub const CELLS: usize = 12_271;
 /// Bytes that serve every file's text.
@@ -40,25 +43,48 @@ pub enum Refusal {
 }
 
 impl Refusal {
+    pub const ALL: [Refusal; 9] = [
+        Refusal::TooLong,
+        Refusal::Malformed,
+        Refusal::OutOfRange,
+        Refusal::NotAscending,
+        Refusal::TooManyRows,
+        Refusal::NoOrder,
+        Refusal::NoQuery,
+        Refusal::NoPathRow,
+        Refusal::NoRoom,
+    ];
+
     pub fn number(self) -> u8 {
         self as u8
     }
 
     fn of(number: u64) -> Refusal {
-        match number {
-            1 => Refusal::TooLong,
-            2 => Refusal::Malformed,
-            3 => Refusal::OutOfRange,
-            4 => Refusal::NotAscending,
-            5 => Refusal::TooManyRows,
-            6 => Refusal::NoOrder,
-            7 => Refusal::NoQuery,
-            8 => Refusal::NoPathRow,
-            9 => Refusal::NoRoom,
-            _ => unreachable!("the library answers no such number: {number}"),
+        match Refusal::ALL.into_iter().find(|r| u64::from(r.number()) == number) {
+            Some(refusal) => refusal,
+            None => unreachable!("the library answers no such number: {number}"),
         }
     }
 }
+
+/// What was refused, in words.
+impl fmt::Display for Refusal {
+    fn fmt(&self, f: &mut fmt::Formatter) -> fmt::Result {
+        f.write_str(match self {
+            Refusal::TooLong => "the file is longer than 32,768 bytes",
+            Refusal::Malformed => "a line or a table's row is not of its section's form, or a section is missing",
+            Refusal::OutOfRange => "a scope, state, mark, count or label is outside its range or list",
+            Refusal::NotAscending => "a row repeats or does not ascend",
+            Refusal::TooManyRows => "a section has a row past its limit",
+            Refusal::NoOrder => "the order has a pair with equal ends, or pairs a, b and b, c without a, c",
+            Refusal::NoQuery => "there is no query of this number",
+            Refusal::NoPathRow => "a path row is not of its form",
+            Refusal::NoRoom => "the memory lent is too short for the output or the steps",
+        })
+    }
+}
+
+impl Error for Refusal {}
 
 /// Which of two path rows is more specific.
 #[derive(Clone, Copy, Debug, PartialEq, Eq)]
@@ -111,10 +137,21 @@ mod library {
     }
 }
 
-/// What is above 16, or the refusal.
-fn result(answer: u64) -> Result<usize, Refusal> {
-    match answer.checked_sub(16) {
-        Some(value) => Ok(value as usize),
+/// An answer of this and more is no refusal. Cases are as far apart.
+const DONE: u64 = 64;
+
+/// How much was written, or the refusal.
+fn written(answer: u64) -> Result<usize, Refusal> {
+    match answer.checked_sub(DONE) {
+        Some(amount) => Ok(amount as usize),
+        None => Err(Refusal::of(answer)),
+    }
+}
+
+/// Which case holds and the steps that come with it, or the refusal.
+fn case(answer: u64) -> Result<(u64, u64), Refusal> {
+    match (answer / DONE).checked_sub(1) {
+        Some(case) => Ok((case, answer % DONE)),
         None => Err(Refusal::of(answer)),
     }
 }
@@ -126,17 +163,17 @@ fn result(answer: u64) -> Result<usize, Refusal> {
 /// Reads a gym file's text into a graph table and answers how many cells were written.
 pub fn read(text: &[u8], table: &mut [u64]) -> Result<usize, Refusal> {
     // SAFETY: as said above.
-    result(unsafe { library::tewhoranu_read(text.as_ptr(), text.len(), table.as_mut_ptr(), table.len()) })
+    written(unsafe { library::tewhoranu_read(text.as_ptr(), text.len(), table.as_mut_ptr(), table.len()) })
 }
 
 /// Writes a graph table as a gym file's text and answers how many bytes were written.
 pub fn write(table: &[u64], out: &mut [u8]) -> Result<usize, Refusal> {
     // SAFETY: as said above.
-    result(unsafe { library::tewhoranu_write(table.as_ptr(), table.len(), out.as_mut_ptr(), out.len()) })
+    written(unsafe { library::tewhoranu_write(table.as_ptr(), table.len(), out.as_mut_ptr(), out.len()) })
 }
 
-/// The name that a query of the file seeks, as the part of the text that holds it; `None` where the file or the query
-/// number is refused.
+/// The name that a query of the file seeks, as the part of the text that holds it; `None` if a refusal by 1 to 7 stands
+/// in the way.
 pub fn name_sought(text: &[u8], query: usize) -> Option<&[u8]> {
     let mut place = 0;
     // SAFETY: as said above.
@@ -147,7 +184,7 @@ pub fn name_sought(text: &[u8], query: usize) -> Option<&[u8]> {
 /// Writes a query's listing and answers how many bytes were written.
 pub fn listing(text: &[u8], query: usize, out: &mut [u8]) -> Result<usize, Refusal> {
     // SAFETY: as said above.
-    result(unsafe { library::tewhoranu_listing(text.as_ptr(), text.len(), query, out.as_mut_ptr(), out.len()) })
+    written(unsafe { library::tewhoranu_listing(text.as_ptr(), text.len(), query, out.as_mut_ptr(), out.len()) })
 }
 
 /// Judges a path row for a query; its steps go into the table.
@@ -164,10 +201,10 @@ pub fn judge(text: &[u8], query: usize, row: &[u8], steps: &mut [Step]) -> Resul
             steps.len(),
         )
     };
-    Ok(match result(answer)? {
-        0 => Standing::Visible,
-        1 => Standing::Shadowed,
-        2 => Standing::Unreached,
+    Ok(match case(answer)? {
+        (0, 0) => Standing::Visible,
+        (1, 0) => Standing::Shadowed,
+        (2, 0) => Standing::Unreached,
         _ => unreachable!("the library answers no such number: {answer}"),
     })
 }
@@ -195,10 +232,10 @@ pub fn compare(
             second_steps.len(),
         )
     };
-    Ok(match result(answer)? {
-        0 => Compared::First,
-        1 => Compared::Second,
-        2 => Compared::Neither,
+    Ok(match case(answer)? {
+        (0, 0) => Compared::First,
+        (1, 0) => Compared::Second,
+        (2, 0) => Compared::Neither,
         _ => unreachable!("the library answers no such number: {answer}"),
     })
 }
@@ -206,5 +243,5 @@ pub fn compare(
 /// Writes the summary and answers how many bytes were written.
 pub fn summary(text: &[u8], out: &mut [u8]) -> Result<usize, Refusal> {
     // SAFETY: as said above.
-    result(unsafe { library::tewhoranu_summary(text.as_ptr(), text.len(), out.as_mut_ptr(), out.len()) })
+    written(unsafe { library::tewhoranu_summary(text.as_ptr(), text.len(), out.as_mut_ptr(), out.len()) })
 }

@@ -1,5 +1,7 @@
--- `host::tewhoranu_compare` meets its contract: a walk of its MIR, by hand. All that it knows of `compare` and `compared_number` is that each meets its contract. Both lent tables go to `compare` at their own lifetimes, so they are given up for good, and what `compare` says of their last records is what is said at exit.
--- Assumes nothing.
+-- `host::tewhoranu_compare` meets its contract: a walk of its MIR, by hand. All that it knows of
+-- `compare` and `compared_number` is that each meets its contract. Both lent tables go to `compare`
+-- at their own lifetimes, so they are given up for good, and what `compare` says of their last
+-- records is what is said at exit. Assumes nothing.
 use mathlib.Core.Path.{_≡_, refl, ap, _∙_}
 use Prim.Native.Nat.{ℕ}
 use mathlib.Core.List.{[], _∷_, List}
@@ -36,7 +38,7 @@ use denote.Triple.Table.{entered, cited}
 use denote.Triple.Walked.{says, Stays, stay-none-slice, gave-slice, walkOf, goes-none-slice, goes-gave-slice, Walks, ends-at, walked, walk-meets}
 use denote.Exit.{yes}
 use denote.Signature.{plain}
-use Rattle.graph_file.specs.Outcome.{Outcome}
+use Rattle.text_field.specs.Outcome.{Outcome}
 use Rattle.path_row.specs.declared.form.Step.{Step}
 use Rattle.path_row.specs.declared.compare.Compared.{Compared}
 use Rattle.path_row.specs.Compare.{Comparison, meaning, compareAnswer, stepsLeft}
@@ -206,10 +208,12 @@ module _ {M : Type 1} (𝓤 : URA M) (H : Heap 𝓤) (A : Atoms 𝓤) (W : Given
           split ! $ move ! (1 ∷ []) $ heard ! (Said r (ws .1 .1 .1 .0) (ws .1 .1 .1 .1 .0)) (λ said.
           fsplit ! $ drop ! $ fsplit ! $ drop ! $ fsplit ! $ drop ! $ fsplit ! $ fsplit ! $ move ! (1 ∷ []) $ feqL ! (λ len₁.
           move ! (1 ∷ []) $ fsplit ! $ fsplit ! $ move ! (1 ∷ []) $ feqL ! (λ len₂.
-          -- [the second's last records; true; the first's; tokens and result; b; a; text; true; true; _10; …]
+          -- [the second's last records; true; the first's; tokens and result; b; a; text; true;
+          -- true; _10; …]
           move ! (3 ∷ []) $ split ! $ move ! (1 ∷ []) $ peeks ! E.the-row (Is E.the-row) (shows 𝓤 H A E.the-row) r (u ∷ []) (λ is.
           land ! (from ! (stop !)) (init ! 18 refl (EL.lawful E.the-type E′.the-laws 𝓤 H A W tt .typed r _ is .0)) $
-          -- [the result; tokens; the second's last records; true; the first's; b; a; text; true; true; _10; …]: `compared_number`
+          -- [the result; tokens; the second's last records; true; the first's; b; a; text; true;
+          -- true; _10; …]: `compared_number`
           use1 W (raw (Number 𝓤 H A mem run .pre (to-number r u))) (goes-number r u) $
           calls-at ! fm (Number 𝓤 H A mem run) known-number (to-number r u) (and-then ! (load ! (from ! (stop !)) (look ! 18 refl)) (no-more !)) (λ w.
           use1 W (later (some (λ (n : ℕ). (‵ ftrue ⊛ ‵ (u64 .own n (w ∷ []))) ⊛ raw (ensured 𝓤 H A number.ended (number.clauses 𝓤 H A mem run) tt (r, tt) tt n)))) (id⊢ 𝓤 _) $ await ! tt $ pick ! (λ n.
@@ -217,7 +221,8 @@ module _ {M : Type 1} (𝓤 : URA M) (H : Heap 𝓤) (A : Atoms 𝓤) (W : Given
           peeks ! u64 (Is u64) (shows 𝓤 H A u64) n (w ∷ []) (λ isn.
           land ! (from ! (stop !)) (init ! 31 refl (uint-lawful 𝓤 H A W w64 .typed n _ isn .0)) $ drop ! $ drop ! $
           split ! $ move ! (1 ∷ []) $ split ! $ move ! (1 ∷ []) $ split ! $
-          -- [κ₂; true; κ₁; κ; the second's last records; true; the first's; b; a; text; true; true; _10; …]
+          -- [κ₂; true; κ₁; κ; the second's last records; true; the first's; b; a; text; true; true;
+          -- _10; …]
           returns ! (look ! 32 refl) $ forget ! 12 refl $ forget ! 14 refl $ forget ! 16 refl $ forget ! 18 refl $ forget ! 20 refl $ forget ! 22 refl $ forget ! 24 refl $ forget ! 26 refl $ forget ! 28 refl $ forget ! 30 refl $ forget ! 32 refl $
           move ! (32 ∷ 33 ∷ []) $ free1 ! $ move ! (30 ∷ 31 ∷ []) $ free1 ! $ move ! (28 ∷ 29 ∷ []) $ free1 ! $ move ! (26 ∷ 27 ∷ []) $ free1 ! $ move ! (24 ∷ 25 ∷ []) $ free1 ! $ move ! (22 ∷ 23 ∷ []) $ free1 ! $ move ! (20 ∷ 21 ∷ []) $ free1 ! $ move ! (18 ∷ 19 ∷ []) $ free1 ! $ move ! (16 ∷ 17 ∷ []) $ free1 ! $ move ! (14 ∷ 15 ∷ []) $ free1 ! $ move ! (12 ∷ 13 ∷ []) $ free1 ! $ free0 ! $
           keep ! (3 ∷ 2 ∷ 0 ∷ 9 ∷ 8 ∷ 7 ∷ 6 ∷ 4 ∷ []) $

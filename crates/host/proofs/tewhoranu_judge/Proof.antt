@@ -1,5 +1,7 @@
--- `host::tewhoranu_judge` meets its contract: a walk of its MIR, by hand, as that of `tewhoranu_compare` is. All that it knows of `judge` and `judged_number` is that each meets its contract. The lent table goes to `judge` at its own lifetime, so it is given up for good, and what `judge` says of its last records is what is said at exit.
--- Assumes nothing.
+-- `host::tewhoranu_judge` meets its contract: a walk of its MIR, by hand, as that of
+-- `tewhoranu_compare` is. All that it knows of `judge` and `judged_number` is that each meets its
+-- contract. The lent table goes to `judge` at its own lifetime, so it is given up for good, and
+-- what `judge` says of its last records is what is said at exit. Assumes nothing.
 use mathlib.Core.Path.{_≡_, refl, ap, _∙_}
 use Prim.Native.Nat.{ℕ, _<_, _^_}
 use mathlib.Core.List.{[], _∷_, List}
@@ -36,7 +38,7 @@ use denote.Triple.Table.{entered, cited}
 use denote.Triple.Walked.{says, Stays, stay-none, stay-none-slice, gave-slice, walkOf, goes-none, goes-none-slice, goes-gave-slice, Walks, ends-at, walked, walk-meets}
 use denote.Exit.{yes}
 use denote.Signature.{plain}
-use Rattle.graph_file.specs.Outcome.{Outcome}
+use Rattle.text_field.specs.Outcome.{Outcome}
 use Rattle.path_row.specs.declared.form.Step.{Step}
 use Rattle.judge.specs.declared.standing.Judged.{Judged}
 use Rattle.path_row.specs.Compare.{stepsLeft}
@@ -184,10 +186,12 @@ module _ {M : Type 1} (𝓤 : URA M) (H : Heap 𝓤) (A : Atoms 𝓤) (W : Given
           split ! $ move ! (1 ∷ []) $ use1 W (some (λ (ws : Unit {0} × (Unit {0} × (Unit {0} × (List Step × Unit {0})))). ‵ (lasts judge.ended (κ, (κ₁, tt)) a ws) ⊛ raw (fact 𝓤 (Said r (ws .1 .1 .1 .0))))) (id⊢ 𝓤 _) $ pick ! (λ ws.
           split ! $ move ! (1 ∷ []) $ heard ! (Said r (ws .1 .1 .1 .0)) (λ said.
           fsplit ! $ drop ! $ fsplit ! $ drop ! $ fsplit ! $ drop ! $ fsplit ! $ fsplit ! $ move ! (1 ∷ []) $ feqL ! (λ len₁.
-          -- [the table's last records; true; tokens and result; row; text; query; true; true; _7; …]
+          -- [the table's last records; true; tokens and result; row; text; query; true; true; _7;
+          -- …]
           move ! (2 ∷ []) $ split ! $ move ! (1 ∷ []) $ peeks ! E.the-row (Is E.the-row) (shows 𝓤 H A E.the-row) r (u ∷ []) (λ is.
           land ! (from ! (stop !)) (init ! 13 refl (EL.lawful E.the-type E′.the-laws 𝓤 H A W tt .typed r _ is .0)) $
-          -- [the result; tokens; the table's last records; true; row; text; query; true; true; _7; …]: `judged_number`
+          -- [the result; tokens; the table's last records; true; row; text; query; true; true; _7;
+          -- …]: `judged_number`
           use1 W (raw (Number 𝓤 H A mem run .pre (to-number r u))) (goes-number r u) $
           calls-at ! fm (Number 𝓤 H A mem run) known-number (to-number r u) (and-then ! (load ! (from ! (stop !)) (look ! 13 refl)) (no-more !)) (λ w.
           use1 W (later (some (λ (n : ℕ). (‵ ftrue ⊛ ‵ (u64 .own n (w ∷ []))) ⊛ raw (ensured 𝓤 H A number.ended (number.clauses 𝓤 H A mem run) tt (r, tt) tt n)))) (id⊢ 𝓤 _) $ await ! tt $ pick ! (λ n.

@@ -24,7 +24,7 @@ query-count-requires : tie.Need-query-count-requires Inv-loop μ-loop
 query-count-requires c κs = search needs
 
 loop-holds : tie.Need-loop-holds Inv-loop μ-loop
-loop-holds c = let a = c .before .before .before .args in let pre = c .before .before .before .pre in let n = c .query-count .ensures in let z = size-start (a .table .now) (pre .0) _ n in (length-replicate {A = ℕ} 65536 0, omega arith, omega arith, due-start (a .table .now) (pre .0) _ n (a .text .now) (a .sent) (pre .1))
+loop-holds c = let a = c .before .before .before .args in let pre = c .before .before .before .pre in let n = c .query-count .ensures in let z = size-start (a .table .now) (pre .0) _ n in (length-replicate {A = ℕ} lent 0, omega arith, omega arith, due-start (a .table .now) (pre .0) _ n (a .text .now) (a .sent) (pre .1))
 
 slice-aggregate-print-part : tie.Need-slice-aggregate-print-part Inv-loop μ-loop
 slice-aggregate-print-part c = sym (c .before .before .loop .inv .0)

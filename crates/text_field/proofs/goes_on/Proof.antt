@@ -10,11 +10,11 @@ is-digit-requires c κs = search needs
 
 returns : tie.Need-returns
 unfolding growing
-returns c = and-second _ _ _ _ (c .before .before .is-digit .ensures) (c .before .if1 .taken) (simp (ne-eqb _ _ (c .if2 .taken)))
+returns c = and-second _ _ _ _ (c .before .before .is-digit .ensures) (c .before .if1 .taken) (simp (ne-eqb _ 0 (c .if2 .taken)))
 
 returns-2 : tie.Need-returns-2
 unfolding growing
-returns-2 c = and-second _ _ _ _ (c .before .before .is-digit .ensures) (c .before .if1 .taken) (simp (eq-eqb _ _ (c .if2 .left)))
+returns-2 c = and-second _ _ _ _ (c .before .before .is-digit .ensures) (c .before .if1 .taken) (simp (eq-eqb _ 0 (c .if2 .left)))
 
 returns-3 : tie.Need-returns-3
 returns-3 c = and-first _ _ _ (c .before .is-digit .result) (c .before .is-digit .ensures) (c .if1 .left)

@@ -33,7 +33,7 @@ part-pack-high-start : tie.Need-part-pack-high-start
 part-pack-high-start c = search needs
 
 part-pack-high-end : tie.Need-part-pack-high-end
-part-pack-high-end c = let h : c .name-end .result ≤ length (c .before .before .before .before .before .before .args .s .now) = name-inside _ _ (omega arith) _ (c .name-end .ensures) in search needs
+part-pack-high-end c = let h : c .name-end .result ≤ length (c .before .before .before .before .before .before .args .s .now) = name-inside _ _ (omega arith) _ _ (c .name-end .ensures) in search needs
 
 pack-high-requires : tie.Need-pack-high-requires
 pack-high-requires c κs = search needs
@@ -45,7 +45,7 @@ part-pack-low-start : tie.Need-part-pack-low-start
 part-pack-low-start c = search needs
 
 part-pack-low-end : tie.Need-part-pack-low-end
-part-pack-low-end c = let h : c .before .before .name-end .result ≤ length (c .before .before .before .before .before .before .before .before .args .s .now) = name-inside _ _ (omega arith) _ (c .before .before .name-end .ensures) in search needs
+part-pack-low-end c = let h : c .before .before .name-end .result ≤ length (c .before .before .before .before .before .before .before .before .args .s .now) = name-inside _ _ (omega arith) _ _ (c .before .before .name-end .ensures) in search needs
 
 pack-low-requires : tie.Need-pack-low-requires
 pack-low-requires c κs = search needs

@@ -12,31 +12,24 @@ use Rattle.graph_file.proofs.admission.row_before.Reads as row-before-r
 use Rattle.graph_file.proofs.format.key_place.Reads as key-place-reads
 use Rattle.graph_file.proofs.rows.row_at.Reads as row-at-reads
 
--- src/admission.rt:90:9
 returns : tie.Need-returns
 returns c = rw (eq-eqb (c .before .before .args .rows) 0 (c .if1 .taken))
 
--- src/admission.rt:92:14
 key-place-requires : tie.Need-key-place-requires
 key-place-requires c κs = search needs
 
--- src/admission.rt:92:42
 row-before-requires : tie.Need-row-before-requires
 row-before-requires c κs = search needs
 
--- src/admission.rt:92:28
 row-at-requires : tie.Need-row-at-requires
 row-at-requires c κs = search needs
 
--- src/admission.rt:92:58
 row-at-requires-2 : tie.Need-row-at-requires-2
 row-at-requires-2 c κs = search needs
 
--- src/admission.rt:92:5
 key-less-requires : tie.Need-key-less-requires
 key-less-requires c κs = search needs
 
--- src/admission.rt:86:1
 returns-2 : tie.Need-returns-2
 returns-2 c = let a = c .before .before .before .before .before .before .before .args in rw (ne-eqb (a .rows) 0 (c .before .before .before .before .before .if1 .left), last-row (a .rows) (a .p) (a .table .now) (c .before .before .before .before .before .if1 .left), ← key-items (a .k)) (cc)
 

@@ -21,40 +21,31 @@ Inv-loop o labels scopes row i₀ x₀ i x = (x ≡ getD formatBytes i 10) × (e
 abbrev μ-loop : tie.MeasureT-loop
 μ-loop o labels scopes row i₀ x₀ i x = 152 - i
 
--- src/admission.rt:40:9
 item-requires : tie.Need-item-requires Inv-loop μ-loop
 item-requires c κs = search needs
 
--- src/admission.rt:41:5
 loop-holds : tie.Need-loop-holds Inv-loop μ-loop
 loop-holds c = (c .item .ensures, refl)
 
--- src/admission.rt:42:13
 item-in-range-requires : tie.Need-item-in-range-requires Inv-loop μ-loop
 item-in-range-requires c κs = search needs
 
--- src/admission.rt:43:13
 returns : tie.Need-returns Inv-loop μ-loop
 unfolding inRange
 returns c = let l = c .before .before .before .loop in sym (sym (l .inv .1) ∙ every-false _ (l .i) (l .x) (l .inv .0) (c .before .before .loop-test .taken) (sym (c .before .item-in-range .ensures) ∙ not-true _ (c .if1 .taken)))
 
--- src/admission.rt:45:9
 add-i : tie.Need-add-i Inv-loop μ-loop
 add-i c = let l = c .before .before .before .loop in let h : l .i < 152 = within-format (l .i) (λ e. c .before .before .loop-test .taken (l .inv .0 ∙ e)) in omega arith
 
--- src/admission.rt:46:9
 item-requires-2 : tie.Need-item-requires-2 Inv-loop μ-loop
 item-requires-2 c κs = search needs
 
--- src/admission.rt:41:5
 loop-less : tie.Need-loop-less Inv-loop μ-loop
 loop-less c = let l = c .before .before .before .before .loop in let h : l .i < 152 = within-format (l .i) (λ e. c .before .before .before .loop-test .taken (l .inv .0 ∙ e)) in omega arith
 
--- src/admission.rt:41:5
 loop-again : tie.Need-loop-again Inv-loop μ-loop
 loop-again c = let l = c .before .before .before .before .loop in (c .item2 .ensures, every-true _ (l .i) (l .x) (l .inv .0) (c .before .before .before .loop-test .taken) (sym (c .before .before .item-in-range .ensures) ∙ not-false _ (c .before .if1 .left)) ∙ l .inv .1)
 
--- src/admission.rt:36:1
 returns-2 : tie.Need-returns-2 Inv-loop μ-loop
 unfolding inRange itemInRange
 returns-2 c = let l = c .before .loop in sym (sym (l .inv .1) ∙ every-end _ (l .i) (l .x) (l .inv .0) (c .loop-test .left) refl)

@@ -9,24 +9,19 @@ use Rattle.graph_file.proofs.admission.item_in_range.Lts as lts
 use Rattle.graph_file.proofs.admission.kind_in_range.Reads as kind-in-range-reads
 use Rattle.graph_file.proofs.rows.value.Reads as value-reads
 
--- src/admission.rt:29:9
 returns : tie.Need-returns
 unfolding itemInRange
 returns c = rw (item-byte (c .before .args .x) (c .if1 .taken))
 
--- src/admission.rt:31:13
 cast-c : tie.Need-cast-c
 cast-c c = search needs
 
--- src/admission.rt:32:50
 value-requires : tie.Need-value-requires
 value-requires c κs = search needs
 
--- src/admission.rt:32:5
 kind-in-range-requires : tie.Need-kind-in-range-requires
 kind-in-range-requires c κs = search needs
 
--- src/admission.rt:25:1
 returns-2 : tie.Need-returns-2
 unfolding itemInRange
 returns-2 c = rw (item-field (c .before .before .before .args .x) (c .before .before .if1 .left)) (cc)

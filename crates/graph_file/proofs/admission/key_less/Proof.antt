@@ -20,51 +20,39 @@ Inv-loop o a b i₀ x₀ i x = (x ≡ getD formatBytes i 10) × (keyLess (keyAt 
 abbrev μ-loop : tie.MeasureT-loop
 μ-loop o a b i₀ x₀ i x = 152 - i
 
--- src/admission.rt:56:9
 item-requires : tie.Need-item-requires Inv-loop μ-loop
 item-requires c κs = search needs
 
--- src/admission.rt:57:5
 loop-holds : tie.Need-loop-holds Inv-loop μ-loop
 loop-holds c = (c .item .ensures, refl)
 
--- src/admission.rt:58:17
 cast-c : tie.Need-cast-c Inv-loop μ-loop
 cast-c c = omega arith
 
--- src/admission.rt:59:13
 value-requires : tie.Need-value-requires Inv-loop μ-loop
 value-requires c κs = search needs
 
--- src/admission.rt:60:13
 value-requires-2 : tie.Need-value-requires-2 Inv-loop μ-loop
 value-requires-2 c κs = search needs
 
--- src/admission.rt:62:13
 returns : tie.Need-returns Inv-loop μ-loop
 returns c = let l = c .before .before .before .before .loop in sym (sym (l .inv .1) ∙ key-less (l .i) (l .x) _ _ (l .inv .0) (c .before .before .before .loop-test .taken) (omega (arith, c .before .before .value .ensures, c .before .value2 .ensures, c .if1 .taken)))
 
--- src/admission.rt:65:13
 returns-2 : tie.Need-returns-2 Inv-loop μ-loop
 returns-2 c = let l = c .before .before .before .before .before .loop in sym (sym (l .inv .1) ∙ key-greater (l .i) (l .x) _ _ (l .inv .0) (c .before .before .before .before .loop-test .taken) (omega (arith, c .before .before .before .value .ensures, c .before .before .value2 .ensures, c .before .if1 .left)) (λ e. c .if2 .taken (c .before .before .before .value .ensures ∙ e ∙ sym (c .before .before .value2 .ensures))))
 
--- src/admission.rt:67:9
 add-i : tie.Need-add-i Inv-loop μ-loop
 add-i c = let l = c .before .before .before .before .before .loop in let h : l .i < 152 = within-format (l .i) (λ e. c .before .before .before .before .loop-test .taken (l .inv .0 ∙ e)) in omega arith
 
--- src/admission.rt:68:9
 item-requires-2 : tie.Need-item-requires-2 Inv-loop μ-loop
 item-requires-2 c κs = search needs
 
--- src/admission.rt:57:5
 loop-less : tie.Need-loop-less Inv-loop μ-loop
 loop-less c = let l = c .before .before .before .before .before .before .loop in let h : l .i < 152 = within-format (l .i) (λ e. c .before .before .before .before .before .loop-test .taken (l .inv .0 ∙ e)) in omega arith
 
--- src/admission.rt:57:5
 loop-again : tie.Need-loop-again Inv-loop μ-loop
 loop-again c = let l = c .before .before .before .before .before .before .loop in (c .item2 .ensures, key-equal (l .i) (l .x) _ _ (l .inv .0) (c .before .before .before .before .before .loop-test .taken) (sym (c .before .before .before .before .value .ensures) ∙ c .before .if2 .left ∙ c .before .before .before .value2 .ensures) ∙ l .inv .1)
 
--- src/admission.rt:52:1
 returns-3 : tie.Need-returns-3 Inv-loop μ-loop
 returns-3 c = let l = c .before .loop in sym (sym (l .inv .1) ∙ key-end (l .i) (l .x) _ _ (l .inv .0) (c .loop-test .left))
 

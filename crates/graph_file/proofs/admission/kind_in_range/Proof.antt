@@ -8,47 +8,38 @@ use Rattle.graph_file.proofs.admission.kind_in_range.Tie as tie
 use Rattle.graph_file.proofs.admission.kind_in_range.Reads as reads
 use Rattle.graph_file.proofs.admission.kind_in_range.Lts as lts
 
--- src/admission.rt:9:1
 returns : tie.Need-returns
 unfolding kindInRange kindOf
 returns c = rw (c .match .keys1)
 
--- src/admission.rt:9:1
 returns-2 : tie.Need-returns-2
 unfolding kindInRange kindOf
 returns-2 c = rw (c .match .keys2)
 
--- src/admission.rt:9:1
 returns-3 : tie.Need-returns-3
 unfolding kindInRange kindOf
 returns-3 c = rw (c .match .keys3)
 
--- src/admission.rt:9:1
 returns-4 : tie.Need-returns-4
 unfolding kindInRange kindOf
 returns-4 c = rw (c .before .match .keys4, le-leb _ _ (c .if1 .taken))
 
--- src/admission.rt:9:1
 returns-5 : tie.Need-returns-5
 unfolding kindInRange kindOf
 returns-5 c = rw (c .before .match .keys4, lt-leb _ _ (c .if1 .left))
 
--- src/admission.rt:9:1
 returns-6 : tie.Need-returns-6
 unfolding kindInRange kindOf
 returns-6 c = rw (c .match .keys5)
 
--- src/admission.rt:9:1
 returns-7 : tie.Need-returns-7
 unfolding kindInRange kindOf
 returns-7 c = rw (c .match .keys6)
 
--- src/admission.rt:9:1
 returns-8 : tie.Need-returns-8
 unfolding kindInRange kindOf
 returns-8 c = rw (c .match .keys7)
 
--- src/admission.rt:9:1
 returns-9 : tie.Need-returns-9
 unfolding kindInRange kindOf
 returns-9 c = let r = c .match .rest in rw (kind-name (c .before .args .kind) (r .0 .0 .0 .0 .0 .0 .1) (r .0 .0 .0 .0 .0 .1) (r .0 .0 .0 .0 .1) (r .0 .0 .0 .1) (r .0 .0 .1) (r .0 .1) (r .1))

@@ -15,35 +15,27 @@ use Rattle.graph_file.proofs.format.sequence.Reads as sequence-reads
 use Rattle.graph_file.proofs.rows.row_at.Reads as row-at-reads
 use Rattle.graph_file.proofs.rows.value.Reads as value-reads
 
--- src/admission.rt:106:11
 sequence-requires : tie.Need-sequence-requires
 sequence-requires c κs = search needs
 
--- src/admission.rt:107:14
 ascends-requires : tie.Need-ascends-requires
 ascends-requires c κs = search needs
 
--- src/admission.rt:108:44
 row-at-requires : tie.Need-row-at-requires
 row-at-requires c κs = search needs
 
--- src/admission.rt:108:38
 value-requires : tie.Need-value-requires
 value-requires c κs = search needs
 
--- src/admission.rt:108:14
 unlisted-requires : tie.Need-unlisted-requires
 unlisted-requires c κs = search needs
 
--- src/admission.rt:103:1
 returns : tie.Need-returns
 returns c = c .ascends .ensures ∙ sym (follows-ascending _ _ _ _ _ _ (sym (c .before .before .sequence .ensures) ∙ c .before .match .keys1))
 
--- src/admission.rt:103:1
 returns-2 : tie.Need-returns-2
 returns-2 c = let a = c .before .before .before .before .before .before .args in c .unlisted .ensures ∙ sym (follows-once (sectionAt (a .k) .sequence) (sectionAt (a .k) .key) (lettersAt (a .labels) (drop 1 (a .table .now))) (a .rows) (lastAt (a .rows) (a .p) (a .table .now)) (rowOf (drop (a .p) (a .table .now))) (sym (c .before .before .before .before .sequence .ensures) ∙ c .before .before .before .match .keys2) ∙ rw (← c .before .before .row-at .ensures, ← c .before .value .ensures))
 
--- src/admission.rt:103:1
 returns-3 : tie.Need-returns-3
 returns-3 c = sym (follows-free _ _ _ _ _ _ (λ e. c .match .rest .0 .1 (c .before .sequence .ensures ∙ e)) (λ e. c .match .rest .1 (c .before .sequence .ensures ∙ e)))
 

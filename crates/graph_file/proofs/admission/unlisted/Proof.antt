@@ -7,11 +7,9 @@ use Rattle.graph_file.proofs.admission.unlisted.Reads as reads
 use Rattle.graph_file.proofs.admission.unlisted.Lts as lts
 use Rattle.graph_file.proofs.rows.label_place.Reads as label-place-reads
 
--- src/admission.rt:99:5
 label-place-requires : tie.Need-label-place-requires
 label-place-requires c κs = search needs
 
--- src/admission.rt:96:1
 returns : tie.Need-returns
 returns c = let a = c .before .before .args in rw (c .label-place .ensures) (letter-unlisted (a .x) (a .labels) _)
 

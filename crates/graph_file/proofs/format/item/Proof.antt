@@ -11,16 +11,13 @@ use Rattle.graph_file.proofs.format.item.Tie as tie
 use Rattle.graph_file.proofs.format.item.Reads as reads
 use Rattle.graph_file.proofs.format.item.Lts as lts
 
--- src/format.rt:25:18
 array-read-result : tie.Need-array-read-result
 array-read-result c = search needs
 
--- src/format.rt:22:1
 returns : tie.Need-returns
 unfolding labels pairs transitions accepts scopeCount edges declarations openPairs queries pastLast sections kindNumber code layout layouts formatBytes
 returns c = getD-any formatBytes (c .before .args .o) 0 10 (omega (arith, format-length))
 
--- src/format.rt:22:1
 returns-2 : tie.Need-returns-2
 returns-2 c = sym (List·getD-eq-default formatBytes 10 {n = c .before .args .o} (omega (arith, format-length)))
 

@@ -9,19 +9,15 @@ use Rattle.graph_file.proofs.format.most.Tie as tie
 use Rattle.graph_file.proofs.format.most.Reads as reads
 use Rattle.graph_file.proofs.format.most.Lts as lts
 
--- src/format.rt:53:16
 mul-result : tie.Need-mul-result
 mul-result c = search needs
 
--- src/format.rt:53:16
 array-read-result : tie.Need-array-read-result
 array-read-result c = search needs
 
--- src/format.rt:50:1
 returns : tie.Need-returns
 returns c = most-at (c .before .args .k)
 
--- src/format.rt:50:1
 returns-2 : tie.Need-returns-2
 returns-2 c = sym (List·getD-eq-default mosts 0 {n = c .before .args .k} (omega arith)) ∙ most-at (c .before .args .k)
 

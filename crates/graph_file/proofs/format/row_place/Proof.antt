@@ -9,20 +9,16 @@ use Rattle.graph_file.proofs.format.row_place.Tie as tie
 use Rattle.graph_file.proofs.format.row_place.Reads as reads
 use Rattle.graph_file.proofs.format.row_place.Lts as lts
 
--- src/format.rt:39:16
 mul-result : tie.Need-mul-result
 mul-result c = search needs
 
--- src/format.rt:39:16
 array-read-result : tie.Need-array-read-result
 array-read-result c = search needs
 
--- src/format.rt:36:1
 returns : tie.Need-returns
 unfolding rowPlace
 returns c = getD-any rowPlaces (c .before .args .k) 0 152 (omega arith)
 
--- src/format.rt:36:1
 returns-2 : tie.Need-returns-2
 unfolding rowPlace
 returns-2 c = sym (List·getD-eq-default rowPlaces 152 {n = c .before .args .k} (omega arith))

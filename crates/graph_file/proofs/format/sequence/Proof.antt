@@ -9,15 +9,12 @@ use Rattle.graph_file.proofs.format.sequence.Tie as tie
 use Rattle.graph_file.proofs.format.sequence.Reads as reads
 use Rattle.graph_file.proofs.format.sequence.Lts as lts
 
--- src/format.rt:67:16
 array-read-result : tie.Need-array-read-result
 array-read-result c = search needs
 
--- src/format.rt:64:1
 returns : tie.Need-returns
 returns c = getD-any sequences (c .before .args .k) 0 2 (omega arith) ∙ sequence-at (c .before .args .k)
 
--- src/format.rt:64:1
 returns-2 : tie.Need-returns-2
 returns-2 c = sym (List·getD-eq-default sequences 2 {n = c .before .args .k} (omega arith)) ∙ sequence-at (c .before .args .k)
 

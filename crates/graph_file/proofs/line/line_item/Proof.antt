@@ -10,59 +10,45 @@ use Rattle.graph_file.proofs.line.place_of.Reads as place-of-reads
 use Rattle.graph_file.proofs.line.take_item.Reads as take-item-reads
 use Rattle.graph_file.proofs.line.with_value.Reads as with-value-reads
 
--- src/line.rt:154:9
 place-of-requires : tie.Need-place-of-requires
 place-of-requires c κs = search needs
 
--- src/line.rt:155:9
 take-item-requires : tie.Need-take-item-requires
 take-item-requires c κs = search needs
 
--- src/line.rt:157:26
 enum-told : tie.Need-enum-told
 enum-told c = search needs
 
--- src/line.rt:162:20
 enum-known-t : tie.Need-enum-known-t
 enum-known-t c = search needs
 
--- src/line.rt:167:19
 enum-known-t-2 : tie.Need-enum-known-t-2
 enum-known-t-2 c = search needs
 
--- src/line.rt:170:18
 with-value-requires : tie.Need-with-value-requires
 with-value-requires c κs = search needs
 
--- src/line.rt:172:19
 enum-known-t-3 : tie.Need-enum-known-t-3
 enum-known-t-3 c = search needs
 
--- src/line.rt:175:29
 with-value-requires-2 : tie.Need-with-value-requires-2
 with-value-requires-2 c κs = search needs
 
--- src/line.rt:175:52
 add-with-value : tie.Need-add-with-value
 add-with-value c = omega (arith, c .before .before .before .before .before .place-of .ensures, place-small (c .before .before .before .before .before .before .before .before .args .x))
 
--- src/line.rt:175:18
 with-value-requires-3 : tie.Need-with-value-requires-3
 with-value-requires-3 c κs = search needs
 
--- src/line.rt:144:1
 returns : tie.Need-returns
 returns c = line-nothing _ _ _ _ _ (c .before .before .take-item .result) (c .before .before .take-item .ensures) _ _ (c .enum-told .given .1)
 
--- src/line.rt:144:1
 returns-2 : tie.Need-returns-2
 returns-2 c = line-bare _ _ _ _ _ (c .before .before .before .take-item .result) (c .before .before .before .take-item .ensures) _ (c .before .t .given .1)
 
--- src/line.rt:144:1
 returns-3 : tie.Need-returns-3
 returns-3 c = line-one _ _ _ _ _ (c .before .before .before .before .take-item .result) (c .before .before .before .before .take-item .ensures) _ _ (c .before .before .before .before .before .place-of .result) _ (c .before .before .t2 .given .1) (c .before .before .before .before .before .place-of .ensures) (c .with-value .ensures)
 
--- src/line.rt:144:1
 returns-4 : tie.Need-returns-4
 returns-4 c = line-two _ _ _ _ _ (c .before .before .before .before .before .take-item .result) (c .before .before .before .before .before .take-item .ensures) _ _ _ (c .before .before .before .before .before .before .place-of .result) (c .before .with-value2 .result) _ (c .before .before .before .t3 .given .1) (c .before .before .before .before .before .before .place-of .ensures) (c .before .with-value2 .ensures) (c .with-value3 .ensures)
 

@@ -7,15 +7,12 @@ use Rattle.graph_file.proofs.line.past.Tie as tie
 use Rattle.graph_file.proofs.line.past.Reads as reads
 use Rattle.graph_file.proofs.line.past.Lts as lts
 
--- src/line.rt:41:26
 add-result : tie.Need-add-result
 add-result c = search needs
 
--- src/line.rt:38:1
 returns : tie.Need-returns
 returns c = sym (drop-drop 1 (c .before .args .at) (c .before .args .text .now))
 
--- src/line.rt:38:1
 returns-2 : tie.Need-returns-2
 returns-2 c = rw (drop-of-length-le (c .before .args .text .now) {i = c .before .args .at} (c .if1 .left))
 

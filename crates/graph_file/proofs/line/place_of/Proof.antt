@@ -6,15 +6,12 @@ use Rattle.graph_file.proofs.line.place_of.Tie as tie
 use Rattle.graph_file.proofs.line.place_of.Reads as reads
 use Rattle.graph_file.proofs.line.place_of.Lts as lts
 
--- src/line.rt:129:29
 cast-result : tie.Need-cast-result
 cast-result c = search needs
 
--- src/line.rt:126:1
 returns : tie.Need-returns
 returns c = sym (place-byte (c .before .args .x) (c .if1 .taken))
 
--- src/line.rt:126:1
 returns-2 : tie.Need-returns-2
 returns-2 c = sym (place-field (c .before .args .x) (c .if1 .left))
 

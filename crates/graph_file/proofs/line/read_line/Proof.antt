@@ -22,43 +22,33 @@ Inv-loop table labels o text at row₀ place₀ i₀ x₀ row place i x = (x ≡
 abbrev μ-loop : tie.MeasureT-loop
 μ-loop table labels o text at row₀ place₀ i₀ x₀ row place i x = 152 - i
 
--- src/line.rt:187:9
 item-requires : tie.Need-item-requires Inv-loop μ-loop
 item-requires c κs = search needs
 
--- src/line.rt:188:5
 loop-holds : tie.Need-loop-holds Inv-loop μ-loop
 loop-holds c = (c .item .ensures, refl)
 
--- src/line.rt:189:13
 line-item-requires : tie.Need-line-item-requires Inv-loop μ-loop
 line-item-requires c κs = search needs
 
--- src/line.rt:191:13
 returns : tie.Need-returns Inv-loop μ-loop
 returns c = let l = c .before .before .before .before .loop in line-refused _ (l .i) (l .x) (l .row) _ _ (c .before .before .line-item .result) (l .inv .0) (c .before .before .line-item .ensures) (c .before .before .before .loop-test .taken) (not-true _ (c .if1 .taken)) ∙ l .inv .1
 
--- src/line.rt:195:9
 add-i : tie.Need-add-i Inv-loop μ-loop
 add-i c = let l = c .before .before .before .before .before .loop in let h : l .i < 152 = within-format (l .i) (λ e. c .before .before .before .before .loop-test .taken (l .inv .0 ∙ e)) in omega arith
 
--- src/line.rt:196:9
 item-requires-2 : tie.Need-item-requires-2 Inv-loop μ-loop
 item-requires-2 c κs = search needs
 
--- src/line.rt:188:5
 loop-less : tie.Need-loop-less Inv-loop μ-loop
 loop-less c = let l = c .before .before .before .before .before .before .loop in let h : l .i < 152 = within-format (l .i) (λ e. c .before .before .before .before .before .loop-test .taken (l .inv .0 ∙ e)) in omega arith
 
--- src/line.rt:188:5
 loop-again : tie.Need-loop-again Inv-loop μ-loop
 loop-again c = let l = c .before .before .before .before .before .before .loop in (c .item2 .ensures, line-on _ (l .i) (l .x) (l .row) _ _ (c .before .before .before .before .line-item .result) (l .inv .0) (c .before .before .before .before .line-item .ensures) (c .before .before .before .before .before .loop-test .taken) (not-false _ (c .before .before .if1 .left)) ∙ l .inv .1)
 
--- src/line.rt:198:5
 line-item-requires-2 : tie.Need-line-item-requires-2 Inv-loop μ-loop
 line-item-requires-2 c κs = search needs
 
--- src/line.rt:181:1
 returns-2 : tie.Need-returns-2 Inv-loop μ-loop
 returns-2 c = let l = c .before .before .loop in line-done _ (l .i) (l .x) (l .row) _ _ (c .line-item2 .result) (l .inv .0) (c .before .loop-test .left) (c .line-item2 .ensures) ∙ l .inv .1
 

@@ -8,23 +8,18 @@ use Rattle.graph_file.proofs.line.take_bare.Reads as reads
 use Rattle.graph_file.proofs.line.take_bare.Lts as lts
 use Rattle.text_field.proofs.byte_at.Reads as byte-at-reads
 
--- src/line.rt:107:9
 returns : tie.Need-returns
 returns c = let a = c .before .before .args in bare-none [] (a .x) (a .text .now) (a .at) (c .if1 .taken)
 
--- src/line.rt:109:8
 byte-at-requires : tie.Need-byte-at-requires
 byte-at-requires c κs = search needs
 
--- src/line.rt:110:9
 returns-2 : tie.Need-returns-2
 returns-2 c = let a = c .before .before .before .before .args in bare-other [] (a .x) (a .text .now) (a .at) (c .before .before .if1 .left) (λ e. c .if2 .taken (c .before .byte-at .ensures ∙ e))
 
--- src/line.rt:112:16
 add-t4 : tie.Need-add-t4
 add-t4 c = search needs
 
--- src/line.rt:103:1
 returns-3 : tie.Need-returns-3
 returns-3 c = let a = c .before .before .before .before .args in bare-same [] (a .x) (a .text .now) (a .at) (c .before .before .if1 .left) (sym (c .before .byte-at .ensures) ∙ c .if2 .left)
 

@@ -7,16 +7,13 @@ use Rattle.graph_file.proofs.line.take_byte.Reads as reads
 use Rattle.graph_file.proofs.line.take_byte.Lts as lts
 use Rattle.graph_file.proofs.line.past.Reads as past-reads
 
--- src/line.rt:66:23
 past-requires : tie.Need-past-requires
 past-requires c κs = search needs
 
--- src/line.rt:63:1
 returns : tie.Need-returns
 unfolding took byteTaken
 returns c = rw (c .before .if1 .taken, c .past .ensures)
 
--- src/line.rt:63:1
 returns-2 : tie.Need-returns-2
 unfolding took byteTaken
 returns-2 c = rw (c .if1 .left)

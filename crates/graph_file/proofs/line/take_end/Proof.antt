@@ -10,35 +10,27 @@ use Rattle.graph_file.proofs.line.take_byte.Reads as take-byte-reads
 use Rattle.graph_file.proofs.rows.label_place.Reads as label-place-reads
 use Rattle.text_field.proofs.is_capital.Reads as is-capital-reads
 
--- src/line.rt:75:9
 take-byte-requires : tie.Need-take-byte-requires
 take-byte-requires c κs = search needs
 
--- src/line.rt:75:9
 returns : tie.Need-returns
 returns c = c .take-byte .ensures ∙ sym (end-mark _ _ _ (c .before .if1 .taken))
 
--- src/line.rt:77:13
 label-place-requires : tie.Need-label-place-requires
 label-place-requires c κs = search needs
 
--- src/line.rt:77:13
 cast-n : tie.Need-cast-n
 cast-n c = search needs
 
--- src/line.rt:78:15
 is-capital-requires : tie.Need-is-capital-requires
 is-capital-requires c κs = search needs
 
--- src/line.rt:78:30
 add-take-byte : tie.Need-add-take-byte
 add-take-byte c = search needs
 
--- src/line.rt:78:5
 take-byte-requires-2 : tie.Need-take-byte-requires-2
 take-byte-requires-2 c κs = search needs
 
--- src/line.rt:71:1
 returns-2 : tie.Need-returns-2
 returns-2 c = c .take-byte2 .ensures ∙ rw (c .before .is-capital .ensures, c .before .before .label-place .ensures) (sym (end-letter _ _ _ (c .before .before .before .if1 .left)))
 

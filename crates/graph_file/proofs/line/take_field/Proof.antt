@@ -17,74 +17,57 @@ use Rattle.graph_file.proofs.rows.label_place.Reads as label-place-read
 use Rattle.text_field.proofs.byte_at.Reads as byte-at-reads
 use Rattle.text_field.proofs.is_capital.Reads as is-capital-reads
 
--- src/line.rt:86:9
 take-number-requires : tie.Need-take-number-requires
 take-number-requires c κs = search needs
 
--- src/line.rt:86:9
 returns : tie.Need-returns
 returns c = c .take-number .ensures ∙ sym (field-number _ _ (c .before .before .before .before .args .kind) (c .before .if1 .taken))
 
--- src/line.rt:88:9
 byte-at-requires : tie.Need-byte-at-requires
 byte-at-requires c κs = search needs
 
--- src/line.rt:90:24
 is-capital-requires : tie.Need-is-capital-requires
 is-capital-requires c κs = search needs
 
--- src/line.rt:90:39
 cast-take-byte : tie.Need-cast-take-byte
 cast-take-byte c = search needs
 
--- src/line.rt:90:14
 take-byte-requires : tie.Need-take-byte-requires
 take-byte-requires c κs = search needs
 
--- src/line.rt:92:13
 is-capital-requires-2 : tie.Need-is-capital-requires-2
 is-capital-requires-2 c κs = search needs
 
--- src/line.rt:93:40
 cast-label-place : tie.Need-cast-label-place
 cast-label-place c = search needs
 
--- src/line.rt:93:13
 label-place-requires : tie.Need-label-place-requires
 label-place-requires c κs = search needs
 
--- src/line.rt:93:13
 cast-take-byte-2 : tie.Need-cast-take-byte-2
 cast-take-byte-2 c = search needs
 
--- src/line.rt:91:14
 take-byte-requires-2 : tie.Need-take-byte-requires-2
 take-byte-requires-2 c κs = search needs
 
--- src/line.rt:97:14
 take-end-requires : tie.Need-take-end-requires
 take-end-requires c κs = search needs
 
--- src/line.rt:98:14
 take-name-requires : tie.Need-take-name-requires
 take-name-requires c κs = search needs
 
--- src/line.rt:82:1
 returns-2 : tie.Need-returns-2
 unfolding readField kindOf
 returns-2 c = let a = c .before .before .before .before .before .before .before .args in c .take-byte .ensures ∙ sym (rw (c .before .before .match .keys1, first-at (a .text .now) (a .at), ← c .before .before .before .byte-at .ensures, ← c .before .is-capital .ensures))
 
--- src/line.rt:82:1
 returns-3 : tie.Need-returns-3
 unfolding readField kindOf
 returns-3 c = let a = c .before .before .before .before .before .before .before .before .args in c .take-byte2 .ensures ∙ sym (rw (c .before .before .before .match .keys2, first-at (a .text .now) (a .at), ← c .before .before .before .before .byte-at .ensures, ← c .before .before .is-capital2 .ensures, ← c .before .label-place .ensures))
 
--- src/line.rt:82:1
 returns-4 : tie.Need-returns-4
 unfolding readField kindOf
 returns-4 c = let a = c .before .before .before .before .before .before .args in c .take-end .ensures ∙ sym (rw (c .before .match .keys3, first-at (a .text .now) (a .at), ← c .before .before .byte-at .ensures))
 
--- src/line.rt:82:1
 returns-5 : tie.Need-returns-5
 unfolding readField
 returns-5 c = let a = c .before .before .before .before .before .before .args in let r = c .before .match .rest in c .take-name .ensures ∙ sym (rw (kind-name (a .kind) (omega arith) (omega arith) (omega arith) (omega arith) (r .0 .0 .1) (r .0 .1) (r .1)))

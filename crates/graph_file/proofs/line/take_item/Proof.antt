@@ -8,19 +8,15 @@ use Rattle.graph_file.proofs.line.take_item.Lts as lts
 use Rattle.graph_file.proofs.line.take_bare.Reads as take-bare-reads
 use Rattle.graph_file.proofs.line.take_field.Reads as take-field-reads
 
--- src/line.rt:120:9
 take-bare-requires : tie.Need-take-bare-requires
 take-bare-requires c κs = search needs
 
--- src/line.rt:120:9
 returns : tie.Need-returns
 returns c = c .take-bare .ensures ∙ sym (item-is-byte _ _ _ (c .before .if1 .taken))
 
--- src/line.rt:122:5
 take-field-requires : tie.Need-take-field-requires
 take-field-requires c κs = search needs
 
--- src/line.rt:116:1
 returns-2 : tie.Need-returns-2
 returns-2 c = c .take-field .ensures ∙ sym (item-is-field _ _ _ (c .before .if1 .left))
 

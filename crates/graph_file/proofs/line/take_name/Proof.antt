@@ -9,23 +9,18 @@ use Rattle.graph_file.proofs.line.take_name.Reads as reads
 use Rattle.graph_file.proofs.line.take_name.Lts as lts
 use Rattle.text_field.proofs.read_name.Reads as read-name-reads
 
--- src/line.rt:56:11
 read-name-requires : tie.Need-read-name-requires
 read-name-requires c κs = search needs
 
--- src/line.rt:57:24
 enum-known-high : tie.Need-enum-known-high
 enum-known-high c = search needs
 
--- src/line.rt:58:29
 enum-told : tie.Need-enum-told
 enum-told c = search needs
 
--- src/line.rt:53:1
 returns : tie.Need-returns
 returns c = let a = c .before .before .before .before .before .args in name-took (a .text .now) (a .at) (nameHere (drop (a .at) (a .text .now))) _ _ _ (sym (c .before .before .before .read-name .ensures) ∙ c .before .high .given .1)
 
--- src/line.rt:53:1
 returns-2 : tie.Need-returns-2
 returns-2 c = let a = c .before .before .before .before .args in name-none (a .text .now) (a .at) (nameHere (drop (a .at) (a .text .now))) (sym (c .before .before .read-name .ensures) ∙ c .enum-told .given .1)
 

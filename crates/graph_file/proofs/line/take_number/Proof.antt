@@ -9,23 +9,18 @@ use Rattle.graph_file.proofs.line.take_number.Reads as reads
 use Rattle.graph_file.proofs.line.take_number.Lts as lts
 use Rattle.text_field.proofs.read_number.Reads as read-number-reads
 
--- src/line.rt:47:11
 read-number-requires : tie.Need-read-number-requires
 read-number-requires c κs = search needs
 
--- src/line.rt:48:28
 enum-known-v : tie.Need-enum-known-v
 enum-known-v c = search needs
 
--- src/line.rt:49:33
 enum-told : tie.Need-enum-told
 enum-told c = search needs
 
--- src/line.rt:44:1
 returns : tie.Need-returns
 returns c = let a = c .before .before .before .before .before .args in number-took (a .text .now) (a .at) (numberHere (drop (a .at) (a .text .now))) _ _ (sym (c .before .before .before .read-number .ensures) ∙ c .before .v .given .1)
 
--- src/line.rt:44:1
 returns-2 : tie.Need-returns-2
 returns-2 c = let a = c .before .before .before .before .args in number-none (a .text .now) (a .at) (numberHere (drop (a .at) (a .text .now))) (sym (c .before .before .read-number .ensures) ∙ c .enum-told .given .1)
 

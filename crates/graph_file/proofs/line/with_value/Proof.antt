@@ -7,19 +7,15 @@ use Rattle.graph_file.proofs.line.with_value.Tie as tie
 use Rattle.graph_file.proofs.line.with_value.Reads as reads
 use Rattle.graph_file.proofs.line.with_value.Lts as lts
 
--- src/line.rt:138:9
 mul-out : tie.Need-mul-out
 mul-out c = search needs
 
--- src/line.rt:138:9
 array-write-out : tie.Need-array-write-out
 array-write-out c = search needs
 
--- src/line.rt:133:1
 returns : tie.Need-returns
 returns c = search needs
 
--- src/line.rt:133:1
 returns-2 : tie.Need-returns-2
 returns-2 c = sym (set-out (c .before .args .row) (c .before .args .c) (c .before .args .v) (omega arith))
 

@@ -19,37 +19,29 @@ Inv-loop table labels pairs a b i₀ i = (i ≤ pairs) × (someRow (sameEnds (a)
 abbrev μ-loop : tie.MeasureT-loop
 μ-loop table labels pairs a b i₀ i = pairs - i
 
--- src/order.rt:29:5
 loop-holds : tie.Need-loop-holds Inv-loop μ-loop
 loop-holds c = let a = c .before .args in (omega arith, ap (someRow (sameEnds (a .a) (a .b))) (rows-start (a .table .now) (1 + 6 * a .labels) (a .pairs)))
 
--- src/order.rt:30:28
 pair-at-requires : tie.Need-pair-at-requires Inv-loop μ-loop
 pair-at-requires c κs = search needs
 
--- src/order.rt:30:12
 same-ends-requires : tie.Need-same-ends-requires Inv-loop μ-loop
 same-ends-requires c κs = search needs
 
--- src/order.rt:31:13
 returns : tie.Need-returns Inv-loop μ-loop
 unfolding pairsAt
 returns c = let a = c .before .before .before .before .before .before .args in let l = c .before .before .before .before .loop in sym (sym (l .inv .1) ∙ some-hit (sameEnds (a .a) (a .b)) (a .table .now) (1 + 6 * a .labels) (a .pairs) (l .i) (c .before .before .before .loop-test .taken) (rw (← c .before .before .pair-at .ensures, ← c .before .same-ends .ensures) (c .if1 .taken)))
 
--- src/order.rt:33:9
 add-i : tie.Need-add-i Inv-loop μ-loop
 add-i c = omega arith
 
--- src/order.rt:29:5
 loop-less : tie.Need-loop-less Inv-loop μ-loop
 loop-less c = omega arith
 
--- src/order.rt:29:5
 loop-again : tie.Need-loop-again Inv-loop μ-loop
 unfolding pairsAt
 loop-again c = let a = c .before .before .before .before .before .before .args in let l = c .before .before .before .before .loop in (omega arith, some-miss (sameEnds (a .a) (a .b)) (a .table .now) (1 + 6 * a .labels) (a .pairs) (l .i) (c .before .before .before .loop-test .taken) (rw (← c .before .before .pair-at .ensures, ← c .before .same-ends .ensures) (c .if1 .left)) ∙ l .inv .1)
 
--- src/order.rt:25:1
 returns-2 : tie.Need-returns-2 Inv-loop μ-loop
 unfolding pairsAt
 returns-2 c = let a = c .before .before .before .args in let l = c .before .loop in sym (sym (l .inv .1) ∙ some-none (sameEnds (a .a) (a .b)) (a .table .now) (1 + 6 * a .labels) (a .pairs) (l .i) (c .loop-test .left))

@@ -8,24 +8,19 @@ use Rattle.graph_file.proofs.order.is_fault.Lts as lts
 use Rattle.graph_file.proofs.order.has_gap.Reads as has-gap-reads
 use Rattle.graph_file.proofs.rows.value.Reads as value-reads
 
--- src/order.rt:63:9
 value-requires : tie.Need-value-requires
 value-requires c κs = search needs
 
--- src/order.rt:64:9
 value-requires-2 : tie.Need-value-requires-2
 value-requires-2 c κs = search needs
 
--- src/order.rt:65:15
 has-gap-requires : tie.Need-has-gap-requires
 has-gap-requires c κs = search needs
 
--- src/order.rt:60:1
 returns : tie.Need-returns
 unfolding pairFault
 returns c = rw (← c .before .before .value .ensures, ← c .before .value2 .ensures, eq-eqb _ _ (c .if1 .taken))
 
--- src/order.rt:60:1
 returns-2 : tie.Need-returns-2
 unfolding pairFault
 returns-2 c = rw (← c .before .before .before .value .ensures, ← c .before .before .value2 .ensures, ne-eqb _ _ (c .before .if1 .left)) (c .has-gap .ensures)

@@ -8,24 +8,19 @@ use Rattle.graph_file.proofs.order.is_gap.Lts as lts
 use Rattle.graph_file.proofs.order.has_pair.Reads as has-pair-reads
 use Rattle.graph_file.proofs.rows.value.Reads as value-reads
 
--- src/order.rt:42:5
 value-requires : tie.Need-value-requires
 value-requires c κs = search needs
 
--- src/order.rt:42:63
 value-requires-2 : tie.Need-value-requires-2
 value-requires-2 c κs = search needs
 
--- src/order.rt:42:29
 has-pair-requires : tie.Need-has-pair-requires
 has-pair-requires c κs = search needs
 
--- src/order.rt:39:1
 returns : tie.Need-returns
 unfolding gap
 returns c = rw (← c .before .before .before .value .ensures, eq-eqb _ _ (c .before .before .if1 .taken), ← c .before .value2 .ensures, ← c .has-pair .ensures)
 
--- src/order.rt:39:1
 returns-2 : tie.Need-returns-2
 unfolding gap
 returns-2 c = rw (← c .before .value .ensures, ne-eqb _ _ (c .if1 .left))

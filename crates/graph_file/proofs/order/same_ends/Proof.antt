@@ -7,20 +7,16 @@ use Rattle.graph_file.proofs.order.same_ends.Reads as reads
 use Rattle.graph_file.proofs.order.same_ends.Lts as lts
 use Rattle.graph_file.proofs.rows.value.Reads as value-reads
 
--- src/order.rt:21:5
 value-requires : tie.Need-value-requires
 value-requires c κs = search needs
 
--- src/order.rt:21:28
 value-requires-2 : tie.Need-value-requires-2
 value-requires-2 c κs = search needs
 
--- src/order.rt:18:1
 returns : tie.Need-returns
 unfolding sameEnds
 returns c = rw (← c .before .before .value .ensures, ← c .value2 .ensures, eq-eqb _ _ (c .before .if1 .taken))
 
--- src/order.rt:18:1
 returns-2 : tie.Need-returns-2
 unfolding sameEnds
 returns-2 c = rw (← c .before .value .ensures, ne-eqb _ _ (c .if1 .left))

@@ -8,11 +8,9 @@ use Rattle.graph_file.proofs.reader.clipped.Tie as tie
 use Rattle.graph_file.proofs.reader.clipped.Reads as reads
 use Rattle.graph_file.proofs.reader.clipped.Lts as lts
 
--- src/reader.rt:166:1
 returns : tie.Need-returns
 returns c = search needs
 
--- src/reader.rt:166:1
 returns-2 : tie.Need-returns-2
 returns-2 c = let a = c .before .args in (drop-length (a .part .now) ∙ sym (drop-of-length-le (a .part .now) {i = a .at} (c .if1 .left)), omega arith)
 

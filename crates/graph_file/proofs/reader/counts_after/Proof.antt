@@ -5,31 +5,24 @@ use Rattle.graph_file.proofs.reader.counts_after.Tie as tie
 use Rattle.graph_file.proofs.reader.counts_after.Reads as reads
 use Rattle.graph_file.proofs.reader.counts_after.Lts as lts
 
--- src/reader.rt:54:16
 add-rows : tie.Need-add-rows
 add-rows c = search needs
 
--- src/reader.rt:57:21
 add-t6 : tie.Need-add-t6
 add-t6 c = search needs
 
--- src/reader.rt:56:9
 returns : tie.Need-returns
 returns c = after-label _ _ _ (c .before .if1 .taken)
 
--- src/reader.rt:66:20
 add-t7 : tie.Need-add-t7
 add-t7 c = search needs
 
--- src/reader.rt:64:9
 returns-2 : tie.Need-returns-2
 returns-2 c = after-pair _ _ _ (c .before .if2 .taken)
 
--- src/reader.rt:72:9
 returns-3 : tie.Need-returns-3
 returns-3 c = after-count _ _ _ (c .if3 .taken)
 
--- src/reader.rt:50:1
 returns-4 : tie.Need-returns-4
 returns-4 c = after-other _ _ _ (c .before .before .if1 .left) (c .before .if2 .left) (c .if3 .left)
 

@@ -18,60 +18,47 @@ use Rattle.graph_file.proofs.admission.admitted.Reads as admitted-reads
 use Rattle.graph_file.proofs.format.row_place.Reads as row-place-reads
 use Rattle.graph_file.proofs.line.read_line.Reads as read-line-reads
 use Rattle.graph_file.proofs.reader.counts_after.Reads as counts-after-reads
-use Rattle.graph_file.proofs.reader.put_row.Reads as put-row-reads
+use Rattle.graph_file.proofs.cells.put_row.Reads as put-row-reads
 use Rattle.graph_file.proofs.rows.value.Reads as value-reads
 
--- src/reader.rt:93:40
 row-place-requires : tie.Need-row-place-requires
 row-place-requires c κs = search needs
 
--- src/reader.rt:93:9
 read-line-requires : tie.Need-read-line-requires
 read-line-requires c κs = search needs
 
--- src/reader.rt:95:9
 same-length : tie.Need-same-length
 same-length c = search needs
 
--- src/reader.rt:95:9
 returns : tie.Need-returns
 unfolding partOutcome refusedOr
 returns c = let a = c .before .before .before .before .before .before .before .args in (one-refused (a .k) (a .n) (a .table .now) (a .part .now) (a .at) (a .c) (c .before .before .read-line .result) (c .before .before .read-line .ensures ∙ ap (λ (o : ℕ). readItems (lettersAt (a .c .labels) (drop 1 (a .table .now))) (itemsAt o) blank (drop (a .at) (a .part .now))) (c .before .before .before .row-place .ensures)) (not-true _ (c .if1 .taken)), λ z. absurd (omega arith))
 
--- src/reader.rt:104:5
 put-row-requires : tie.Need-put-row-requires
 put-row-requires c κs = search needs
 
--- src/reader.rt:105:9
 admitted-requires : tie.Need-admitted-requires
-admitted-requires c κs = search needs
+admitted-requires c κs = c .before .before .before .before .before .before .before .before .before .before .before .before .before .pre .3
 
--- src/reader.rt:107:9
 same-length-2 : tie.Need-same-length-2
 same-length-2 c = search needs
 
--- src/reader.rt:107:9
 returns-2 : tie.Need-returns-2
 unfolding partOutcome
 returns-2 c = let a = c .before .before .before .before .before .before .before .before .before .before .before .before .before .before .before .args in let q = c .before .before .before .before .before .before .before .before .before .before .before .before .before .before .before .pre in let l = c .before .before .before .before .before .before .before .before .before .before .read-line .result in let w : length (l .row) ≡ 5 = line-length _ _ blank _ (a .part .now) l (c .before .before .before .before .before .before .before .before .before .before .read-line .ensures) (not-false _ (c .before .before .before .before .before .before .before .before .if1 .left)) in (one-not (a .k) (a .n) (a .table .now) (a .part .now) (a .at) (a .c) l (c .before .before .before .before .before .before .before .before .before .before .read-line .ensures ∙ ap (λ (o : ℕ). readItems (lettersAt (a .c .labels) (drop 1 (a .table .now))) (itemsAt o) blank (drop (a .at) (a .part .now))) (c .before .before .before .before .before .before .before .before .before .before .before .row-place .ensures)) (q .2) (not-false _ (c .before .before .before .before .before .before .before .before .if1 .left)) (q .0) w (c .before .before .before .before .before .put-row .last .0) (put-grown _ _ _ _ _ _ (q .0) w (c .before .before .before .before .before .put-row .ensures)) (c .before .admitted .result) _ (c .before .admitted .ensures) (c .if2 .taken), λ z. absurd (c .if2 .taken z))
 
--- src/reader.rt:114:36
 value-requires : tie.Need-value-requires
 value-requires c κs = search needs
 
--- src/reader.rt:114:9
 counts-after-requires : tie.Need-counts-after-requires
 counts-after-requires c κs = let q = c .before .before .before .before .before .before .before .before .before .before .before .before .before .before .before .before .pre in omega (arith, q .1, q .2 .within, q .2 .rowed)
 
--- src/reader.rt:118:16
-add-t14 : tie.Need-add-t14
-add-t14 c = search needs
+add-t15 : tie.Need-add-t15
+add-t15 c = search needs
 
--- src/reader.rt:88:1
 same-length-3 : tie.Need-same-length-3
 same-length-3 c = search needs
 
--- src/reader.rt:88:1
 returns-3 : tie.Need-returns-3
 unfolding partOutcome countsAfter
 returns-3 c = let a = c .before .before .before .before .before .before .before .before .before .before .before .before .before .before .before .before .before .args in let q = c .before .before .before .before .before .before .before .before .before .before .before .before .before .before .before .before .before .pre in let l = c .before .before .before .before .before .before .before .before .before .before .before .before .read-line .result in let w : length (l .row) ≡ 5 = line-length _ _ blank _ (a .part .now) l (c .before .before .before .before .before .before .before .before .before .before .before .before .read-line .ensures) (not-false _ (c .before .before .before .before .before .before .before .before .before .before .if1 .left)) in let f : c .counts-after .result ≡ countsAfter (a .k) (a .c) (value (l .row) 0) = c .counts-after .ensures ∙ ap (countsAfter (a .k) (a .c)) (c .before .value .ensures) in (rw f (one-taken (a .k) (a .n) (a .table .now) (a .part .now) (a .at) (a .c) l (c .before .before .before .before .before .before .before .before .before .before .before .before .read-line .ensures ∙ ap (λ (o : ℕ). readItems (lettersAt (a .c .labels) (drop 1 (a .table .now))) (itemsAt o) blank (drop (a .at) (a .part .now))) (c .before .before .before .before .before .before .before .before .before .before .before .before .before .row-place .ensures)) (q .2) (not-false _ (c .before .before .before .before .before .before .before .before .before .before .if1 .left)) (q .0) w (c .before .before .before .before .before .before .before .put-row .last .0) (put-grown _ _ _ _ _ _ (q .0) w (c .before .before .before .before .before .before .before .put-row .ensures)) (c .before .before .before .admitted .result) (c .before .before .before .admitted .ensures) (c .before .before .if2 .left)), λ z. rw f (record { room = one-room (a .k) (a .n) (a .table .now) (a .part .now) (a .at) (a .c) l (c .before .before .before .before .before .before .before .before .before .before .before .before .read-line .ensures ∙ ap (λ (o : ℕ). readItems (lettersAt (a .c .labels) (drop 1 (a .table .now))) (itemsAt o) blank (drop (a .at) (a .part .now))) (c .before .before .before .before .before .before .before .before .before .before .before .before .before .row-place .ensures)) (q .2) (not-false _ (c .before .before .before .before .before .before .before .before .before .before .if1 .left)) (q .0) w (c .before .before .before .before .before .before .before .put-row .last .0) (put-grown _ _ _ _ _ _ (q .0) w (c .before .before .before .before .before .before .before .put-row .ensures)) (c .before .before .before .admitted .result) (c .before .before .before .admitted .ensures) (c .before .before .if2 .left); longer = refl; more = refl; placed = placed-after (a .k) (a .n) (a .c) (value (l .row) 0) (q .2) }))
@@ -90,6 +77,6 @@ read-row-spec =
     returns-2
     value-requires
     counts-after-requires
-    add-t14
+    add-t15
     same-length-3
     returns-3)

@@ -1,4 +1,4 @@
-use Rattle.graph_file.specs.Outcome.{done}
+use Rattle.text_field.specs.Outcome.{done}
 use Prim.Native.Nat.{ℕ, suc, _+_, _*_, _-_, _<_, _≤_}
 use mathlib.Core.Path.{_≡_, refl, sym, ap, _∙_}
 use mathlib.Core.List.{List, [], _∷_}
@@ -24,69 +24,53 @@ Inv-loop text table₀ k₀ at₀ n₀ c₀ table k at n c = (k ≤ 9) × (at �
 abbrev μ-loop : tie.MeasureT-loop
 μ-loop text table₀ k₀ at₀ n₀ c₀ table k at n c = 9 - k
 
--- src/reader.rt:220:5
 slice-write-table : tie.Need-slice-write-table Inv-loop μ-loop
 slice-write-table c = omega (arith, c .before .before .pre)
 
--- src/reader.rt:230:5
 loop-holds : tie.Need-loop-holds Inv-loop μ-loop
 unfolding roomBefore
 loop-holds c = let a = c .before .before .args in let q = c .before .before .pre in (omega arith, omega arith, placed-start, omega arith, length-set (a .table .now) 0 0 ∙ q, ap (throughSections reading 9 0) (start-stage (a .table .now) (a .text .now) (omega (arith, q))))
 
--- src/reader.rt:231:33
 sub-read-section : tie.Need-sub-read-section Inv-loop μ-loop
 sub-read-section c = omega arith
 
--- src/reader.rt:231:33
 part-read-section-start : tie.Need-part-read-section-start Inv-loop μ-loop
 part-read-section-start c = c .before .loop .inv .1
 
--- src/reader.rt:231:33
 part-read-section-end : tie.Need-part-read-section-end Inv-loop μ-loop
 part-read-section-end c = search needs
 
--- src/reader.rt:231:13
 read-section-requires : tie.Need-read-section-requires Inv-loop μ-loop
 read-section-requires c κs = let l = c .before .before .before .loop in let h = room-below (l .k + 1) (omega arith) in let m = room-next (l .k) in (omega (arith, l .inv .3, l .inv .4, h, m), omega (arith, l .inv .3, h, m), l .inv .2)
 
--- src/reader.rt:233:13
 same-length : tie.Need-same-length Inv-loop μ-loop
 same-length c = c .before .before .before .before .read-section .kept .1 .1 .0 ∙ c .before .before .before .before .before .before .before .before .loop .inv .4 ∙ sym (c .before .before .before .before .before .before .before .before .before .before .before .pre)
 
--- src/reader.rt:233:13
 returns : tie.Need-returns Inv-loop μ-loop
 returns c = let a = c .before .before .before .before .before .before .before .before .before .before .before .args in let l = c .before .before .before .before .before .before .before .before .loop in let r = c .before .before .before .before .read-section .result in let u = c .before .before .before .before .read-section .last .1 .1 .0 in (part-refused r u (a .text .now) (c .if1 .taken) ∙ sym (sections-refused reading (l .k) (9 - (l .k + 1)) (stageAt (l .table) (l .n) (l .c) (drop (l .at) (a .text .now))) (r .refusal) (sym (section-whole (l .k) (l .n) (l .table) u (l .c) r (a .text .now) (l .at) (c .before .before .before .before .read-section .ensures .0)) ∙ part-refused r u (drop (l .at) (a .text .now)) (c .if1 .taken))) ∙ sym (sections-more reading (l .k) (stageAt (l .table) (l .n) (l .c) (drop (l .at) (a .text .now))) (c .before .before .before .before .before .before .before .loop-test .taken)) ∙ l .inv .5, λ z. absurd (c .if1 .taken z))
 
--- src/reader.rt:235:9
 add-at : tie.Need-add-at Inv-loop μ-loop
 add-at c = let t = c .before .before .before .before .before .read-section .ensures .1 (c .before .if1 .left) in omega (arith, t .inside, part-length (c .before .before .before .before .before .before .before .before .before .before .before .before .args .text .now) (c .before .before .before .before .before .before .before .before .before .loop .at), c .before .before .before .before .before .before .before .before .before .loop .inv .1, c .before .before .before .before .before .before .before .before .before .before .before .before)
 
--- src/reader.rt:238:9
 add-k : tie.Need-add-k Inv-loop μ-loop
 add-k c = omega arith
 
--- src/reader.rt:230:5
 loop-less : tie.Need-loop-less Inv-loop μ-loop
 loop-less c = omega arith
 
--- src/reader.rt:230:5
 loop-again : tie.Need-loop-again Inv-loop μ-loop
 loop-again c = let a = c .before .before .before .before .before .before .before .before .before .before .before .before .before .args in let l = c .before .before .before .before .before .before .before .before .before .before .loop in let r = c .before .before .before .before .before .before .read-section .result in let u = c .before .before .before .before .before .before .read-section .last .1 .1 .0 in let z = c .before .before .if1 .left in let t = c .before .before .before .before .before .before .read-section .ensures .1 z in (omega arith, omega (arith, t .inside, part-length (a .text .now) (l .at), l .inv .1), placed-next (l .k) (r .cells) (r .counts) (t .rows .placed), omega (arith, room-next (l .k), t .rows .longer, t .rows .most, l .inv .3), c .before .before .before .before .before .before .read-section .kept .1 .1 .0 ∙ l .inv .4, sections-next reading (l .k) (9 - (l .k + 1)) (stageAt (l .table) (l .n) (l .c) (drop (l .at) (a .text .now))) (stageAt u (r .cells) (r .counts) (drop (l .at + r .next) (a .text .now))) (sym (section-whole (l .k) (l .n) (l .table) u (l .c) r (a .text .now) (l .at) (c .before .before .before .before .before .before .read-section .ensures .0)) ∙ part-done r u (drop (l .at) (a .text .now)) z ∙ ap done (stage-part u (r .cells) (r .counts) (a .text .now) (l .at) (r .next))) ∙ sym (sections-more reading (l .k) (stageAt (l .table) (l .n) (l .c) (drop (l .at) (a .text .now))) (c .before .before .before .before .before .before .before .before .before .loop-test .taken)) ∙ l .inv .5)
 
--- src/reader.rt:241:9
 same-length-2 : tie.Need-same-length-2 Inv-loop μ-loop
 same-length-2 c = c .before .before .loop .inv .4 ∙ sym (c .before .before .before .before .before .pre)
 
--- src/reader.rt:241:9
 returns-2 : tie.Need-returns-2 Inv-loop μ-loop
 unfolding partOutcome refusedOr stageAt
 returns-2 c = let a = c .before .before .before .before .before .args in let l = c .before .before .loop in (sym (sections-left reading (l .k) (stageAt (l .table) (l .n) (l .c) (drop (l .at) (a .text .now))) (c .before .loop-test .left) (getD (a .text .now) (l .at) 0) (drop (suc (l .at)) (a .text .now)) (drop-cons (a .text .now) (l .at) 0 (c .if2 .taken))) ∙ l .inv .5, λ z. absurd (omega arith))
 
--- src/reader.rt:215:1
 same-length-3 : tie.Need-same-length-3 Inv-loop μ-loop
 same-length-3 c = c .before .before .loop .inv .4 ∙ sym (c .before .before .before .before .before .pre)
 
--- src/reader.rt:215:1
 returns-3 : tie.Need-returns-3 Inv-loop μ-loop
 unfolding stageAt
 returns-3 c = let a = c .before .before .before .before .before .args in let l = c .before .before .loop in (part-done _ _ (a .text .now) refl ∙ sym (sections-over reading (l .k) (stageAt (l .table) (l .n) (l .c) (drop (l .at) (a .text .now))) (c .before .loop-test .left) (drop-of-length-le (a .text .now) {i = l .at} (c .if2 .left))) ∙ l .inv .5, λ z. omega (arith, l .inv .3, l .inv .0, room-below (l .k) (l .inv .0)))

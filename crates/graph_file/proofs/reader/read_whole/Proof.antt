@@ -10,41 +10,32 @@ use Rattle.graph_file.proofs.reader.read_whole.Lts as lts
 use Rattle.graph_file.proofs.order.order_fault.Reads as order-fault-reads
 use Rattle.graph_file.proofs.reader.read_sections.Reads as read-sections-reads
 
--- src/reader.rt:270:9
 returns : tie.Need-returns
 unfolding partOutcome refusedOr
 returns c = (whole-long (c .before .before .before .args .text .now) (c .if1 .taken), λ z. absurd (omega arith))
 
--- src/reader.rt:277:9
 read-sections-requires : tie.Need-read-sections-requires
 read-sections-requires c κs = search needs
 
--- src/reader.rt:279:9
 same-length : tie.Need-same-length
 same-length c = search needs
 
--- src/reader.rt:279:9
 returns-2 : tie.Need-returns-2
 returns-2 c = let a = c .before .before .before .before .before .before .before .before .before .args in (whole-refused (a .text .now) (c .before .before .before .before .read-sections .last .1 .0) (c .before .before .before .before .before .before .if1 .left) (c .before .before .before .before .read-sections .result) (c .before .before .before .before .read-sections .ensures .0) (c .if2 .taken), λ z. absurd (c .if2 .taken z))
 
--- src/reader.rt:282:8
 order-fault-requires : tie.Need-order-fault-requires
 order-fault-requires c κs = search needs
 
--- src/reader.rt:283:9
 same-length-2 : tie.Need-same-length-2
 same-length-2 c = search needs
 
--- src/reader.rt:283:9
 returns-3 : tie.Need-returns-3
 unfolding partOutcome refusedOr
 returns-3 c = let a = c .before .before .before .before .before .before .before .before .before .before .before .before .before .args in (whole-fault (a .text .now) (c .before .before .before .before .before .before .before .before .read-sections .last .1 .0) (c .before .before .before .before .before .before .before .before .before .before .if1 .left) (c .before .before .before .before .before .before .before .before .read-sections .result) (c .before .before .before .before .before .before .before .before .read-sections .ensures .0) (c .before .before .before .before .if2 .left) (sym (c .before .order-fault .ensures) ∙ c .if3 .taken), λ z. absurd (omega arith))
 
--- src/reader.rt:258:1
 same-length-3 : tie.Need-same-length-3
 same-length-3 c = search needs
 
--- src/reader.rt:258:1
 returns-4 : tie.Need-returns-4
 returns-4 c = let a = c .before .before .before .before .before .before .before .before .before .before .before .before .before .args in (whole-done (a .text .now) (c .before .before .before .before .before .before .before .before .read-sections .last .1 .0) (c .before .before .before .before .before .before .before .before .before .before .if1 .left) (c .before .before .before .before .before .before .before .before .read-sections .result) (c .before .before .before .before .before .before .before .before .read-sections .ensures .0) (c .before .before .before .before .if2 .left) (sym (c .before .order-fault .ensures) ∙ c .if3 .left), c .before .before .before .before .before .before .before .before .read-sections .ensures .1)
 

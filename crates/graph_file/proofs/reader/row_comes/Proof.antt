@@ -8,19 +8,15 @@ use Rattle.graph_file.proofs.reader.row_comes.Lts as lts
 use Rattle.text_field.proofs.byte_at.Reads as byte-at-reads
 use Rattle.text_field.proofs.is_lower.Reads as is-lower-reads
 
--- src/reader.rt:130:9
 returns : tie.Need-returns
 returns c = follows-none _ _ (c .if1 .taken)
 
--- src/reader.rt:132:15
 byte-at-requires : tie.Need-byte-at-requires
 byte-at-requires c κs = search needs
 
--- src/reader.rt:132:6
 is-lower-requires : tie.Need-is-lower-requires
 is-lower-requires c κs = search needs
 
--- src/reader.rt:126:1
 returns-2 : tie.Need-returns-2
 returns-2 c = rw (c .is-lower .ensures, c .before .byte-at .ensures) (follows-byte _ _ (c .before .before .if1 .left))
 

@@ -18,47 +18,36 @@ Inv-loop table labels x i₀ i = (i ≤ labels) × (i + place x (lettersAt (labe
 abbrev μ-loop : tie.MeasureT-loop
 μ-loop table labels x i₀ i = labels - i
 
--- src/rows.rt:45:5
 loop-holds : tie.Need-loop-holds Inv-loop μ-loop
 loop-holds c = let a = c .before .args in (omega arith, letter-start (a .x) (a .table .now) (a .labels))
 
--- src/rows.rt:46:33
 cast-cell : tie.Need-cast-cell Inv-loop μ-loop
 cast-cell c = omega arith
 
--- src/rows.rt:46:28
 mul-cell : tie.Need-mul-cell Inv-loop μ-loop
 mul-cell c = omega arith
 
--- src/rows.rt:46:24
 add-cell : tie.Need-add-cell Inv-loop μ-loop
 add-cell c = omega arith
 
--- src/rows.rt:46:24
 add-cell-2 : tie.Need-add-cell-2 Inv-loop μ-loop
 add-cell-2 c = omega arith
 
--- src/rows.rt:46:12
 cell-requires : tie.Need-cell-requires Inv-loop μ-loop
 cell-requires c κs = search needs
 
--- src/rows.rt:47:13
 returns : tie.Need-returns Inv-loop μ-loop
 returns c = let l = c .before .before .before .loop in let h = letter-hit (c .before .before .before .before .before .args .x) (c .before .before .before .before .before .args .table .now) (c .before .before .before .before .before .args .labels) (l .i) (c .before .before .loop-test .taken) (sym (c .before .cell .ensures) ∙ c .if1 .taken) in omega (arith, l .inv .1, h)
 
--- src/rows.rt:49:9
 add-i : tie.Need-add-i Inv-loop μ-loop
 add-i c = omega arith
 
--- src/rows.rt:45:5
 loop-less : tie.Need-loop-less Inv-loop μ-loop
 loop-less c = omega arith
 
--- src/rows.rt:45:5
 loop-again : tie.Need-loop-again Inv-loop μ-loop
 loop-again c = let l = c .before .before .before .loop in let h = letter-miss (c .before .before .before .before .before .args .x) (c .before .before .before .before .before .args .table .now) (c .before .before .before .before .before .args .labels) (l .i) (c .before .before .loop-test .taken) (λ e. c .if1 .left (c .before .cell .ensures ∙ e)) in (omega arith, omega (arith, l .inv .1, h))
 
--- src/rows.rt:41:1
 returns-2 : tie.Need-returns-2 Inv-loop μ-loop
 returns-2 c = let l = c .before .loop in let h = letter-none (c .before .before .before .args .x) (c .before .before .before .args .table .now) (c .before .before .before .args .labels) (l .i) (c .loop-test .left) in omega (arith, l .inv .1, h)
 

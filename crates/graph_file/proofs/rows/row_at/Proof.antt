@@ -7,51 +7,39 @@ use Rattle.graph_file.proofs.rows.row_at.Reads as reads
 use Rattle.graph_file.proofs.rows.row_at.Lts as lts
 use Rattle.text_field.proofs.cell.Reads as cell-reads
 
--- src/rows.rt:22:9
 returns : tie.Need-returns
 returns c = sym (row-none (c .before .before .args .table .now) (c .before .before .args .p) (c .if1 .taken))
 
--- src/rows.rt:24:25
 add-cell : tie.Need-add-cell
 add-cell c = search needs
 
--- src/rows.rt:24:9
 cell-requires : tie.Need-cell-requires
 cell-requires c κs = search needs
 
--- src/rows.rt:25:25
 add-cell-2 : tie.Need-add-cell-2
 add-cell-2 c = search needs
 
--- src/rows.rt:25:9
 cell-requires-2 : tie.Need-cell-requires-2
 cell-requires-2 c κs = search needs
 
--- src/rows.rt:26:25
 add-cell-3 : tie.Need-add-cell-3
 add-cell-3 c = search needs
 
--- src/rows.rt:26:9
 cell-requires-3 : tie.Need-cell-requires-3
 cell-requires-3 c κs = search needs
 
--- src/rows.rt:27:25
 add-cell-4 : tie.Need-add-cell-4
 add-cell-4 c = search needs
 
--- src/rows.rt:27:9
 cell-requires-4 : tie.Need-cell-requires-4
 cell-requires-4 c κs = search needs
 
--- src/rows.rt:28:25
 add-cell-5 : tie.Need-add-cell-5
 add-cell-5 c = search needs
 
--- src/rows.rt:28:9
 cell-requires-5 : tie.Need-cell-requires-5
 cell-requires-5 c κs = search needs
 
--- src/rows.rt:18:1
 returns-2 : tie.Need-returns-2
 returns-2 c = cc (row-cells (c .before .before .before .before .before .before .before .args .table .now) (c .before .before .before .before .before .before .before .args .p))
 

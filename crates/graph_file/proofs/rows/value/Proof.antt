@@ -8,19 +8,15 @@ use Rattle.graph_file.proofs.rows.value.Tie as tie
 use Rattle.graph_file.proofs.rows.value.Reads as reads
 use Rattle.graph_file.proofs.rows.value.Lts as lts
 
--- src/rows.rt:14:16
 mul-result : tie.Need-mul-result
 mul-result c = search needs
 
--- src/rows.rt:14:16
 array-read-result : tie.Need-array-read-result
 array-read-result c = search needs
 
--- src/rows.rt:11:1
 returns : tie.Need-returns
 returns c = search needs
 
--- src/rows.rt:11:1
 returns-2 : tie.Need-returns-2
 returns-2 c = sym (List·getD-eq-default (c .before .args .t1) 0 {n = c .before .args .c} (omega arith))
 

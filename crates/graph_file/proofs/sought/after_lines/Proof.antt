@@ -21,35 +21,27 @@ Inv-loop text lines left₀ i₀ left i = (i ≤ length text) × (afterLines lef
 abbrev μ-loop : tie.MeasureT-loop
 μ-loop text lines left₀ i₀ left i = length text - i
 
--- src/sought.rt:49:5
 loop-holds : tie.Need-loop-holds Inv-loop μ-loop
 loop-holds c = (omega arith, refl)
 
--- src/sought.rt:51:13
 returns : tie.Need-returns Inv-loop μ-loop
 returns c = after-stop (c .before .before .loop .left) _ _ (c .if1 .taken) (c .before .before .loop .inv .1)
 
--- src/sought.rt:53:33
 shared-slice-read-lines-left : tie.Need-shared-slice-read-lines-left Inv-loop μ-loop
 shared-slice-read-lines-left c = search needs
 
--- src/sought.rt:53:9
 lines-left-requires : tie.Need-lines-left-requires Inv-loop μ-loop
 lines-left-requires c κs = search needs
 
--- src/sought.rt:54:9
 add-i : tie.Need-add-i Inv-loop μ-loop
 add-i c = search needs
 
--- src/sought.rt:49:5
 loop-less : tie.Need-loop-less Inv-loop μ-loop
 loop-less c = search needs
 
--- src/sought.rt:49:5
 loop-again : tie.Need-loop-again Inv-loop μ-loop
 loop-again c = let t = c .before .before .before .before .before .before .args .text .now in let i = c .before .before .before .before .loop .i in let h : i < length t = omega arith in (omega arith, after-next (c .before .before .before .before .loop .left) (c .lines-left .result) t i _ h (c .before .before .if1 .left) (c .lines-left .ensures) (c .before .before .before .before .loop .inv .1))
 
--- src/sought.rt:44:1
 returns-2 : tie.Need-returns-2 Inv-loop μ-loop
 returns-2 c = let t = c .before .before .before .args .text .now in let i = c .before .loop .i in let h : length t ≤ i = omega arith in after-done (c .before .loop .left) t i _ h (c .before .loop .inv .1)
 

@@ -4,11 +4,9 @@ use Rattle.graph_file.proofs.sought.ends_line.Tie as tie
 use Rattle.graph_file.proofs.sought.ends_line.Reads as reads
 use Rattle.graph_file.proofs.sought.ends_line.Lts as lts
 
--- src/sought.rt:16:1
 returns : tie.Need-returns
 returns c = count-end _ (c .if1 .taken)
 
--- src/sought.rt:16:1
 returns-2 : tie.Need-returns-2
 returns-2 c = count-other _ (c .if1 .left)
 

@@ -22,35 +22,27 @@ Inv-loop text n₀ i₀ n i = (i ≤ length text) × (n ≤ i) × (n + lineCount
 abbrev μ-loop : tie.MeasureT-loop
 μ-loop text n₀ i₀ n i = length text - i
 
--- src/sought.rt:28:5
 loop-holds : tie.Need-loop-holds Inv-loop μ-loop
 loop-holds c = search needs
 
--- src/sought.rt:29:24
 shared-slice-read-ends-line : tie.Need-shared-slice-read-ends-line Inv-loop μ-loop
 shared-slice-read-ends-line c = search needs
 
--- src/sought.rt:29:14
 ends-line-requires : tie.Need-ends-line-requires Inv-loop μ-loop
 ends-line-requires c κs = search needs
 
--- src/sought.rt:29:9
 add-n : tie.Need-add-n Inv-loop μ-loop
 add-n c = let t = c .before .before .before .before .before .args .text .now in let i = c .before .before .before .loop .i in omega (arith, c .ends-line .ensures, count-small (getD t i 0))
 
--- src/sought.rt:30:9
 add-i : tie.Need-add-i Inv-loop μ-loop
 add-i c = search needs
 
--- src/sought.rt:28:5
 loop-less : tie.Need-loop-less Inv-loop μ-loop
 loop-less c = search needs
 
--- src/sought.rt:28:5
 loop-again : tie.Need-loop-again Inv-loop μ-loop
 loop-again c = let t = c .before .before .before .before .before .args .text .now in let i = c .before .before .before .loop .i in let h : i < length t = omega arith in (omega arith, omega (arith, c .ends-line .ensures, count-small (getD t i 0)), omega (arith, c .ends-line .ensures, count-next t i h))
 
--- src/sought.rt:23:1
 returns : tie.Need-returns Inv-loop μ-loop
 returns c = let t = c .before .before .before .args .text .now in let i = c .before .loop .i in let h : length t ≤ i = omega arith in omega (arith, count-done t i h)
 

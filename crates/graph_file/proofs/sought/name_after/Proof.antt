@@ -8,19 +8,15 @@ use Rattle.graph_file.proofs.sought.after_lines.Reads as after-lines-re
 use Rattle.graph_file.proofs.sought.name_start.Reads as name-start-reads
 use Rattle.graph_file.proofs.sought.name_stop.Reads as name-stop-reads
 
--- src/sought.rt:95:33
 after-lines-requires : tie.Need-after-lines-requires
 after-lines-requires c κs = search needs
 
--- src/sought.rt:95:9
 name-start-requires : tie.Need-name-start-requires
 name-start-requires c κs = search needs
 
--- src/sought.rt:96:9
 name-stop-requires : tie.Need-name-stop-requires
 name-stop-requires c κs = search needs
 
--- src/sought.rt:92:1
 returns : tie.Need-returns
 returns c = same-place _ (c .before .name-start .result) (c .name-stop .result) (place-after (c .before .before .before .before .args .text .now) (c .before .before .before .before .args .lines) (c .before .before .after-lines .result) (c .before .name-start .result) (c .name-stop .result) (c .before .before .after-lines .ensures) (c .before .name-start .ensures) (c .name-stop .ensures))
 

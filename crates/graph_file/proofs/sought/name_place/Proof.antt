@@ -13,47 +13,36 @@ use Rattle.graph_file.proofs.reader.read_whole.Reads as read-whole-read
 use Rattle.graph_file.proofs.sought.line_count.Reads as line-count-reads
 use Rattle.graph_file.proofs.sought.name_after.Reads as name-after-reads
 
--- src/sought.rt:109:30
 slice-aggregate-read-whole : tie.Need-slice-aggregate-read-whole
 slice-aggregate-read-whole c = search needs
 
--- src/sought.rt:109:9
 read-whole-requires : tie.Need-read-whole-requires
 read-whole-requires c κs = search needs
 
--- src/sought.rt:111:9
 returns : tie.Need-returns
 returns c = let t = c .before .before .before .before .before .before .args .text .now in let q = c .before .before .before .before .before .before .args .query in let r = c .before .before .before .read-whole .result in let u = c .before .before .before .read-whole .last .1 .0 in let e = c .before .before .before .read-whole .ensures .0 in same-place _ (length t) (length t) (file-refused r u t q e (c .if1 .taken))
 
--- src/sought.rt:114:13
 cast-n : tie.Need-cast-n
 cast-n c = search needs
 
--- src/sought.rt:116:9
 returns-2 : tie.Need-returns-2
 returns-2 c = let t = c .before .before .before .before .before .before .before .before .before .args .text .now in let q = c .before .before .before .before .before .before .before .before .before .args .query in let r = c .before .before .before .before .before .before .read-whole .result in let u = c .before .before .before .before .before .before .read-whole .last .1 .0 in let e = c .before .before .before .before .before .before .read-whole .ensures .0 in same-place _ (length t) (length t) (query-refused r u t q e (c .before .before .before .if1 .left) (c .if2 .taken))
 
--- src/sought.rt:118:9
 line-count-requires : tie.Need-line-count-requires
 line-count-requires c κs = search needs
 
--- src/sought.rt:121:9
 name-after-requires : tie.Need-name-after-requires
 name-after-requires c κs = search needs
 
--- src/sought.rt:121:9
 returns-3 : tie.Need-returns-3
 returns-3 c = let t = c .before .before .before .before .before .before .before .before .before .before .before .before .args .text .now in let q = c .before .before .before .before .before .before .before .before .before .before .before .before .args .query in let r = c .before .before .before .before .before .before .before .before .before .read-whole .result in let u = c .before .before .before .before .before .before .before .before .before .read-whole .last .1 .0 in let e = c .before .before .before .before .before .before .before .before .before .read-whole .ensures .0 in let z : q ≡ lineCount t - r .counts .rows + q = omega (arith, c .before .before .line-count .ensures, c .before .if3 .taken) in c .name-after .ensures ∙ query-read r u t q e (c .before .before .before .before .before .before .if1 .left) (c .before .before .before .if2 .left) q z
 
--- src/sought.rt:123:22
 add-name-after : tie.Need-add-name-after
 add-name-after c = search needs
 
--- src/sought.rt:123:5
 name-after-requires-2 : tie.Need-name-after-requires-2
 name-after-requires-2 c κs = search needs
 
--- src/sought.rt:101:1
 returns-4 : tie.Need-returns-4
 returns-4 c = let t = c .before .before .before .before .before .before .before .before .before .before .before .before .args .text .now in let q = c .before .before .before .before .before .before .before .before .before .before .before .before .args .query in let r = c .before .before .before .before .before .before .before .before .before .read-whole .result in let u = c .before .before .before .before .before .before .before .before .before .read-whole .last .1 .0 in let e = c .before .before .before .before .before .before .before .before .before .read-whole .ensures .0 in let k = c .before .before .line-count .result - r .counts .rows + q in let z : k ≡ lineCount t - r .counts .rows + q = ap (λ (n : Prim.Native.Nat.ℕ). n - r .counts .rows + q) (c .before .before .line-count .ensures) in c .name-after2 .ensures ∙ query-read r u t q e (c .before .before .before .before .before .before .if1 .left) (c .before .before .before .if2 .left) k z
 

@@ -12,23 +12,18 @@ use Rattle.graph_file.proofs.sought.name_sought.Reads as reads
 use Rattle.graph_file.proofs.sought.name_sought.Lts as lts
 use Rattle.graph_file.proofs.sought.name_place.Reads as name-place-reads
 
--- src/sought.rt:131:9
 name-place-requires : tie.Need-name-place-requires
 name-place-requires c κs = search needs
 
--- src/sought.rt:134:5
 sub-result : tie.Need-sub-result
 sub-result c = subst (λ (p : NamePlace). p .from ≤ p .to) (sym (c .name-place .ensures)) (sought-there (c .before .before .args .text .now) (c .before .before .args .query) .1 .0)
 
--- src/sought.rt:134:5
 part-result-start : tie.Need-part-result-start
 part-result-start c = let f : c .name-place .result .from ≤ c .name-place .result .to = subst (λ (p : NamePlace). p .from ≤ p .to) (sym (c .name-place .ensures)) (sought-there (c .before .before .args .text .now) (c .before .before .args .query) .1 .0) in let g : c .name-place .result .to ≤ length (c .before .before .args .text .now) = subst (λ (p : NamePlace). p .to ≤ length (c .before .before .args .text .now)) (sym (c .name-place .ensures)) (sought-there (c .before .before .args .text .now) (c .before .before .args .query) .1 .1) in omega arith
 
--- src/sought.rt:134:5
 part-result-end : tie.Need-part-result-end
 part-result-end c = let f : c .name-place .result .from ≤ c .name-place .result .to = subst (λ (p : NamePlace). p .from ≤ p .to) (sym (c .name-place .ensures)) (sought-there (c .before .before .args .text .now) (c .before .before .args .query) .1 .0) in let g : c .name-place .result .to ≤ length (c .before .before .args .text .now) = subst (λ (p : NamePlace). p .to ≤ length (c .before .before .args .text .now)) (sym (c .name-place .ensures)) (sought-there (c .before .before .args .text .now) (c .before .before .args .query) .1 .1) in omega arith
 
--- src/sought.rt:128:1
 returns : tie.Need-returns
 returns c = ap (λ (p : NamePlace). take (p .to - p .from) (drop (p .from) (c .before .before .before .args .text .now))) (c .before .name-place .ensures) ∙ sought-there (c .before .before .before .args .text .now) (c .before .before .before .args .query) .0
 

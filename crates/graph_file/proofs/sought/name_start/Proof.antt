@@ -11,39 +11,30 @@ use Rattle.graph_file.proofs.sought.name_start.Lts as lts
 use Rattle.text_field.proofs.byte_at.Reads as byte-at-reads
 use Rattle.text_field.proofs.read_number.Reads as read-number-reads
 
--- src/sought.rt:69:36
 read-number-requires : tie.Need-read-number-requires
 read-number-requires c κs = search needs
 
--- src/sought.rt:69:31
 enum-known-a : tie.Need-enum-known-a
 enum-known-a c = search needs
 
--- src/sought.rt:70:9
 enum-told : tie.Need-enum-told
 enum-told c = search needs
 
--- src/sought.rt:70:9
 returns : tie.Need-returns
 returns c = no-number (c .before .before .before .before .args .text .now) (c .before .before .before .before .args .at) (sym (c .enum-told .given .1) ∙ c .before .before .read-number .ensures)
 
--- src/sought.rt:73:9
 returns-2 : tie.Need-returns-2
 returns-2 c = let t = c .before .before .before .before .before .before .args .text .now in let at = c .before .before .before .before .before .before .args .at in let v = c .before .before .a .given .0 .0 in let a = c .before .before .a .given .0 .1 .0 in let e : Number v a ≡ numberPlaced at (numberHere (drop at t)) = sym (c .before .before .a .given .1) ∙ c .before .before .before .before .read-number .ensures in ends-there t at v a e (c .if1 .taken)
 
--- src/sought.rt:75:8
 byte-at-requires : tie.Need-byte-at-requires
 byte-at-requires c κs = search needs
 
--- src/sought.rt:76:9
 returns-3 : tie.Need-returns-3
 returns-3 c = let t = c .before .before .before .before .before .before .before .before .args .text .now in let at = c .before .before .before .before .before .before .before .before .args .at in let v = c .before .before .before .before .a .given .0 .0 in let a = c .before .before .before .before .a .given .0 .1 .0 in let e : Number v a ≡ numberPlaced at (numberHere (drop at t)) = sym (c .before .before .before .before .a .given .1) ∙ c .before .before .before .before .before .before .read-number .ensures in no-space t at v a e (c .before .before .if1 .left) (λ z. c .if2 .taken (c .before .byte-at .ensures ∙ z))
 
--- src/sought.rt:78:5
 add-result : tie.Need-add-result
 add-result c = search needs
 
--- src/sought.rt:66:1
 returns-4 : tie.Need-returns-4
 returns-4 c = let t = c .before .before .before .before .before .before .before .before .args .text .now in let at = c .before .before .before .before .before .before .before .before .args .at in let v = c .before .before .before .before .a .given .0 .0 in let a = c .before .before .before .before .a .given .0 .1 .0 in let e : Number v a ≡ numberPlaced at (numberHere (drop at t)) = sym (c .before .before .before .before .a .given .1) ∙ c .before .before .before .before .before .before .read-number .ensures in spaced t at v a e (c .before .before .if1 .left) (sym (c .before .byte-at .ensures) ∙ c .if2 .left)
 

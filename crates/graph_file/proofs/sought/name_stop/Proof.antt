@@ -7,23 +7,18 @@ use Rattle.graph_file.proofs.sought.name_stop.Reads as reads
 use Rattle.graph_file.proofs.sought.name_stop.Lts as lts
 use Rattle.text_field.proofs.read_name.Reads as read-name-reads
 
--- src/sought.rt:85:37
 read-name-requires : tie.Need-read-name-requires
 read-name-requires c κs = search needs
 
--- src/sought.rt:85:30
 enum-known-end : tie.Need-enum-known-end
 enum-known-end c = search needs
 
--- src/sought.rt:86:9
 enum-told : tie.Need-enum-told
 enum-told c = search needs
 
--- src/sought.rt:86:9
 returns : tie.Need-returns
 returns c = no-name-there (c .before .before .before .before .args .text .now) (c .before .before .before .before .args .at) (sym (c .enum-told .given .1) ∙ c .before .before .read-name .ensures)
 
--- src/sought.rt:82:1
 returns-2 : tie.Need-returns-2
 returns-2 c = name-there (c .before .before .before .before .before .args .text .now) (c .before .before .before .before .before .args .at) (c .before .end .given .0 .0) (c .before .end .given .0 .1 .0) (c .before .end .given .0 .1 .1 .0) (sym (c .before .end .given .1) ∙ c .before .before .before .read-name .ensures)
 

@@ -6,7 +6,7 @@ use Rattle.graph_file.proofs.writer.row_formed.Tie as tie
 use Rattle.graph_file.proofs.writer.row_formed.Reads as reads
 use Rattle.graph_file.proofs.writer.row_formed.Lts as lts
 use Rattle.graph_file.proofs.rows.row_at.Reads as row-at-reads
-use Rattle.graph_file.proofs.writer.is_formed.Reads as is-formed-reads
+use Rattle.graph_file.proofs.formed.is_formed.Reads as is-formed-reads
 
 add-if1 : tie.Need-add-if1
 add-if1 c = search needs

@@ -1,66 +1,21 @@
-use Rattle.graph_file.proofs.WriteText.{told-refused, text-formless, text-refused, text-written, text-within, told-small, told-done}
-use Rattle.graph_file.specs.Reader.{answerOf}
-use borrow.Author.Tests.{not-true, not-false}
-use native.Mathlib.Omega.{arith}
-use mathlib.Core.Path.{sym, _∙_}
 use borrow.Author.Needs.{needs}
 use Rattle.graph_file.proofs.writer.write.Statement.{statement}
 use Rattle.graph_file.proofs.writer.write.Tie as tie
 use Rattle.graph_file.proofs.writer.write.Reads as reads
 use Rattle.graph_file.proofs.writer.write.Lts as lts
-use Rattle.graph_file.proofs.writer.has_form.Reads as has-form-reads
-use Rattle.graph_file.proofs.writer.write_graph.Reads as write-graph-reads
-use Rattle.text_field.proofs.put_bytes.Reads as put-bytes-reads
+use Rattle.graph_file.proofs.writer.write_by.Reads as write-by-reads
 
-has-form-requires : tie.Need-has-form-requires
-has-form-requires c κs = search needs
+slice-aggregate-write-by : tie.Need-slice-aggregate-write-by
+slice-aggregate-write-by c = search needs
 
-returns : tie.Need-returns
-unfolding answerOf
-returns c = let a = c .before .before .before .before .args in told-refused (a .table .now) (a .out .now) 2 (text-formless (a .table .now) (sym (c .before .has-form .ensures) ∙ not-true _ (c .if1 .taken)))
-
-slice-aggregate-write-graph : tie.Need-slice-aggregate-write-graph
-slice-aggregate-write-graph c = search needs
-
-write-graph-requires : tie.Need-write-graph-requires
-write-graph-requires c κs = search needs
-
-returns-2 : tie.Need-returns-2
-unfolding answerOf
-returns-2 c = let a = c .before .before .before .before .before .before .before .before .before .args in told-refused (a .table .now) (a .out .now) _ (text-refused (a .table .now) _ _ (c .before .before .before .write-graph .result) (sym (c .before .before .before .before .before .before .has-form .ensures) ∙ not-false _ (c .before .before .before .before .before .if1 .left)) (c .before .before .before .write-graph .ensures) (c .if2 .taken))
-
-returns-3 : tie.Need-returns-3
-unfolding answerOf
-returns-3 c = let a = c .before .before .before .before .before .before .before .before .before .before .args in told-small (a .table .now) _ (a .out .now) _ (text-written (a .table .now) _ _ (c .before .before .before .before .write-graph .result) (sym (c .before .before .before .before .before .before .before .has-form .ensures) ∙ not-false _ (c .before .before .before .before .before .before .if1 .left)) (c .before .before .before .before .write-graph .ensures) (omega arith) (c .before .if2 .left)) (c .if3 .taken)
-
-array-share-prefix-text : tie.Need-array-share-prefix-text
-array-share-prefix-text c = let a = c .before .before .before .before .before .before .before .before .before .before .before .args in text-within (a .table .now) _ _ (text-written (a .table .now) _ _ (c .before .before .before .before .before .write-graph .result) (sym (c .before .before .before .before .before .before .before .before .has-form .ensures) ∙ not-false _ (c .before .before .before .before .before .before .before .if1 .left)) (c .before .before .before .before .before .write-graph .ensures) (omega arith) (c .before .before .if2 .left))
-
-slice-aggregate-put-bytes : tie.Need-slice-aggregate-put-bytes
-slice-aggregate-put-bytes c = let a = c .before .before .before .before .before .before .before .before .before .before .before .before .args in sym (text-written (a .table .now) _ _ (c .before .before .before .before .before .before .write-graph .result) (sym (c .before .before .before .before .before .before .before .before .before .has-form .ensures) ∙ not-false _ (c .before .before .before .before .before .before .before .before .if1 .left)) (c .before .before .before .before .before .before .write-graph .ensures) (omega arith) (c .before .before .before .if2 .left) .fits)
-
-put-bytes-requires : tie.Need-put-bytes-requires
-put-bytes-requires c κs = search needs
+write-by-requires : tie.Need-write-by-requires
+write-by-requires c κs = search needs
 
 same-length : tie.Need-same-length
 same-length c = search needs
 
-returns-4 : tie.Need-returns-4
-unfolding answerOf
-returns-4 c = let a = c .before .before .before .before .before .before .before .before .before .before .before .before .before .before .before .args in told-done (a .table .now) _ (a .out .now) _ (text-written (a .table .now) _ _ (c .before .before .before .before .before .before .before .before .before .write-graph .result) (sym (c .before .before .before .before .before .before .before .before .before .before .before .before .has-form .ensures) ∙ not-false _ (c .before .before .before .before .before .before .before .before .before .before .before .if1 .left)) (c .before .before .before .before .before .before .before .before .before .write-graph .ensures) (omega arith) (c .before .before .before .before .before .before .if2 .left)) (c .before .before .before .before .before .if3 .left) _ _ (c .before .before .put-bytes .ensures)
+returns : tie.Need-returns
+returns c = c .before .before .before .write-by .ensures
 
 pub write-spec : {M : Type 1} → statement M
-write-spec =
-    tie.close
-    (tie.spec
-    has-form-requires
-    returns
-    slice-aggregate-write-graph
-    write-graph-requires
-    returns-2
-    returns-3
-    array-share-prefix-text
-    slice-aggregate-put-bytes
-    put-bytes-requires
-    same-length
-    returns-4)
+write-spec = tie.close (tie.spec slice-aggregate-write-by write-by-requires same-length returns)

@@ -17,7 +17,7 @@ use Rattle.graph_file.proofs.format.row_place.Reads as row-place-reads
 use Rattle.graph_file.proofs.reader.counts_after.Reads as counts-after-reads
 use Rattle.graph_file.proofs.rows.row_at.Reads as row-at-reads
 use Rattle.graph_file.proofs.rows.value.Reads as value-reads
-use Rattle.graph_file.proofs.writer.put_line.Reads as put-line-reads
+use Rattle.graph_file.proofs.line_text.put_line.Reads as put-line-reads
 use Rattle.graph_file.proofs.writer.row_formed.Reads as row-formed-reads
 
 row-place-requires : tie.Need-row-place-requires
@@ -31,7 +31,7 @@ unfolding partWritten refusedOrPoured
 returns c = let a = c .before .before .before .before .before .args in (row-unformed (a .k) (a .table .now) (a .p) (a .c) (a .out .now, a .n) (sym (c .before .row-formed .ensures ∙ rw (c .before .before .row-place .ensures)) ∙ not-true _ (c .if1 .taken)), λ z. absurd (omega arith))
 
 admitted-requires : tie.Need-admitted-requires
-admitted-requires c κs = search needs
+admitted-requires c κs = c .before .before .before .before .before .pre .2
 
 returns-2 : tie.Need-returns-2
 unfolding partWritten
@@ -49,8 +49,8 @@ value-requires c κs = search needs
 counts-after-requires : tie.Need-counts-after-requires
 counts-after-requires c κs = let q = c .before .before .before .before .before .before .before .before .before .before .before .before .before .pre in omega (arith, q .0, q .1 .within, q .1 .rowed)
 
-add-t17 : tie.Need-add-t17
-add-t17 c = search needs
+add-t18 : tie.Need-add-t18
+add-t18 c = search needs
 
 same-length : tie.Need-same-length
 same-length c = search needs
@@ -72,6 +72,6 @@ write-row-spec =
     put-line-requires
     value-requires
     counts-after-requires
-    add-t17
+    add-t18
     same-length
     returns-3)

@@ -1,7 +1,8 @@
 use mathlib.Core.Path.{sym, ap, subst}
-use Rattle.graph_file.specs.declared.reader.Answer.{Answer}
-use Rattle.graph_file.specs.Reader.{answerOf}
-use Rattle.host.specs.Numbers.{told, written, Sized}
+use native.Mathlib.Omega.{arith}
+use Rattle.text_field.specs.declared.answer.Answer.{Answer}
+use Rattle.text_field.specs.Answer.{answerOf}
+use Rattle.host.specs.Numbers.{told, amountNumber, written, Sized}
 use borrow.Author.Needs.{needs}
 use Rattle.host.proofs.numbers.written_number.Statement.{statement}
 use Rattle.host.proofs.numbers.written_number.Tie as tie
@@ -15,15 +16,17 @@ enum-known-a-2 : tie.Need-enum-known-a-2
 enum-known-a-2 c = search needs
 
 add-result : tie.Need-add-result
-unfolding answerOf Sized
-add-result c = record { fits = subst (λ (x : Answer). Sized (answerOf x)) (c .before .a2 .given .1) (c .before .before .before .pre) }
+unfolding answerOf Sized amountNumber
+add-result c =
+    let sized = subst (λ (x : Answer). Sized (answerOf x)) (c .before .a2 .given .1) (c .before .before .before .pre)
+    in record { fits = omega (arith, sized) }
 
 returns : tie.Need-returns
 unfolding answerOf written told
 returns c = sym (ap (λ (x : Answer). written (answerOf x)) (c .before .a .given .1))
 
 returns-2 : tie.Need-returns-2
-unfolding answerOf written told
+unfolding answerOf written told amountNumber
 returns-2 c = sym (ap (λ (x : Answer). written (answerOf x)) (c .before .a2 .given .1))
 
 pub written-number-spec : {M : Type 1} → statement M

@@ -38,7 +38,7 @@ use denote.Triple.Walked.{says, Stays, stay-none, stay-none-slice, gave-slice, w
 use denote.Exit.{yes}
 use denote.Signature.{plain}
 use Rattle.scope_graph.specs.Computed.{Standing}
-use Rattle.graph_file.specs.Outcome.{Outcome}
+use Rattle.text_field.specs.Outcome.{Outcome}
 use Rattle.path_row.specs.declared.form.Step.{Step}
 use Rattle.path_row.specs.Form.{stepsIn}
 use Rattle.path_row.specs.Compare.{stepsLeft}

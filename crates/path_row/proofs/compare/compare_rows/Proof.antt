@@ -39,19 +39,19 @@ enum-told-2 c = search needs
 
 -- src/compare.rt:192:9
 returns-2 : tie.Need-returns-2
-returns-2 c = second-bad (now (c .before .before .before .before .before .before .before .before .before .before .args .cells)) (now (c .before .before .before .before .before .before .before .before .before .before .args .a)) (now (c .before .before .before .before .before .before .before .before .before .before .args .b)) (c .before .before .before .before .before .before .before .before .before .before .args .n) (c .before .before .before .before .before .before .before .before .before .before .args .m) (c .before .before .before .before .start .given .0 .1 .0) (c .before .before .before .before .start .given .0 .1 .1 .0) (row-is (now (c .before .before .before .before .before .before .before .before .before .before .args .a)) (c .before .before .before .before .before .before .read-row .result) (c .before .before .before .before .before .before .read-row .ensures) (c .before .before .before .before .start .given .0 .0) (c .before .before .before .before .start .given .0 .1 .0) (c .before .before .before .before .start .given .0 .1 .1 .0) (c .before .before .before .before .start .given .1)) (row-is-refused (now (c .before .before .before .before .before .before .before .before .before .before .args .b)) (c .before .before .read-row2 .result) (c .before .before .read-row2 .ensures) (c .enum-told2 .given .1))
+returns-2 c = second-bad (now (c .before .before .before .before .before .before .before .before .before .before .args .cells)) (now (c .before .before .before .before .before .before .before .before .before .before .args .a)) (now (c .before .before .before .before .before .before .before .before .before .before .args .b)) (c .before .before .before .before .before .before .before .before .before .before .args .n) (c .before .before .before .before .before .before .before .before .before .before .args .m) (c .before .before .before .before .start .given .0 .0) (c .before .before .before .before .start .given .0 .1 .0) (c .before .before .before .before .start .given .0 .1 .1 .0) (row-is (now (c .before .before .before .before .before .before .before .before .before .before .args .a)) (c .before .before .before .before .before .before .read-row .result) (c .before .before .before .before .before .before .read-row .ensures) (c .before .before .before .before .start .given .0 .0) (c .before .before .before .before .start .given .0 .1 .0) (c .before .before .before .before .start .given .0 .1 .1 .0) (c .before .before .before .before .start .given .1)) (row-is-refused (now (c .before .before .before .before .before .before .before .before .before .before .args .b)) (c .before .before .read-row2 .result) (c .before .before .read-row2 .ensures) (c .enum-told2 .given .1))
 
 -- src/compare.rt:195:9
 returns-3 : tie.Need-returns-3
-returns-3 c = first-over (now (c .before .before .before .before .before .before .before .before .before .before .before .before .args .cells)) (now (c .before .before .before .before .before .before .before .before .before .before .before .before .args .a)) (now (c .before .before .before .before .before .before .before .before .before .before .before .before .args .b)) (c .before .before .before .before .before .before .before .before .before .before .before .before .args .n) (c .before .before .before .before .before .before .before .before .before .before .before .before .args .m) (c .before .before .before .before .before .before .start .given .0 .1 .0) (c .before .before .before .before .before .before .start .given .0 .1 .1 .0) (row-is (now (c .before .before .before .before .before .before .before .before .before .before .before .before .args .a)) (c .before .before .before .before .before .before .before .before .read-row .result) (c .before .before .before .before .before .before .before .before .read-row .ensures) (c .before .before .before .before .before .before .start .given .0 .0) (c .before .before .before .before .before .before .start .given .0 .1 .0) (c .before .before .before .before .before .before .start .given .0 .1 .1 .0) (c .before .before .before .before .before .before .start .given .1)) (c .before .before .other .given .0 .1 .0) (c .before .before .other .given .0 .1 .1 .0) (row-is (now (c .before .before .before .before .before .before .before .before .before .before .before .before .args .b)) (c .before .before .before .before .read-row2 .result) (c .before .before .before .before .read-row2 .ensures) (c .before .before .other .given .0 .0) (c .before .before .other .given .0 .1 .0) (c .before .before .other .given .0 .1 .1 .0) (c .before .before .other .given .1)) (c .if1 .taken)
+returns-3 c = first-over (now (c .before .before .before .before .before .before .before .before .before .before .before .before .args .cells)) (now (c .before .before .before .before .before .before .before .before .before .before .before .before .args .a)) (now (c .before .before .before .before .before .before .before .before .before .before .before .before .args .b)) (c .before .before .before .before .before .before .before .before .before .before .before .before .args .n) (c .before .before .before .before .before .before .before .before .before .before .before .before .args .m) (c .before .before .before .before .before .before .start .given .0 .0) (c .before .before .before .before .before .before .start .given .0 .1 .0) (c .before .before .before .before .before .before .start .given .0 .1 .1 .0) (row-is (now (c .before .before .before .before .before .before .before .before .before .before .before .before .args .a)) (c .before .before .before .before .before .before .before .before .read-row .result) (c .before .before .before .before .before .before .before .before .read-row .ensures) (c .before .before .before .before .before .before .start .given .0 .0) (c .before .before .before .before .before .before .start .given .0 .1 .0) (c .before .before .before .before .before .before .start .given .0 .1 .1 .0) (c .before .before .before .before .before .before .start .given .1)) (c .before .before .other .given .0 .0) (c .before .before .other .given .0 .1 .0) (c .before .before .other .given .0 .1 .1 .0) (row-is (now (c .before .before .before .before .before .before .before .before .before .before .before .before .args .b)) (c .before .before .before .before .read-row2 .result) (c .before .before .before .before .read-row2 .ensures) (c .before .before .other .given .0 .0) (c .before .before .other .given .0 .1 .0) (c .before .before .other .given .0 .1 .1 .0) (c .before .before .other .given .1)) (c .if1 .taken)
 
 -- src/compare.rt:198:9
 returns-4 : tie.Need-returns-4
-returns-4 c = second-over (now (c .before .before .before .before .before .before .before .before .before .before .before .before .before .args .cells)) (now (c .before .before .before .before .before .before .before .before .before .before .before .before .before .args .a)) (now (c .before .before .before .before .before .before .before .before .before .before .before .before .before .args .b)) (c .before .before .before .before .before .before .before .before .before .before .before .before .before .args .n) (c .before .before .before .before .before .before .before .before .before .before .before .before .before .args .m) (c .before .before .before .before .before .before .before .start .given .0 .1 .0) (c .before .before .before .before .before .before .before .start .given .0 .1 .1 .0) (row-is (now (c .before .before .before .before .before .before .before .before .before .before .before .before .before .args .a)) (c .before .before .before .before .before .before .before .before .before .read-row .result) (c .before .before .before .before .before .before .before .before .before .read-row .ensures) (c .before .before .before .before .before .before .before .start .given .0 .0) (c .before .before .before .before .before .before .before .start .given .0 .1 .0) (c .before .before .before .before .before .before .before .start .given .0 .1 .1 .0) (c .before .before .before .before .before .before .before .start .given .1)) (c .before .before .before .other .given .0 .1 .0) (c .before .before .before .other .given .0 .1 .1 .0) (row-is (now (c .before .before .before .before .before .before .before .before .before .before .before .before .before .args .b)) (c .before .before .before .before .before .read-row2 .result) (c .before .before .before .before .before .read-row2 .ensures) (c .before .before .before .other .given .0 .0) (c .before .before .before .other .given .0 .1 .0) (c .before .before .before .other .given .0 .1 .1 .0) (c .before .before .before .other .given .1)) (c .before .if1 .left) (c .if2 .taken)
+returns-4 c = second-over (now (c .before .before .before .before .before .before .before .before .before .before .before .before .before .args .cells)) (now (c .before .before .before .before .before .before .before .before .before .before .before .before .before .args .a)) (now (c .before .before .before .before .before .before .before .before .before .before .before .before .before .args .b)) (c .before .before .before .before .before .before .before .before .before .before .before .before .before .args .n) (c .before .before .before .before .before .before .before .before .before .before .before .before .before .args .m) (c .before .before .before .before .before .before .before .start .given .0 .0) (c .before .before .before .before .before .before .before .start .given .0 .1 .0) (c .before .before .before .before .before .before .before .start .given .0 .1 .1 .0) (row-is (now (c .before .before .before .before .before .before .before .before .before .before .before .before .before .args .a)) (c .before .before .before .before .before .before .before .before .before .read-row .result) (c .before .before .before .before .before .before .before .before .before .read-row .ensures) (c .before .before .before .before .before .before .before .start .given .0 .0) (c .before .before .before .before .before .before .before .start .given .0 .1 .0) (c .before .before .before .before .before .before .before .start .given .0 .1 .1 .0) (c .before .before .before .before .before .before .before .start .given .1)) (c .before .before .before .other .given .0 .0) (c .before .before .before .other .given .0 .1 .0) (c .before .before .before .other .given .0 .1 .1 .0) (row-is (now (c .before .before .before .before .before .before .before .before .before .before .before .before .before .args .b)) (c .before .before .before .before .before .read-row2 .result) (c .before .before .before .before .before .read-row2 .ensures) (c .before .before .before .other .given .0 .0) (c .before .before .before .other .given .0 .1 .0) (c .before .before .before .other .given .0 .1 .1 .0) (c .before .before .before .other .given .1)) (c .before .if1 .left) (c .if2 .taken)
 
 -- src/compare.rt:201:9
 returns-5 : tie.Need-returns-5
-returns-5 c = starts-apart (now (c .before .before .before .before .before .before .before .before .before .before .before .before .before .before .args .cells)) (now (c .before .before .before .before .before .before .before .before .before .before .before .before .before .before .args .a)) (now (c .before .before .before .before .before .before .before .before .before .before .before .before .before .before .args .b)) (c .before .before .before .before .before .before .before .before .before .before .before .before .before .before .args .n) (c .before .before .before .before .before .before .before .before .before .before .before .before .before .before .args .m) (c .before .before .before .before .before .before .before .before .start .given .0 .1 .0) (c .before .before .before .before .before .before .before .before .start .given .0 .1 .1 .0) (row-is (now (c .before .before .before .before .before .before .before .before .before .before .before .before .before .before .args .a)) (c .before .before .before .before .before .before .before .before .before .before .read-row .result) (c .before .before .before .before .before .before .before .before .before .before .read-row .ensures) (c .before .before .before .before .before .before .before .before .start .given .0 .0) (c .before .before .before .before .before .before .before .before .start .given .0 .1 .0) (c .before .before .before .before .before .before .before .before .start .given .0 .1 .1 .0) (c .before .before .before .before .before .before .before .before .start .given .1)) (c .before .before .before .before .other .given .0 .1 .0) (c .before .before .before .before .other .given .0 .1 .1 .0) (row-is (now (c .before .before .before .before .before .before .before .before .before .before .before .before .before .before .args .b)) (c .before .before .before .before .before .before .read-row2 .result) (c .before .before .before .before .before .before .read-row2 .ensures) (c .before .before .before .before .other .given .0 .0) (c .before .before .before .before .other .given .0 .1 .0) (c .before .before .before .before .other .given .0 .1 .1 .0) (c .before .before .before .before .other .given .1)) (c .before .before .if1 .left) (c .before .if2 .left) (c .if3 .taken)
+returns-5 c = starts-apart (now (c .before .before .before .before .before .before .before .before .before .before .before .before .before .before .args .cells)) (now (c .before .before .before .before .before .before .before .before .before .before .before .before .before .before .args .a)) (now (c .before .before .before .before .before .before .before .before .before .before .before .before .before .before .args .b)) (c .before .before .before .before .before .before .before .before .before .before .before .before .before .before .args .n) (c .before .before .before .before .before .before .before .before .before .before .before .before .before .before .args .m) (c .before .before .before .before .before .before .before .before .start .given .0 .0) (c .before .before .before .before .before .before .before .before .start .given .0 .1 .0) (c .before .before .before .before .before .before .before .before .start .given .0 .1 .1 .0) (row-is (now (c .before .before .before .before .before .before .before .before .before .before .before .before .before .before .args .a)) (c .before .before .before .before .before .before .before .before .before .before .read-row .result) (c .before .before .before .before .before .before .before .before .before .before .read-row .ensures) (c .before .before .before .before .before .before .before .before .start .given .0 .0) (c .before .before .before .before .before .before .before .before .start .given .0 .1 .0) (c .before .before .before .before .before .before .before .before .start .given .0 .1 .1 .0) (c .before .before .before .before .before .before .before .before .start .given .1)) (c .before .before .before .before .other .given .0 .0) (c .before .before .before .before .other .given .0 .1 .0) (c .before .before .before .before .other .given .0 .1 .1 .0) (row-is (now (c .before .before .before .before .before .before .before .before .before .before .before .before .before .before .args .b)) (c .before .before .before .before .before .before .read-row2 .result) (c .before .before .before .before .before .before .read-row2 .ensures) (c .before .before .before .before .other .given .0 .0) (c .before .before .before .before .other .given .0 .1 .0) (c .before .before .before .before .other .given .0 .1 .1 .0) (c .before .before .before .before .other .given .1)) (c .before .before .if1 .left) (c .before .if2 .left) (c .if3 .taken)
 
 -- src/compare.rt:203:5
 more-specific-requires : tie.Need-more-specific-requires
@@ -59,7 +59,7 @@ more-specific-requires c κs = search needs
 
 -- src/compare.rt:185:1
 returns-6 : tie.Need-returns-6
-returns-6 c = starts-same (now (c .before .before .before .before .before .before .before .before .before .before .before .before .before .before .before .args .cells)) (now (c .before .before .before .before .before .before .before .before .before .before .before .before .before .before .before .args .a)) (now (c .before .before .before .before .before .before .before .before .before .before .before .before .before .before .before .args .b)) (c .before .before .before .before .before .before .before .before .before .before .before .before .before .before .before .args .n) (c .before .before .before .before .before .before .before .before .before .before .before .before .before .before .before .args .m) (c .before .before .before .before .before .before .before .before .before .start .given .0 .1 .0) (c .before .before .before .before .before .before .before .before .before .start .given .0 .1 .1 .0) (row-is (now (c .before .before .before .before .before .before .before .before .before .before .before .before .before .before .before .args .a)) (c .before .before .before .before .before .before .before .before .before .before .before .read-row .result) (c .before .before .before .before .before .before .before .before .before .before .before .read-row .ensures) (c .before .before .before .before .before .before .before .before .before .start .given .0 .0) (c .before .before .before .before .before .before .before .before .before .start .given .0 .1 .0) (c .before .before .before .before .before .before .before .before .before .start .given .0 .1 .1 .0) (c .before .before .before .before .before .before .before .before .before .start .given .1)) (c .before .before .before .before .before .other .given .0 .1 .0) (c .before .before .before .before .before .other .given .0 .1 .1 .0) (row-is (now (c .before .before .before .before .before .before .before .before .before .before .before .before .before .before .before .args .b)) (c .before .before .before .before .before .before .before .read-row2 .result) (c .before .before .before .before .before .before .before .read-row2 .ensures) (c .before .before .before .before .before .other .given .0 .0) (c .before .before .before .before .before .other .given .0 .1 .0) (c .before .before .before .before .before .other .given .0 .1 .1 .0) (c .before .before .before .before .before .other .given .1)) (c .before .before .before .if1 .left) (c .before .before .if2 .left) (c .before .before .before .before .before .before .before .before .before .before .before .before .before .before .before .pre) (c .before .if3 .left) (c .more-specific .result) (c .more-specific .ensures)
+returns-6 c = starts-same (now (c .before .before .before .before .before .before .before .before .before .before .before .before .before .before .before .args .cells)) (now (c .before .before .before .before .before .before .before .before .before .before .before .before .before .before .before .args .a)) (now (c .before .before .before .before .before .before .before .before .before .before .before .before .before .before .before .args .b)) (c .before .before .before .before .before .before .before .before .before .before .before .before .before .before .before .args .n) (c .before .before .before .before .before .before .before .before .before .before .before .before .before .before .before .args .m) (c .before .before .before .before .before .before .before .before .before .start .given .0 .0) (c .before .before .before .before .before .before .before .before .before .start .given .0 .1 .0) (c .before .before .before .before .before .before .before .before .before .start .given .0 .1 .1 .0) (row-is (now (c .before .before .before .before .before .before .before .before .before .before .before .before .before .before .before .args .a)) (c .before .before .before .before .before .before .before .before .before .before .before .read-row .result) (c .before .before .before .before .before .before .before .before .before .before .before .read-row .ensures) (c .before .before .before .before .before .before .before .before .before .start .given .0 .0) (c .before .before .before .before .before .before .before .before .before .start .given .0 .1 .0) (c .before .before .before .before .before .before .before .before .before .start .given .0 .1 .1 .0) (c .before .before .before .before .before .before .before .before .before .start .given .1)) (c .before .before .before .before .before .other .given .0 .0) (c .before .before .before .before .before .other .given .0 .1 .0) (c .before .before .before .before .before .other .given .0 .1 .1 .0) (row-is (now (c .before .before .before .before .before .before .before .before .before .before .before .before .before .before .before .args .b)) (c .before .before .before .before .before .before .before .read-row2 .result) (c .before .before .before .before .before .before .before .read-row2 .ensures) (c .before .before .before .before .before .other .given .0 .0) (c .before .before .before .before .before .other .given .0 .1 .0) (c .before .before .before .before .before .other .given .0 .1 .1 .0) (c .before .before .before .before .before .other .given .1)) (c .before .before .before .if1 .left) (c .before .before .if2 .left) (c .before .before .before .before .before .before .before .before .before .before .before .before .before .before .before .pre) (c .before .if3 .left) (c .more-specific .result) (c .more-specific .ensures)
 
 pub compare-rows-spec : {M : Type 1} → statement M
 compare-rows-spec =

@@ -1,4 +1,5 @@
--- `path_row::compare::count_rows` meets its contract. The loop's invariant: the rows counted and those that are left are all. Assumes nothing.
+-- `path_row::compare::count_rows` meets its contract. The loop's invariant: the rows counted and
+-- those that are left are all. Assumes nothing.
 use borrow.Author.Needs.{needs}
 use denote.Ref.{now}
 use mathlib.Core.Path.{_≡_, refl, sym, _∙_}

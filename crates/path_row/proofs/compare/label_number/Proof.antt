@@ -1,4 +1,5 @@
--- `path_row::compare::label_number` meets its contract. The loop's invariant: the number is sought among the labels that are left. Assumes nothing.
+-- `path_row::compare::label_number` meets its contract. The loop's invariant: the number is sought
+-- among the labels that are left. Assumes nothing.
 use borrow.Author.Needs.{needs}
 use denote.Ref.{now}
 use mathlib.Core.Path.{_≡_, refl, sym, _∙_}

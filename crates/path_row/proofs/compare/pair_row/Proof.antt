@@ -1,4 +1,5 @@
--- `path_row::compare::pair_row` meets its contract: the ends of a row's first two values. Assumes nothing.
+-- `path_row::compare::pair_row` meets its contract: the ends of a row's first two values. Assumes
+-- nothing.
 use denote.Ref.{now}
 use Rattle.path_row.proofs.OrderSteps.{pair-none, pair-made}
 use borrow.Author.Needs.{needs}

@@ -1,4 +1,5 @@
--- `path_row::compare::preferred` meets its contract: the order pairs stand behind the labels. Assumes nothing.
+-- `path_row::compare::preferred` meets its contract: the order pairs stand behind the labels.
+-- Assumes nothing.
 use denote.Ref.{now}
 use mathlib.Core.Path.{sym, _∙_}
 use native.Mathlib.Omega.{arith}

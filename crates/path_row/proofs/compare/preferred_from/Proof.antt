@@ -1,4 +1,5 @@
--- `path_row::compare::preferred_from` meets its contract. The loop's invariant: the pairs that are left decide. Assumes nothing.
+-- `path_row::compare::preferred_from` meets its contract. The loop's invariant: the pairs that are
+-- left decide. Assumes nothing.
 use borrow.Author.Needs.{needs}
 use denote.Ref.{now}
 use mathlib.Core.Path.{_≡_, refl, sym, _∙_}

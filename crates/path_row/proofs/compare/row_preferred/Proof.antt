@@ -1,7 +1,7 @@
 -- `path_row::compare::row_preferred` meets its contract. Assumes nothing.
 use denote.Ref.{now}
 use mathlib.Core.Path.{_∙_}
-use Rattle.path_row.proofs.CompareSteps.{steps-as}
+use Rattle.path_row.proofs.CompareSteps.{steps-as, steps-first}
 use borrow.Author.Needs.{needs}
 use Rattle.path_row.proofs.compare.row_preferred.Statement.{statement}
 use Rattle.path_row.proofs.compare.row_preferred.Tie as tie
@@ -24,7 +24,7 @@ steps-preferred-requires c κs = search needs
 
 -- src/compare.rt:165:1
 returns : tie.Need-returns
-returns c = c .steps-preferred .ensures ∙ steps-as (now (c .before .before .before .before .before .before .args .cells)) _ _ _ _ (c .before .before .first-step .ensures) (c .before .first-step2 .ensures)
+returns c = c .steps-preferred .ensures ∙ steps-as (now (c .before .before .before .before .before .before .args .cells)) _ _ _ _ (steps-first _ _ (c .before .before .first-step .ensures)) (steps-first _ _ (c .before .first-step2 .ensures))
 
 pub row-preferred-spec : {M : Type 1} → statement M
 row-preferred-spec =

@@ -1,6 +1,7 @@
 -- `path_row::compare::step_count` meets its contract. Assumes nothing.
 use mathlib.Core.Path.{ap, _∙_}
 use lib.ListN.{length}
+use Rattle.path_row.proofs.CompareSteps.{steps-first}
 use borrow.Author.Needs.{needs}
 use Rattle.path_row.proofs.compare.step_count.Statement.{statement}
 use Rattle.path_row.proofs.compare.step_count.Tie as tie
@@ -19,7 +20,7 @@ walk-requires c κs = search needs
 
 -- src/compare.rt:208:1
 returns : tie.Need-returns
-returns c = c .walk .ensures .0 ∙ ap length (c .before .first-step .ensures)
+returns c = c .walk .ensures .0 ∙ ap length (steps-first _ _ (c .before .first-step .ensures))
 
 pub step-count-spec : {M : Type 1} → statement M
 step-count-spec = tie.close (tie.spec first-step-requires walk-requires returns)

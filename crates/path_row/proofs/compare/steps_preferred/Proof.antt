@@ -1,4 +1,5 @@
--- `path_row::compare::steps_preferred` meets its contract. The loop's invariant: the steps that are left decide. Assumes nothing.
+-- `path_row::compare::steps_preferred` meets its contract. The loop's invariant: the steps that are
+-- left decide. Assumes nothing.
 use borrow.Author.Needs.{needs}
 use denote.Ref.{now}
 use mathlib.Core.Path.{_≡_, refl, sym, _∙_}
@@ -12,7 +13,6 @@ use Rattle.path_row.proofs.compare.steps_preferred.Tie as tie
 use Rattle.path_row.proofs.compare.steps_preferred.Reads as reads
 use Rattle.path_row.proofs.compare.steps_preferred.Lts as lts
 use Rattle.path_row.proofs.compare.end_at.Reads as end-at-reads
-use Rattle.path_row.proofs.compare.ended.Reads as ended-reads
 use Rattle.path_row.proofs.compare.label_number.Reads as label-number-reads
 use Rattle.path_row.proofs.compare.preferred.Reads as preferred-reads
 use Rattle.path_row.proofs.form.next_step.Reads as next-step-reads
@@ -55,13 +55,9 @@ enum-known-x c = search needs
 enum-told : tie.Need-enum-told Inv-loop μ-loop
 enum-told c = search needs
 
--- src/compare.rt:157:20
-ended-requires : tie.Need-ended-requires Inv-loop μ-loop
-ended-requires c κs = search needs
-
 -- src/compare.rt:135:13
 returns-2 : tie.Need-returns-2 Inv-loop μ-loop
-returns-2 c = c .ended .ensures ∙ c .before .before .before .before .if1 .left ∙ sym (c .before .before .before .before .before .before .before .before .before .loop .inv ∙ preferred-ends (now (c .before .before .before .before .before .before .before .before .before .before .before .before .before .args .cells)) (now (c .before .before .before .before .before .before .before .before .before .before .before .before .before .args .a)) (now (c .before .before .before .before .before .before .before .before .before .before .before .before .before .args .b)) (c .before .before .before .before .before .before .before .before .before .loop .i) (c .before .before .before .before .before .before .before .before .before .loop .j) (c .before .before .before .before .before .before .before .before .before .loop .left) (omega arith) (c .before .before .before .before .before .before .before .end-at .result) (c .before .before .before .before .before .before .end-at2 .result) (c .before .before .before .before .before .before .before .end-at .ensures) (c .before .before .before .before .before .before .end-at2 .ensures) (c .before .before .before .before .before .preferred .result) (c .before .before .before .before .before .preferred .ensures) (c .before .before .before .before .if1 .left) (c .before .before .before .next-step .result) (c .before .before .before .next-step .ensures) (c .before .enum-told .given .1))
+returns-2 c = c .before .before .before .if1 .left ∙ sym (c .before .before .before .before .before .before .before .before .loop .inv ∙ preferred-ends (now (c .before .before .before .before .before .before .before .before .before .before .before .before .args .cells)) (now (c .before .before .before .before .before .before .before .before .before .before .before .before .args .a)) (now (c .before .before .before .before .before .before .before .before .before .before .before .before .args .b)) (c .before .before .before .before .before .before .before .before .loop .i) (c .before .before .before .before .before .before .before .before .loop .j) (c .before .before .before .before .before .before .before .before .loop .left) (omega arith) (c .before .before .before .before .before .before .end-at .result) (c .before .before .before .before .before .end-at2 .result) (c .before .before .before .before .before .before .end-at .ensures) (c .before .before .before .before .before .end-at2 .ensures) (c .before .before .before .before .preferred .result) (c .before .before .before .before .preferred .ensures) (c .before .before .before .if1 .left) (c .before .before .next-step .result) (c .before .before .next-step .ensures) (c .enum-told .given .1))
 
 -- src/compare.rt:137:45
 next-step-requires-2 : tie.Need-next-step-requires-2 Inv-loop μ-loop
@@ -129,7 +125,6 @@ steps-preferred-spec =
     next-step-requires
     enum-known-x
     enum-told
-    ended-requires
     returns-2
     next-step-requires-2
     enum-known-y

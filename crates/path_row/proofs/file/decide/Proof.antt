@@ -1,4 +1,5 @@
--- `path_row::file::decide` meets its contract: the file is read into a table of its own, which holds any file's cells. Assumes nothing.
+-- `path_row::file::decide` meets its contract: the file is read into a table of its own, which
+-- holds any file's cells. Assumes nothing.
 use denote.Ref.{now}
 use Rattle.path_row.proofs.FileSteps.{decide-refused, decide-inside, decide-width, decide-was, decide-read}
 use borrow.Author.Needs.{needs}

@@ -1,7 +1,9 @@
 -- `path_row::form::next_step` meets its contract: a letter, and a scope after it. Assumes nothing.
 use denote.Ref.{now}
+use mathlib.Core.Path.{ap}
 use native.Mathlib.Omega.{arith}
 use borrow.Author.Tests.{not-true, not-false}
+use Rattle.path_row.specs.Form.{stepMeaning}
 use Rattle.path_row.proofs.Steps.{step-end, step-other, step-bare, step-taken, scope-small}
 use borrow.Author.Needs.{needs}
 use Rattle.path_row.proofs.form.next_step.Statement.{statement}
@@ -13,7 +15,7 @@ use Rattle.text_field.proofs.is_capital.Reads as is-capital-reads
 
 -- src/form.rt:71:9
 returns : tie.Need-returns
-returns c = step-end (now (c .before .before .args .s)) (c .before .before .args .at) (c .if1 .taken)
+returns c = ap stepMeaning (step-end (now (c .before .before .args .s)) (c .before .before .args .at) (c .if1 .taken))
 
 -- src/form.rt:73:13
 shared-slice-read-x : tie.Need-shared-slice-read-x
@@ -25,7 +27,7 @@ is-capital-requires c κs = search needs
 
 -- src/form.rt:75:9
 returns-2 : tie.Need-returns-2
-returns-2 c = step-other (now (c .before .before .before .before .before .args .s)) (c .before .before .before .before .before .args .at) (c .before .is-capital .result) (c .before .before .before .if1 .left) (c .before .is-capital .ensures) (not-true _ (c .if2 .taken))
+returns-2 c = ap stepMeaning (step-other (now (c .before .before .before .before .before .args .s)) (c .before .before .before .before .before .args .at) (c .before .is-capital .result) (c .before .before .before .if1 .left) (c .before .is-capital .ensures) (not-true _ (c .if2 .taken)))
 
 -- src/form.rt:77:55
 add-number-up-to : tie.Need-add-number-up-to
@@ -45,7 +47,7 @@ enum-told c = search needs
 
 -- src/form.rt:78:9
 returns-3 : tie.Need-returns-3
-returns-3 c = step-bare (now (c .before .before .before .before .before .before .before .before .args .s)) (c .before .before .before .before .before .before .before .before .args .at) (c .before .before .before .before .is-capital .result) (c .before .before .number-up-to .result) (c .before .before .before .before .before .before .if1 .left) (c .before .before .before .before .is-capital .ensures) (not-false _ (c .before .before .before .if2 .left)) (c .before .before .number-up-to .ensures) (c .enum-told .given .1)
+returns-3 c = ap stepMeaning (step-bare (now (c .before .before .before .before .before .before .before .before .args .s)) (c .before .before .before .before .before .before .before .before .args .at) (c .before .before .before .before .is-capital .result) (c .before .before .number-up-to .result) (c .before .before .before .before .before .before .if1 .left) (c .before .before .before .before .is-capital .ensures) (not-false _ (c .before .before .before .if2 .left)) (c .before .before .number-up-to .ensures) (c .enum-told .given .1))
 
 -- src/form.rt:80:24
 cast-t9 : tie.Need-cast-t9
@@ -53,7 +55,7 @@ cast-t9 c = omega (arith, scope-small (now (c .before .before .before .before .b
 
 -- src/form.rt:67:1
 returns-4 : tie.Need-returns-4
-returns-4 c = step-taken (now (c .before .before .before .before .before .before .before .before .before .args .s)) (c .before .before .before .before .before .before .before .before .before .args .at) (c .before .before .before .before .before .is-capital .result) (c .before .before .before .number-up-to .result) (c .before .before .before .before .before .before .before .if1 .left) (c .before .before .before .before .before .is-capital .ensures) (not-false _ (c .before .before .before .before .if2 .left)) (c .before .before .before .number-up-to .ensures) (c .before .v .given .0 .0) (c .before .v .given .0 .1 .0) (c .before .v .given .1)
+returns-4 c = ap stepMeaning (step-taken (now (c .before .before .before .before .before .before .before .before .before .args .s)) (c .before .before .before .before .before .before .before .before .before .args .at) (c .before .before .before .before .before .is-capital .result) (c .before .before .before .number-up-to .result) (c .before .before .before .before .before .before .before .if1 .left) (c .before .before .before .before .before .is-capital .ensures) (not-false _ (c .before .before .before .before .if2 .left)) (c .before .before .before .number-up-to .ensures) (c .before .v .given .0 .0) (c .before .v .given .0 .1 .0) (c .before .v .given .1))
 
 pub next-step-spec : {M : Type 1} → statement M
 next-step-spec =

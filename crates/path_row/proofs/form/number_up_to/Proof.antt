@@ -1,4 +1,5 @@
--- `path_row::form::number_up_to` meets its contract: the number read, held to its limit. Assumes nothing.
+-- `path_row::form::number_up_to` meets its contract: the number read, held to its limit. Assumes
+-- nothing.
 use denote.Ref.{now}
 use lib.ListN.{drop}
 use Rattle.text_field.specs.Number.{numberHere}

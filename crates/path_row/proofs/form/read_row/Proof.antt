@@ -1,4 +1,5 @@
--- `path_row::form::read_row` meets its contract: a mark, a start, steps, and nothing after them. Assumes nothing.
+-- `path_row::form::read_row` meets its contract: a mark, a start, steps, and nothing after them.
+-- Assumes nothing.
 use denote.Ref.{now}
 use Rattle.path_row.proofs.Steps.{row-long, row-headless, row-more, row-whole}
 use borrow.Author.Needs.{needs}

@@ -1,4 +1,5 @@
--- `path_row::form::step_at` meets its contract: the steps stand after the mark and the start. Assumes nothing.
+-- `path_row::form::step_at` meets its contract: the steps stand after the mark and the start.
+-- Assumes nothing.
 use denote.Ref.{now}
 use Rattle.path_row.proofs.Steps.{shown-none, shown}
 use borrow.Author.Needs.{needs}

@@ -1,4 +1,5 @@
--- `path_row::form::step_from` meets its contract. The loop's invariant: the step sought is step k of those that are left. Assumes nothing.
+-- `path_row::form::step_from` meets its contract. The loop's invariant: the step sought is step k
+-- of those that are left. Assumes nothing.
 use denote.Ref.{now}
 use mathlib.Core.Path.{_≡_, refl, sym, _∙_}
 use borrow.Author.Needs.{needs}

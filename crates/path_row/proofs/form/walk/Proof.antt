@@ -1,4 +1,5 @@
--- `path_row::form::walk` meets its contract. The loop's invariant: what is left gives the whole. Assumes nothing.
+-- `path_row::form::walk` meets its contract. The loop's invariant: what is left gives the whole.
+-- Assumes nothing.
 use denote.Ref.{now}
 use borrow.Author.Needs.{needs}
 use native.Mathlib.Omega.{arith}

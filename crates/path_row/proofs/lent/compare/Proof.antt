@@ -1,5 +1,7 @@
--- `path_row::lent::compare` meets its contract: a walk of its MIR, by hand. All that it knows of `decide`, `steps_due` and `fill` is that each meets its contract. Each lent table goes to `fill` at its own lifetime, share and ghost name, so it is given up for good, and what `fill` says of its last records is what is said at exit.
--- Assumes nothing.
+-- `path_row::lent::compare` meets its contract: a walk of its MIR, by hand. All that it knows of
+-- `decide`, `steps_due` and `fill` is that each meets its contract. Each lent table goes to `fill`
+-- at its own lifetime, share and ghost name, so it is given up for good, and what `fill` says of
+-- its last records is what is said at exit. Assumes nothing.
 use mathlib.Core.Path.{_≡_, refl, sym, ap, subst, _∙_}
 use Prim.Native.Nat.{ℕ, _<_, _≤_, _^_}
 use mathlib.Core.List.{[], _∷_, List}
@@ -37,7 +39,7 @@ use denote.Triple.Table.{entered, cited}
 use denote.Triple.Walked.{says, Stays, stay-none-slice, gave-slice, walkOf, goes-none-slice, goes-gave-slice, Walks, ends-at, walked, walk-meets}
 use denote.Exit.{yes}
 use denote.Signature.{plain}
-use Rattle.graph_file.specs.Outcome.{Outcome}
+use Rattle.text_field.specs.Outcome.{Outcome}
 use Rattle.path_row.specs.declared.form.Step.{Step}
 use Rattle.path_row.specs.declared.compare.Compared.{Compared}
 use Rattle.path_row.specs.Form.{stepsIn}
@@ -216,7 +218,8 @@ module _ {M : Type 1} (𝓤 : URA M) (H : Heap 𝓤) (A : Atoms 𝓤) (W : Given
           split ! $ move ! (1 ∷ []) $ use1 W (raw (fact 𝓤 (meaning r ≡ what))) (said-decide r) $ heard ! (meaning r ≡ what) (λ er. split ! $ move ! (1 ∷ []) $
           peeks ! E.the-row (Is E.the-row) (shows 𝓤 H A E.the-row) r (u ∷ []) (λ is.
           land ! (from ! (stop !)) (init ! 25 refl (EL.lawful E.the-type E′.the-laws 𝓤 H A W tt .typed r _ is .0)) $ drop ! $ split ! $ move ! (1 ∷ []) $ drop ! $
-          -- [κ; b; a; text; κ₁; κ₂; first; second; true; true; _13; …]: the first table, and `steps_due`
+          -- [κ; b; a; text; κ₁; κ₂; first; second; true; true; _13; …]: the first table, and
+          -- `steps_due`
           assigns ! (addr ! (from ! (fld ! refl (hop ! (look-in ! 28 (sub ! 0 refl (whole !))) (stop !))))) (from ! (stop !)) (init ! 16 refl (tt, tt)) $
           assigns ! (agg ! (and-then ! (load ! (from ! (stop !)) (look ! 16 refl)) (and-then ! (load ! (from ! (fld ! refl (stop !))) (look-in ! 28 (sub ! 1 refl (whole !)))) (no-more !)))) (from ! (stop !)) (init ! 14 refl (tt, (tt, (record { fits = room-y .0 }, tt)))) $
           move ! (2 ∷ []) $ use1 W (‵ RowA ⊛ ‵ RowA) (shr-slice-copy 𝓤 H A W (named 0) κ u8 .twice (ref ba oa γa as′) (va ∷ [])) $ split ! $ move ! (0 ∷ 2 ∷ []) $
@@ -237,7 +240,8 @@ module _ {M : Type 1} (𝓤 : URA M) (H : Heap 𝓤) (A : Atoms 𝓤) (W : Given
           split ! $ move ! (1 ∷ []) $ heard ! (ws₁ .0 ≡ filled (stepsIn as′) d₁ ys) (λ f₁. fsplit ! $ fsplit ! $ move ! (1 ∷ []) $ feqL ! (λ len₁.
           move ! (1 ∷ []) $ drop ! $ move ! (1 ∷ []) $ split ! $ move ! (1 ∷ []) $ feqL ! (λ v₁.
           land ! (from ! (stop !)) (init ! 17 refl (unit-typed x₁ v₁)) $ split ! $ move ! (1 ∷ []) $ split ! $ move ! (1 ∷ []) $ drop ! $
-          -- [κ; κ₁; the first table's last records; a; b; text; κ₂; second; true; true; _13; …]: the second table, and `steps_due`
+          -- [κ; κ₁; the first table's last records; a; b; text; κ₂; second; true; true; _13; …]:
+          -- the second table, and `steps_due`
           assigns ! (addr ! (from ! (fld ! refl (hop ! (look-in ! 26 (sub ! 0 refl (whole !))) (stop !))))) (from ! (stop !)) (init ! 12 refl (tt, tt)) $
           assigns ! (agg ! (and-then ! (load ! (from ! (stop !)) (look ! 12 refl)) (and-then ! (load ! (from ! (fld ! refl (stop !))) (look-in ! 26 (sub ! 1 refl (whole !)))) (no-more !)))) (from ! (stop !)) (init ! 10 refl (tt, (tt, (record { fits = room-z .0 }, tt)))) $
           move ! (4 ∷ []) $ use1 W (‵ RowB ⊛ ‵ RowB) (shr-slice-copy 𝓤 H A W (named 0) κ u8 .twice (ref bb ob γb bs) (vb ∷ [])) $ split ! $ move ! (0 ∷ 2 ∷ []) $
@@ -248,7 +252,8 @@ module _ {M : Type 1} (𝓤 : URA M) (H : Heap 𝓤) (A : Atoms 𝓤) (W : Given
           split ! $ move ! (1 ∷ []) $ use1 W (raw (fact 𝓤 (d₂ ≡ stepsDue (meaning r) (stepsIn bs)))) (said-due (ref bb ob γb bs) vb r u d₂) $ heard ! (d₂ ≡ stepsDue (meaning r) (stepsIn bs)) (λ e₂. split ! $ move ! (1 ∷ []) $
           peeks ! usize (Is usize) (shows 𝓤 H A usize) d₂ (w₂ ∷ []) (λ is₂.
           land ! (from ! (stop !)) (store ! 21 refl (uint-lawful 𝓤 H A W w64 .typed d₂ _ is₂ .0)) $ drop ! $ split ! $ move ! (1 ∷ []) $ drop ! $
-          -- [κ; b; κ₁; the first table's last records; a; text; κ₂; second; true; true; _13; …]: `fill`
+          -- [κ; b; κ₁; the first table's last records; a; text; κ₂; second; true; true; _13; …]:
+          -- `fill`
           move ! (1 ∷ []) $ use1 W (‵ RowB ⊛ ‵ RowB) (shr-slice-copy 𝓤 H A W (named 0) κ u8 .twice (ref bb ob γb bs) (vb ∷ [])) $ split ! $
           move ! (8 ∷ 0 ∷ []) $ fjoin ! $ move ! (7 ∷ 2 ∷ []) $ fjoin ! $ move ! (1 ∷ 0 ∷ []) $
           use2 W (raw (Fill 𝓤 H A mem run .pre (to-fill κ₂ q₂ (ref b₂ o₂ γ₂ zs) vz (ref bb ob γb bs) vb d₂ w₂))) (goes-fill κ₂ q₂ (ref b₂ o₂ γ₂ zs) vz (ref bb ob γb bs) vb d₂ w₂ (subst (λ (k : ℕ). k ≤ length zs) (sym e₂) (due-b cs as′ bs (length ys) (length zs) (meaning r) er)) is₂) $
@@ -258,7 +263,8 @@ module _ {M : Type 1} (𝓤 : URA M) (H : Heap 𝓤) (A : Atoms 𝓤) (W : Given
           split ! $ move ! (1 ∷ []) $ heard ! (ws₂ .0 ≡ filled (stepsIn bs) d₂ zs) (λ f₂. fsplit ! $ fsplit ! $ move ! (1 ∷ []) $ feqL ! (λ len₂.
           move ! (1 ∷ []) $ drop ! $ move ! (1 ∷ []) $ split ! $ move ! (1 ∷ []) $ feqL ! (λ v₂.
           land ! (from ! (stop !)) (store ! 17 refl (unit-typed x₂ v₂)) $ split ! $ move ! (1 ∷ []) $ split ! $
-          -- [κ; true; κ₂; the second's last records; b; κ₁; the first's last records; a; text; true; true; _13; …]
+          -- [κ; true; κ₂; the second's last records; b; κ₁; the first's last records; a; text;
+          -- true; true; _13; …]
           assigns ! (of-opd ! (load ! (from ! (stop !)) (look ! 25 refl))) (from ! (stop !)) (init ! 37 refl (EL.lawful E.the-type E′.the-laws 𝓤 H A W tt .typed r _ is .0)) $
           returns ! (look ! 37 refl) $ forget ! 11 refl $ forget ! 13 refl $ forget ! 15 refl $ forget ! 17 refl $ forget ! 19 refl $ forget ! 21 refl $ forget ! 23 refl $ forget ! 25 refl $ forget ! 27 refl $ forget ! 29 refl $ forget ! 31 refl $ forget ! 33 refl $ forget ! 35 refl $ forget ! 37 refl $
           move ! (37 ∷ 38 ∷ []) $ free1 ! $ move ! (35 ∷ 36 ∷ []) $ free1 ! $ move ! (33 ∷ 34 ∷ []) $ free1 ! $ move ! (31 ∷ 32 ∷ []) $ free1 ! $ move ! (29 ∷ 30 ∷ []) $ free1 ! $ move ! (27 ∷ 28 ∷ []) $ free1 ! $ move ! (25 ∷ 26 ∷ []) $ free1 ! $ move ! (23 ∷ 24 ∷ []) $ free1 ! $ move ! (21 ∷ 22 ∷ []) $ free1 ! $ move ! (19 ∷ 20 ∷ []) $ free1 ! $ move ! (17 ∷ 18 ∷ []) $ free1 ! $ move ! (15 ∷ 16 ∷ []) $ free1 ! $ move ! (13 ∷ 14 ∷ []) $ free1 ! $ move ! (11 ∷ 12 ∷ []) $ free1 ! $ free0 ! $

@@ -1,5 +1,6 @@
--- `path_row::lent::fill` meets its contract: a walk of its MIR, by hand, with a loop. In each turn a step is asked for, the borrow is opened, element i is stored to, and the borrow is closed at the list with the step there.
--- Assumes nothing.
+-- `path_row::lent::fill` meets its contract: a walk of its MIR, by hand, with a loop. In each turn
+-- a step is asked for, the borrow is opened, element i is stored to, and the borrow is closed at
+-- the list with the step there. Assumes nothing.
 use mathlib.Core.Path.{_≡_, refl, sym, ap, subst, _∙_}
 use Prim.Native.Nat.{ℕ, zero, suc, _+_, _*_, _<_, _≤_, _^_}
 use native.Mathlib.Nat.{add-zero, zero-add, lt-suc-self}

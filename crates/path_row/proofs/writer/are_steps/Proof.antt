@@ -1,4 +1,5 @@
--- `path_row::writer::are_steps` meets its contract. The loop's invariant: the steps that are left decide. Assumes nothing.
+-- `path_row::writer::are_steps` meets its contract. The loop's invariant: the steps that are left
+-- decide. Assumes nothing.
 use borrow.Author.Needs.{needs}
 use borrow.Author.Tests.{not-true, not-false}
 use mathlib.Core.Path.{_≡_, refl, sym, _∙_}

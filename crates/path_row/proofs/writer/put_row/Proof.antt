@@ -1,4 +1,5 @@
--- `path_row::writer::put_row` meets its contract: the mark, a space, the start and the steps. Assumes nothing.
+-- `path_row::writer::put_row` meets its contract: the mark, a space, the start and the steps.
+-- Assumes nothing.
 use denote.Ref.{now}
 use Rattle.path_row.proofs.WriterLaws.{row-put}
 use borrow.Author.Needs.{needs}

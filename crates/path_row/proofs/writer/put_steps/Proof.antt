@@ -1,4 +1,5 @@
--- `path_row::writer::put_steps` meets its contract. The loop's invariant: what is left to write gives the whole. Assumes nothing.
+-- `path_row::writer::put_steps` meets its contract. The loop's invariant: what is left to write
+-- gives the whole. Assumes nothing.
 use borrow.Author.Needs.{needs}
 use denote.Ref.{now}
 use mathlib.Core.Path.{_≡_, refl, sym, ap, _∙_}

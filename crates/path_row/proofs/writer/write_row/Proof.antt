@@ -3,8 +3,8 @@ use mathlib.Core.Path.{sym, _∙_}
 use native.Mathlib.Omega.{arith}
 use borrow.Author.Tests.{not-true, not-false}
 use lib.ListN.{length}
-use Rattle.graph_file.specs.Reader.{answerOf}
-use Rattle.graph_file.proofs.CopyLaws.{answer-refused, leaves-refused, answer-short, leaves-short, answer-fits, leaves-fits}
+use Rattle.text_field.specs.Answer.{answerOf}
+use Rattle.text_field.proofs.AnswerLaws.{answer-refused, leaves-refused, answer-short, leaves-short, answer-fits, leaves-fits}
 use Rattle.path_row.proofs.WriterLaws.{written-none, written-all}
 use borrow.Author.Needs.{needs}
 use Rattle.path_row.proofs.writer.write_row.Statement.{statement}

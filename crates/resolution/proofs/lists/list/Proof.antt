@@ -1,7 +1,7 @@
 -- `list` meets its contract: the rows alone do not fit, or the head does not fit what they leave, or both are written. Assumes nothing.
 use Prim.Native.Nat.{ℕ}
 use lib.ListN.{length-replicate}
-use Rattle.graph_file.specs.Reader.{answerOf}
+use Rattle.text_field.specs.Answer.{answerOf}
 use Rattle.resolution.proofs.Heads.{list-short, no-rows, no-head, head-within, list-whole}
 use borrow.Author.Needs.{needs}
 use Rattle.resolution.proofs.lists.list.Statement.{statement}

@@ -1,5 +1,5 @@
 use Prim.Native.Nat.{ℕ}
-use Rattle.graph_file.specs.Reader.{answerOf}
+use Rattle.text_field.specs.Answer.{answerOf}
 use Rattle.resolution.proofs.Heads.{read-refused, read-written, made-read, made-listed}
 use lib.ListN.{length-replicate}
 use borrow.Author.Needs.{needs}

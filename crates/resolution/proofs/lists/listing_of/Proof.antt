@@ -1,4 +1,4 @@
-use Rattle.graph_file.specs.Reader.{answerOf}
+use Rattle.text_field.specs.Answer.{answerOf}
 use Rattle.resolution.proofs.Heads.{no-query, query-asked, query-listed}
 use borrow.Author.Needs.{needs}
 use Rattle.resolution.proofs.lists.listing_of.Statement.{statement}

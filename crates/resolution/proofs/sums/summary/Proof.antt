@@ -1,6 +1,6 @@
 use Prim.Native.Nat.{ℕ}
 use lib.ListN.{length-replicate}
-use Rattle.graph_file.specs.Reader.{answerOf}
+use Rattle.text_field.specs.Answer.{answerOf}
 use Rattle.resolution.proofs.Heads.{sum-refused, read-written, made-read, made-summed}
 use borrow.Author.Needs.{needs}
 use Rattle.resolution.proofs.sums.summary.Statement.{statement}

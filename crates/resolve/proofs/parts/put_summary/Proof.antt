@@ -1,5 +1,5 @@
 -- `resolve::parts::put_summary` writes what is printed for the summary. Assumes nothing.
-use Rattle.graph_file.specs.Outcome.{done}
+use Rattle.text_field.specs.Outcome.{done}
 use Rattle.resolution.specs.Listing.{summaryOf}
 use Rattle.resolve.proofs.Laws.{in-place}
 use borrow.Author.Needs.{needs}

@@ -1,0 +1,101 @@
+-- The key of a declaration row ascends as its scope, name and mark do (specs/NameOrder).
+-- Assumes nothing.
+use Prim.Native.Nat.{ℕ, _<_}
+use mathlib.Core.Path.{_≡_, refl, sym, _∙_}
+use mathlib.Core.Bool.{Bool, true, false}
+use mathlib.Core.Logic.{_⊎_, inl, inr}
+use mathlib.Core.List.{List, [], _∷_}
+use native.Mathlib.Omega.{arith}
+use lib.Dec.{eqb, ltb}
+use borrow.Author.Tests.{lt-ltb, ltb-true, eq-eqb, eqb-true, ne-eqb}
+use Rattle.text_field.specs.Name.{isNameCells, nameBefore, cellsBefore}
+use Rattle.text_field.proofs.NameLaws.{cells-equal}
+use Rattle.text_field.proofs.OrderLaws.{cells-ordered}
+use Rattle.scope_graph.specs.Language.{_∈_}
+use Rattle.scope_graph.specs.Listing.{Pairwise}
+use Rattle.text_field.specs.Outcome.{done}
+use Rattle.scope_graph.proofs.Lists.{here, there, and-both, or-left, or-right}
+use Rattle.graph_file.specs.Format.{name, field, sections, sectionAt, declarations, declarationSection}
+use Rattle.graph_file.specs.Admission.{Row, value, keyLess}
+use Rattle.graph_file.specs.Line.{itemFormed, fieldFormed}
+use Rattle.graph_file.specs.File.{readCells}
+use Rattle.graph_file.specs.Decode.{rowsIn}
+use Rattle.graph_file.specs.NameOrder.{nameIn, DeclaredBefore, DeclarationsAscend, ReadDeclarationsAscend}
+use Rattle.graph_file.proofs.DecodeWay.{read-admitted}
+use Rattle.graph_file.proofs.DecodeRows.{KeyBefore, key-before}
+use Rattle.graph_file.proofs.DecodeTable.{table-ascends}
+use Rattle.graph_file.proofs.DecodeFormed.{read-formed}
+
+-- what is before by the key passes the test
+before-key : (key : List ℕ) (a b : Row) → KeyBefore key a b → keyLess key a b ≡ true
+unfolding keyLess
+before-key [] a b h = absurd h
+before-key (c ∷ key) a b (inl h) = or-left (ltb (value a c) (value b c)) _ (lt-ltb _ _ h)
+before-key (c ∷ key) a b (inr h) = or-right (ltb (value a c) (value b c)) _ (and-both _ _ (eq-eqb _ _ (h .0)) (before-key key a b (h .1)))
+
+-- two cells in order: the first ones, and where these are equal the second ones
+abbrev CellsLess : ℕ → ℕ → ℕ → ℕ → Type 0
+CellsLess h l h′ l′ = (h < h′) ⊎ ((h ≡ h′) × (l < l′))
+
+cells-before : (h l h′ l′ : ℕ) → CellsLess h l h′ l′ → cellsBefore h l h′ l′ ≡ true
+unfolding cellsBefore
+cells-before h l h′ l′ (inl a) = rw (ne-eqb h h′ (λ e. omega arith), lt-ltb h h′ a, cellsBefore)
+cells-before h l h′ l′ (inr a) = rw (eq-eqb h h′ (a .0), lt-ltb l l′ (a .1), cellsBefore)
+
+cells-less : (h l h′ l′ : ℕ) → cellsBefore h l h′ l′ ≡ true → CellsLess h l h′ l′
+unfolding cellsBefore
+cells-less h l h′ l′ e = by (eqb h h′) refl e
+  where
+    by : (t : Bool) → eqb h h′ ≡ t → (elim t as (λ _. Bool) [ true ↦ ltb l l′ | false ↦ ltb h h′ ]) ≡ true → CellsLess h l h′ l′
+    by true t f = inr (eqb-true h h′ t, ltb-true l l′ f)
+    by false t f = inl (ltb-true h h′ f)
+
+module _ (a b : Row) (named : isNameCells (value a 1) (value a 2) ≡ true) (named′ : isNameCells (value b 1) (value b 2) ≡ true) where
+  abbrev Key : Type 0
+  Key = KeyBefore (0 ∷ 1 ∷ 2 ∷ 3 ∷ []) a b
+
+  names-less : CellsLess (value a 1) (value a 2) (value b 1) (value b 2) → nameBefore (nameIn a) (nameIn b) ≡ true
+  unfolding nameIn
+  names-less h = sym (cells-ordered _ _ _ _ named named′) ∙ cells-before _ _ _ _ h
+
+  declared : Key → DeclaredBefore a b
+  unfolding nameIn
+  declared (inl h) = inl h
+  declared (inr (e, inl h)) = inr (e, inl (names-less (inl h)))
+  declared (inr (e, inr (f, inl h))) = inr (e, inl (names-less (inr (f, h))))
+  declared (inr (e, inr (f, inr (g, inl h)))) = inr (e, inr (rw (f, g), h))
+  declared (inr (e, inr (f, inr (g, inr h)))) = absurd (h .1)
+
+  by-key : DeclaredBefore a b → Key
+  unfolding nameIn
+  by-key (inl h) = inl h
+  by-key (inr (e, inl n)) = inr (e, within (cells-less _ _ _ _ (cells-ordered _ _ _ _ named named′ ∙ n)))
+    where
+      within : CellsLess (value a 1) (value a 2) (value b 1) (value b 2) → KeyBefore (1 ∷ 2 ∷ 3 ∷ []) a b
+      within (inl h) = inl h
+      within (inr h) = inr (h .0, inl (h .1))
+  by-key (inr (e, inr (s, m))) = let c = cells-equal _ _ _ _ named named′ s in inr (e, inr (c .0, inr (c .1, inl m)))
+
+pub declarations-ascend : DeclarationsAscend
+unfolding sectionAt sections declarations
+declarations-ascend a b named named′ =
+    (λ h. declared a b named named′ (key-before (0 ∷ 1 ∷ 2 ∷ 3 ∷ []) a b h), λ h. before-key (0 ∷ 1 ∷ 2 ∷ 3 ∷ []) a b (by-key a b named named′ h))
+
+-- rows with names that ascend by the key
+all-declared : (rows : List Row) → ((row : Row) → row ∈ rows → isNameCells (value row 1) (value row 2) ≡ true) → Pairwise (KeyBefore (0 ∷ 1 ∷ 2 ∷ 3 ∷ [])) rows
+    → Pairwise DeclaredBefore rows
+all-declared [] n p = tt
+all-declared (row ∷ rows) n p =
+    ((λ later m. declared row later (n row here) (n later (there m)) (p .0 later m)), all-declared rows (λ later m. n later (there m)) (p .1))
+
+names-read : (text cells : List ℕ) → readCells text ≡ done cells → (row : Row) → row ∈ rowsIn declarationSection cells → isNameCells (value row 1) (value row 2) ≡ true
+unfolding sectionAt sections declarations itemFormed fieldFormed
+names-read text cells e row m = read-formed declarationSection text cells e row m (field name 1) (there (there here))
+
+pub read-declarations-ascend : ReadDeclarationsAscend
+unfolding sectionAt sections declarations
+read-declarations-ascend text cells e = record {
+  names = names-read text cells e;
+  ascend = all-declared (rowsIn declarationSection cells) (names-read text cells e)
+      (table-ascends cells (read-admitted text cells e) declarationSection (omega arith) refl);
+}

@@ -1,0 +1,189 @@
+-- The name sought is the query's name, at the place of that name in the query's line, and nothing
+-- where there is no such query (specs/Sought). Assumes nothing.
+use Prim.Native.Nat.{ℕ, zero, suc, _+_, _-_, _≤_, _<_}
+use mathlib.Core.Path.{_≡_, refl, sym, ap, _∙_}
+use mathlib.Core.Bool.{true}
+use mathlib.Core.List.{List, [], _∷_, _++_, map, append-assoc}
+use native.Mathlib.Omega.{arith}
+use lib.ListN.{length, getD, take, drop, length-append, length-map}
+use lib.Seq.{split-at, take-at, drop-append-seam, length-take-le}
+use borrow.Author.Tests.{lt-ltb, le-ltb}
+use Rattle.text_field.specs.Bytes.{within, isLower, isDigit, isNameByte}
+use Rattle.text_field.specs.Number.{numberText, numberMeaning}
+use Rattle.text_field.specs.Name.{nameText, isNameCells, nameHere}
+use Rattle.text_field.proofs.NumberLaws.{number-back}
+use Rattle.text_field.proofs.NameLaws.{name-back, cells-name}
+use Rattle.graph_file.specs.Format.{valuesOf, queries, sections, sectionAt, querySection}
+use Rattle.text_field.specs.Outcome.{Outcome, refused, done, andThen}
+use Rattle.graph_file.specs.Admission.{Row, value, blank}
+use Rattle.graph_file.specs.Line.{numberTaken, readField, startsWith, readItem}
+use Rattle.graph_file.specs.File.{Stage, readStage, madeOf, readCells}
+use Rattle.graph_file.specs.Decode.{rulesOf, nameAt, queryOf, rowsIn, queriesOf}
+use Rattle.graph_file.specs.NameSought.{afterLines, lineCount, namePart, restOf, isNameField, fromName, queryFrom, fromWithin, fromSought, nameFront, nameSought, placeFrom, placeSought}
+use Rattle.graph_file.specs.Sought.{TableQuery, seekText, queryLines, beforeLine, SoughtIn, SoughtRight, NothingSought, SoughtNone}
+use Rattle.graph_file.proofs.SoughtLaws.{nowhere}
+use Rattle.graph_file.proofs.SoughtLines.{count-append, Ended, ended-line, ended-append, rowLine, rowLines, Named, AllNamed, named-apart, lines-append, line-then, lines-ended, lines-count}
+use Rattle.graph_file.proofs.SoughtRows.{QueriesRead, queries-read}
+
+-- in a query's line the name comes behind the scope's number and the space
+after-scope : (v : ℕ) (u : List ℕ) → v ≤ 99999 → fromName (sectionAt querySection .row) (numberText v ++ (32 ∷ u)) ≡ u
+unfolding fromName isNameField valuesOf restOf readItem readField numberTaken numberMeaning andThen startsWith sectionAt sections queries isDigit within
+after-scope v u h = rw (number-back v (32 ∷ u) h refl, drop-append-seam (numberText v) (32 ∷ u))
+
+name-first : (high low : ℕ) (s : List ℕ) → isNameCells high low ≡ true → nameFront (nameText high low ++ (10 ∷ s)) ≡ nameText high low
+unfolding nameFront namePart isNameByte isLower isDigit within
+name-first high low s h = rw (name-back high low (10 ∷ s) h refl) (take-at (nameText high low) (10 ∷ s) (length (nameText high low)) refl)
+
+-- the names line ends with LF
+names-ended : (above : List ℕ) → Ended (above ++ sectionAt querySection .names)
+unfolding sectionAt sections queries
+names-ended above n t =
+    let begin : List ℕ = 115 ∷ 116 ∷ 97 ∷ 114 ∷ 116 ∷ 32 ∷ 115 ∷ 101 ∷ 101 ∷ 107 ∷ [] in
+    let e : (above ++ begin) ++ (10 ∷ []) ≡ above ++ (begin ++ (10 ∷ [])) = append-assoc above begin (10 ∷ []) in
+    ap (λ (s : List ℕ). afterLines (lineCount s + n) (s ++ t)) (sym e) ∙ ended-line (above ++ begin) n t
+
+-- the lines of rows a, of one row, and of rows b, behind a part that ends with its last line
+module _ (base : List ℕ) (ended : Ended base) (a : List Row) (row : Row) (b : List Row) (named : AllNamed (a ++ (row ∷ b))) where
+  abbrev front : List ℕ
+  front = base ++ rowLines a
+
+  abbrev last : List ℕ
+  last = nameText (value row 1) (value row 2) ++ (10 ∷ rowLines b)
+
+  lines-split : base ++ rowLines (a ++ (row ∷ b)) ≡ front ++ (rowLine row ++ rowLines b)
+  unfolding rowLines
+  lines-split = ap (λ (s : List ℕ). base ++ s) (lines-append a (row ∷ b)) ∙ sym (append-assoc base (rowLines a) (rowLine row ++ rowLines b))
+
+  line-there : base ++ rowLines (a ++ (row ∷ b)) ≡ front ++ (numberText (value row 0) ++ (32 ∷ last))
+  line-there = lines-split ∙ ap (λ (s : List ℕ). front ++ s) (line-then row (rowLines b))
+
+  -- counted from the end
+  counted : lineCount (base ++ rowLines (a ++ (row ∷ b))) - length (a ++ (row ∷ b)) + length a ≡ lineCount front + 0
+  counted =
+      omega (arith, count-append base (rowLines (a ++ (row ∷ b))), lines-count (a ++ (row ∷ b)) named, count-append base (rowLines a), lines-count a (named-apart a (row ∷ b) named .0))
+
+  line-found : afterLines (lineCount (base ++ rowLines (a ++ (row ∷ b))) - length (a ++ (row ∷ b)) + length a) (base ++ rowLines (a ++ (row ∷ b))) ≡ numberText (value row 0) ++ (32 ∷ last)
+  unfolding afterLines
+  line-found =
+      ap (λ (n : ℕ). afterLines n (base ++ rowLines (a ++ (row ∷ b)))) counted
+      ∙ ap (afterLines (lineCount front + 0)) line-there
+      ∙ ended-append base (rowLines a) ended (lines-ended a) 0 (numberText (value row 0) ++ (32 ∷ last))
+
+  this : Named row
+  this = named-apart a (row ∷ b) named .1 .0
+
+  query-found : queryFrom (length (a ++ (row ∷ b))) (base ++ rowLines (a ++ (row ∷ b))) (length a) ≡ last
+  unfolding queryFrom
+  query-found =
+      rw (lt-ltb (length a) (length (a ++ (row ∷ b))) (omega (arith, length-append a (row ∷ b))), queryFrom)
+      (ap (fromName (sectionAt querySection .row)) line-found ∙ after-scope (value row 0) last (this .scope))
+
+  front-found : nameFront last ≡ nameText (value row 1) (value row 2)
+  front-found = name-first (value row 1) (value row 2) (rowLines b) (this .name)
+
+  place-found : length (base ++ rowLines (a ++ (row ∷ b))) - length last ≡ length front + length (numberText (value row 0)) + 1
+  place-found = omega (arith, ap length line-there, length-append front (numberText (value row 0) ++ (32 ∷ last)), length-append (numberText (value row 0)) (32 ∷ last))
+
+-- what is sought in a text, by the stage that reading ends at
+sought-by : (text : List ℕ) (q : ℕ) (g : Stage) → readStage text ≡ done g → fromSought text q ≡ queryFrom (g .sofar .rows) text q
+unfolding fromSought fromWithin
+sought-by text q g e = rw e
+
+-- the rows' lines are the queries'
+module _ (cells : List ℕ) where
+  abbrev asQuery : Row → TableQuery cells
+  asQuery = queryOf (rulesOf cells)
+
+  lines-are : (rows : List Row) → queryLines cells (map asQuery rows) ≡ rowLines rows
+  unfolding queryLines rowLines seekText queryOf nameAt
+  lines-are [] = refl
+  lines-are (row ∷ rows) =
+      ap (λ (s : List ℕ). numberText (value row 0) ++ (32 ∷ (nameText (value row 1) (value row 2) ++ (10 ∷ s)))) (lines-are rows)
+      ∙ sym (line-then row (rowLines rows))
+
+  taken-are : (q : ℕ) (rows : List Row) → take q (map asQuery rows) ≡ map asQuery (take q rows)
+  taken-are zero rows = refl
+  taken-are (suc q) [] = refl
+  taken-are (suc q) (row ∷ rows) = ap (λ (l : List (TableQuery cells)). asQuery row ∷ l) (taken-are q rows)
+
+  dropped-are : (q : ℕ) (rows : List Row) → drop q (map asQuery rows) ≡ map asQuery (drop q rows)
+  dropped-are zero rows = refl
+  dropped-are (suc q) [] = refl
+  dropped-are (suc q) (row ∷ rows) = dropped-are q rows
+
+  query-at : (q : ℕ) (rows : List Row) (d : TableQuery cells) → q < length rows → getD (map asQuery rows) q d ≡ asQuery (getD rows q blank)
+  query-at q [] d h = absurd (omega arith)
+  query-at zero (row ∷ rows) d h = refl
+  query-at (suc q) (row ∷ rows) d h = query-at q rows d (omega arith)
+
+  -- the query of a row
+  row-sought : (text : List ℕ) → QueriesRead text cells → (q : ℕ) → q < length (rowsIn querySection cells)
+      → SoughtIn cells text q (asQuery (getD (rowsIn querySection cells) q blank))
+  unfolding queriesOf queryOf nameAt seekText queryLines beforeLine nameSought placeSought placeFrom
+  row-sought text r q h =
+      let rows = rowsIn querySection cells in
+      let a = take q rows in
+      let row = getD rows q blank in
+      let b = drop (suc q) rows in
+      let names = sectionAt querySection .names in
+      let base = r .above ++ names in
+      let split : rows ≡ a ++ (row ∷ b) = split-at rows q blank h in
+      let named : AllNamed (a ++ (row ∷ b)) = rw split at (r .named) in
+      let long : length a ≡ q = length-take-le q rows (omega (arith, h)) in
+      let whole : text ≡ base ++ rowLines (a ++ (row ∷ b)) = r .whole ∙ sym (append-assoc (r .above) names (rowLines rows)) ∙ ap (λ (l : List Row). base ++ rowLines l) split in
+      let ended = names-ended (r .above) in
+      let found : fromSought text q ≡ last base ended a row b named =
+      sought-by text q (r .stage) (r .came)
+      ∙ ap (λ (n : ℕ). queryFrom n text q) (r .count ∙ ap length split)
+      ∙ ap (λ (t : List ℕ). queryFrom (length (a ++ (row ∷ b))) t q) whole
+      ∙ ap (queryFrom (length (a ++ (row ∷ b))) (base ++ rowLines (a ++ (row ∷ b)))) (sym long)
+      ∙ query-found base ended a row b named in
+      let name : nameFront (fromSought text q) ≡ nameText (value row 1) (value row 2) = ap nameFront found ∙ front-found base ended a row b named in
+      let before : rowLines a ≡ queryLines cells (take q (queriesOf cells)) = sym (ap (queryLines cells) (taken-are q rows) ∙ lines-are a) in
+      let before-is : base ++ rowLines a ≡ beforeLine cells (r .above) q = append-assoc (r .above) names (rowLines a) ∙ ap (λ (s : List ℕ). r .above ++ (names ++ s)) before in
+      let after : rowLines b ≡ queryLines cells (drop (suc q) (queriesOf cells)) = sym (ap (queryLines cells) (dropped-are (suc q) rows) ∙ lines-are b) in
+      let around : List ℕ → List ℕ → List ℕ = λ s t. s ++ (numberText (value row 0) ++ (32 ∷ (nameText (value row 1) (value row 2) ++ (10 ∷ t)))) in
+      record {
+        above = r .above;
+        lines =
+            whole ∙ line-there base ended a row b named ∙ ap (around (base ++ rowLines a)) after
+            ∙ ap (λ (s : List ℕ). around s (queryLines cells (drop (suc q) (queriesOf cells)))) before-is;
+        name = name;
+        is-name = cells-name (value row 1) (value row 2) (this base ended a row b named .name) .name;
+        from = ap (λ (s : List ℕ). length text - length s) found ∙ ap (λ (t : List ℕ). length t - length (last base ended a row b named)) whole ∙ place-found base ended a row b named ∙ ap (λ (s : List ℕ). length s + length (numberText (value row 0)) + 1) before-is;
+        to = ap (λ (s : List ℕ). length text - length (fromSought text q) + length s) name;
+      }
+
+pub sought-right : SoughtRight
+unfolding queriesOf
+sought-right text cells e q h d =
+    let rows = rowsIn querySection cells in
+    let k : q < length rows = rw (length-map rows (queryOf (rulesOf cells))) at h in
+    rw (query-at cells q rows d k) (row-sought cells text (queries-read text cells e) q k)
+
+-- where no part of the text is sought
+nothing : (text : List ℕ) (q : ℕ) → fromSought text q ≡ [] → NothingSought text q
+unfolding nameSought placeSought nameFront namePart nameHere
+nothing text q e =
+    let p = nowhere text (fromSought text q) e in
+    record { name = ap nameFront e; from = sym (p .0); to = sym (p .1) }
+
+from-refused : (text : List ℕ) (q n : ℕ) → readCells text ≡ refused n → fromSought text q ≡ []
+unfolding readCells madeOf andThen fromSought fromWithin
+from-refused text q n e = go (readStage text) e
+  where
+    go : (o : Outcome Stage) → madeOf o ≡ refused n → fromWithin o text q ≡ []
+    go (refused m) f = refl
+    go (done g) f = absurd (let z : _≡_ {A = ℕ} 0 1 = cc in omega arith)
+
+from-absent : (text cells : List ℕ) → QueriesRead text cells → (q : ℕ) → length (queriesOf cells) ≤ q → fromSought text q ≡ []
+unfolding queriesOf queryFrom
+from-absent text cells r q h =
+    let none : r .stage .sofar .rows ≤ q = omega (arith, h, r .count, length-map (rowsIn querySection cells) (queryOf (rulesOf cells))) in
+    sought-by text q (r .stage) (r .came) ∙ rw (le-ltb q (r .stage .sofar .rows) none, queryFrom)
+
+pub sought-none : SoughtNone
+sought-none = record {
+  file-refused = λ text n e q. nothing text q (from-refused text q n e);
+  query-absent = λ text cells e q h. nothing text q (from-absent text cells (queries-read text cells e) q h);
+}

@@ -1,0 +1,108 @@
+// The text of one line, by the items at a place of the format.
+use crate::format::item;
+use crate::rows::value;
+use text_field::cell;
+use text_field::put_byte;
+use text_field::put_name;
+use text_field::put_number;
+ghost use mathlib.Core.Path.{_≡_};
+ghost use Prim.Native.Nat.{_%_};
+ghost use lib.ListN.{getD, drop};
+ghost use Rattle.text_field.specs.Buffer.{Buf, puts};
+ghost use Rattle.graph_file.specs.Line.{endByte, fieldText, itemText, lineText};
+ghost use Rattle.graph_file.specs.Table.{kindOf, itemOf, itemsAt, lettersAt};
+
+// The letter of a label's number; 0 where there is no such label.
+fn letter_of(table: &[u64], labels: u32, v: u64) -> u64
+    ensures answer { λ r. ⌜ r ≡ getD (lettersAt labels (drop 1 (now (table .entry)))) v 0 ⌝ }
+{
+    if v < labels as u64 {
+        return cell(table, 1 + 6 * (v as usize) + 1, 0);
+    }
+    0
+}
+
+// The byte of a cell.
+fn byte_of(v: u64) -> u8
+    ensures answer { λ r. ⌜ r ≡ v % 256 ⌝ }
+{
+    (v % 256) as u8
+}
+
+// The byte of an end: the end mark `$`, or its label's letter.
+fn end_byte(table: &[u64], labels: u32, v: u64) -> u8
+    ensures answer { λ r. ⌜ r ≡ endByte (lettersAt labels (drop 1 (now (table .entry)))) v ⌝ }
+{
+    if v == 0 {
+        return b'$';
+    }
+    byte_of(letter_of(table, labels, v - 1))
+}
+
+// The text of a field of this kind.
+fn put_field(
+    table: &[u64],
+    labels: u32,
+    kind: u8,
+    v: u64,
+    w: u64,
+    out: &mut [u8],
+    n: usize,
+) -> usize
+    ensures written { λ r. ⌜ _≡_ {A = Buf} (now (out .exit), r)
+        (puts (now (out .entry), n)
+        (fieldText (lettersAt labels (drop 1 (now (table .entry)))) (kindOf kind) v w)) ⌝ }
+{
+    if kind < 4 {
+        return put_number(out, n, v);
+    }
+    match kind {
+        4 => put_byte(out, n, byte_of(v)),
+        5 => put_byte(out, n, byte_of(letter_of(table, labels, v))),
+        6 => put_byte(out, n, end_byte(table, labels, v)),
+        _ => put_name(out, n, v, w),
+    }
+}
+
+// The text of the item of a code in a row's line.
+fn put_item(table: &[u64], labels: u32, x: u8, row: [u64; 5], out: &mut [u8], n: usize) -> usize
+    ensures written { λ r. ⌜ _≡_ {A = Buf} (now (out .exit), r)
+        (puts (now (out .entry), n) (itemText (lettersAt labels (drop 1 (now (table .entry)))) row (itemOf x))) ⌝ }
+{
+    if x < 128 {
+        return put_byte(out, n, x);
+    }
+    let c = (x % 8) as usize;
+    put_field(
+        table,
+        labels,
+        (x - 128) / 8,
+        value(row, c),
+        value(row, c + 1),
+        out,
+        n,
+    )
+}
+
+// The line of the items at a place of the format: a names line, or a row's line.
+pub fn put_line(
+    table: &[u64],
+    labels: u32,
+    o: usize,
+    row: [u64; 5],
+    out: &mut [u8],
+    n: usize,
+) -> usize
+    ensures written { λ r. ⌜ _≡_ {A = Buf} (now (out .exit), r)
+        (puts (now (out .entry), n) (lineText (lettersAt labels (drop 1 (now (table .entry)))) (itemsAt o) row)) ⌝ }
+{
+    let mut i = o;
+    let mut k = n;
+    let mut x = item(i);
+    while x != 10 {
+        k = put_item(table, labels, x, row, out, k);
+        i += 1;
+        x = item(i);
+    }
+    put_byte(out, k, 10)
+}

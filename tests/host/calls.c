@@ -1,0 +1,139 @@
+/* Calls every function of the header from C, on document 01's example given as the one argument, and compares the answers
+ * with what the document says. It is the test of the header's declarations: the Rust wrapper has its own. With the word
+ * `words` as its argument it prints what the header says of each refusal. */
+#include "tewhoranu.h"
+
+#include <stdio.h>
+#include <stdlib.h>
+#include <string.h>
+
+static uint8_t text[TEWHORANU_TEXT + 1];
+static uint8_t out[TEWHORANU_LISTING];
+static uint64_t table[TEWHORANU_CELLS];
+static tewhoranu_step steps[TEWHORANU_STEPS];
+static tewhoranu_step others[TEWHORANU_STEPS];
+
+static void expect(int holds, const char *what)
+{
+    if (!holds) {
+        fprintf(stderr, "calls: %s\n", what);
+        exit(1);
+    }
+}
+
+#define EXPECT(test) expect((test), #test)
+
+/* Is the answer this case, with no steps counted? */
+static int is_case(uint64_t answer, unsigned which)
+{
+    return !tewhoranu_refused(answer) && tewhoranu_case(answer) == which && tewhoranu_equal_steps(answer) == 0;
+}
+
+static const uint8_t *bytes(const char *string) { return (const uint8_t *)string; }
+
+static int holds(const tewhoranu_step *step, char label, int scope)
+{
+    return step->label == label && step->scope == scope;
+}
+
+/* Is the text refused by this number, with the first `old` in it made `new`? Nothing lent changes then. */
+static int refused_with(size_t length, const char *old, const char *new, uint64_t number)
+{
+    static uint8_t changed[TEWHORANU_TEXT];
+    const char *found = strstr((const char *)text, old);
+    size_t before, rest;
+    uint64_t place = 7;
+
+    expect(found != NULL, old);
+    before = (size_t)(found - (const char *)text);
+    rest = length - before - strlen(old);
+    memcpy(changed, text, before);
+    memcpy(changed + before, new, strlen(new));
+    memcpy(changed + before + strlen(new), found + strlen(old), rest);
+    length = before + strlen(new) + rest;
+    out[0] = 'x';
+    return tewhoranu_read(changed, length, table, TEWHORANU_CELLS) == number
+        && tewhoranu_summary(changed, length, out, TEWHORANU_SUMMARY) == number
+        && tewhoranu_compare(changed, length, bytes("1 2"), 3, bytes("1 2"), 3, steps, 1, others, 1) == number
+        && tewhoranu_name_sought(changed, length, 0, &place) == 0 && place == 7 && out[0] == 'x';
+}
+
+static int print_words(void)
+{
+    uint64_t number;
+
+    for (number = TEWHORANU_TOO_LONG; number <= TEWHORANU_NO_ROOM; number++)
+        printf("refused %d: %s\n", (int)number, tewhoranu_refusal_text(number));
+    return 0;
+}
+
+int main(int argc, char **argv)
+{
+    static const char listing[] = "start seek found awaits\n3 service one 3$\nmark path\n10 3P1\n";
+    static const char summary[] = "queries one several none share\n3 3 0 0 100\n";
+    static const char visible[] = "21 2", shadowed[] = "10 2P1", unreached[] = "5 2P1P0";
+    FILE *file = argc == 2 ? fopen(argv[1], "rb") : NULL;
+    size_t length, cells;
+    uint64_t answer, place = 7;
+
+    if (argc == 2 && strcmp(argv[1], "words") == 0)
+        return print_words();
+    expect(file != NULL, "the example's file is the one argument");
+    length = fread(text, 1, sizeof text, file);
+
+    answer = tewhoranu_read(text, length, table, TEWHORANU_CELLS);
+    EXPECT(!tewhoranu_refused(answer));
+    cells = tewhoranu_written(answer);
+    EXPECT(cells == 1 + 6 * 23 && table[1] == 0 && table[2] == 'I');
+    EXPECT(tewhoranu_read(text, length, table, cells - 1) == TEWHORANU_NO_ROOM);
+    EXPECT(tewhoranu_read(text, length - 1, table, cells) == TEWHORANU_MALFORMED);
+    EXPECT(tewhoranu_read(text, TEWHORANU_TEXT + 1, table, cells) == TEWHORANU_TOO_LONG);
+
+    EXPECT(refused_with(length, "1 P 0\n2", "9 P 0\n2", TEWHORANU_OUT_OF_RANGE));
+    EXPECT(refused_with(length, "1 P 0\n2", "3 P 0\n2", TEWHORANU_NOT_ASCENDING));
+    EXPECT(refused_with(length, "scopes\n5\n", "scopes\n5\n5\n", TEWHORANU_TOO_MANY_ROWS));
+    EXPECT(refused_with(length, "$ I\n", "$ $\n", TEWHORANU_NO_ORDER));
+
+    answer = tewhoranu_write(table, cells, out, sizeof out);
+    EXPECT(answer == TEWHORANU_DONE + length && memcmp(out, text, length) == 0);
+    EXPECT(tewhoranu_write(table, cells, out, length - 1) == TEWHORANU_NO_ROOM);
+
+    EXPECT(tewhoranu_name_sought(text, length, 3, &place) == 0 && place == 7);
+    EXPECT(tewhoranu_name_sought(text, length, 2, &place) == 5 && memcmp(text + place, "hours", 5) == 0);
+    EXPECT(place == length - 6);
+
+    answer = tewhoranu_listing(text, length, 1, out, sizeof out);
+    EXPECT(answer == TEWHORANU_DONE + strlen(listing) && memcmp(out, listing, strlen(listing)) == 0);
+    EXPECT(tewhoranu_listing(text, length, 1, out, strlen(listing)) == answer);
+    EXPECT(tewhoranu_listing(text, length, 1, out, strlen(listing) - 1) == TEWHORANU_NO_ROOM);
+    EXPECT(tewhoranu_listing(text, length, 3, out, sizeof out) == TEWHORANU_NO_QUERY);
+
+    answer = tewhoranu_summary(text, length, out, TEWHORANU_SUMMARY);
+    EXPECT(answer == TEWHORANU_DONE + strlen(summary) && memcmp(out, summary, strlen(summary)) == 0);
+
+    answer = tewhoranu_judge(text, length, 0, bytes(visible), strlen(visible), steps, TEWHORANU_STEPS);
+    EXPECT(is_case(answer, TEWHORANU_VISIBLE));
+    EXPECT(holds(&steps[0], 0, 0));
+    answer = tewhoranu_judge(text, length, 0, bytes(shadowed), strlen(shadowed), steps, 1);
+    EXPECT(is_case(answer, TEWHORANU_SHADOWED));
+    EXPECT(holds(&steps[0], 'P', 1) && holds(&steps[1], 0, 0));
+    answer = tewhoranu_judge(text, length, 0, bytes(unreached), strlen(unreached), steps, 2);
+    EXPECT(is_case(answer, TEWHORANU_UNREACHED));
+    EXPECT(holds(&steps[0], 'P', 1) && holds(&steps[1], 'P', 0) && holds(&steps[2], 0, 0));
+    EXPECT(tewhoranu_judge(text, length, 0, bytes(unreached), strlen(unreached), steps, 1) == TEWHORANU_NO_ROOM);
+    EXPECT(tewhoranu_judge(text, length, 0, bytes("2"), 1, steps, 1) == TEWHORANU_NO_PATH_ROW);
+    EXPECT(tewhoranu_judge(text, length, 3, bytes("2"), 1, steps, 1) == TEWHORANU_NO_QUERY);
+
+    memset(steps, 0, sizeof steps);
+    answer = tewhoranu_compare(text, length, bytes(visible), strlen(visible), bytes(unreached), strlen(unreached), steps,
+                               TEWHORANU_STEPS, others, TEWHORANU_STEPS);
+    EXPECT(is_case(answer, TEWHORANU_FIRST) && holds(&steps[0], 0, 0) && holds(&others[1], 'P', 0));
+    answer = tewhoranu_compare(text, length, bytes(unreached), strlen(unreached), bytes(visible), strlen(visible), steps, 2,
+                               others, 0);
+    EXPECT(is_case(answer, TEWHORANU_SECOND) && holds(&steps[1], 'P', 0));
+    answer = tewhoranu_compare(text, length, bytes(visible), strlen(visible), bytes(visible), strlen(visible), steps, 0,
+                               others, 0);
+    EXPECT(is_case(answer, TEWHORANU_NEITHER));
+    puts("calls: ok");
+    return 0;
+}

@@ -1,0 +1,71 @@
+//! The files that the test is run on: random, damaged, faulty, and at the limits.
+
+use plain::random::{damage, gym, Rng, MIDDLE, SMALL};
+
+/// Where a line that is this names line stands.
+fn names_line(lines: &[&[u8]], names: &[u8]) -> Option<usize> {
+    lines.iter().position(|line| *line == names)
+}
+
+/// The file without its order pairs; the file as it is where it is too damaged to tell them.
+pub fn without_pairs(text: &[u8]) -> Vec<u8> {
+    let mut lines: Vec<&[u8]> = text.split_inclusive(|&b| b == b'\n').collect();
+    if let (Some(less), Some(state)) = (names_line(&lines, b"less more\n"), names_line(&lines, b"state label next\n")) {
+        if less < state {
+            lines.drain(less + 1..state);
+        }
+    }
+    lines.concat()
+}
+
+/// A file that is whole line by line, with a fault that small damage seldom makes: an order pair left out, an order pair with
+/// equal ends, a second count of scopes.
+fn faulty(rng: &mut Rng, text: &[u8]) -> Vec<u8> {
+    let mut lines: Vec<&[u8]> = text.split_inclusive(|&b| b == b'\n').collect();
+    let at = |names: &[u8]| names_line(&lines, names).expect("an accepted file has them all");
+    let pairs = at(b"less more\n") + 1..at(b"state label next\n");
+    let scopes = at(b"scopes\n") + 1;
+    match rng.below(3) {
+        0 if !pairs.is_empty() => {
+            lines.remove(pairs.start + rng.below(pairs.len()));
+        }
+        1 => {
+            lines.splice(pairs, [&b"$ $\n"[..]]);
+        }
+        _ => lines.insert(scopes, lines[scopes]),
+    }
+    lines.concat()
+}
+
+/// A random file: small or of middle size, whole or with a fault.
+pub fn file(rng: &mut Rng) -> Vec<u8> {
+    let text = if rng.below(4) == 0 { gym(rng, MIDDLE) } else { gym(rng, SMALL) };
+    match rng.below(6) {
+        0 | 1 => damage(rng, &text),
+        2 => faulty(rng, &text),
+        _ => text,
+    }
+}
+
+/// The file whose search goes deepest: all 512 edges leave one scope, and only the last one leads to the name, so that the walk is at
+/// that row when it asks about the labels that are preferred to its own, and each question goes through all the rows again.
+fn deepest() -> Vec<u8> {
+    let mut text = String::from("label\n");
+    let labels = "ABCDEFGH";
+    let lines = |section: &str, rows: Vec<String>| format!("{section}\n{}", rows.concat());
+    text += &labels.chars().map(|l| format!("{l}\n")).collect::<String>();
+    let pairs = labels.chars().flat_map(|a| format!("${labels}").chars().filter(move |&b| b == '$' || a < b).map(move |b| format!("{a} {b}\n")).collect::<Vec<_>>());
+    text += &lines("less more", pairs.collect());
+    text += &lines("state label next", labels.chars().enumerate().map(|(next, l)| format!("0 {l} {next}\n")).collect());
+    text += "accept\n7\nscopes\n64\n";
+    text += &lines("from label to", labels.chars().flat_map(|l| (0..64).map(move |to| format!("0 {l} {to}\n"))).collect());
+    text += "at name mark\n63 service 1\nat open\n63 $\nstart seek\n0 service\n";
+    text.into_bytes()
+}
+
+/// Files at the limits: empty, the longest, one byte more, the one that goes deepest.
+pub fn limits() -> Vec<Vec<u8>> {
+    let longest = vec![b'0'; tewhoranu::TEXT];
+    let longer = vec![b'0'; tewhoranu::TEXT + 1];
+    vec![Vec::new(), b"\n".to_vec(), b"label".to_vec(), longest, longer, vec![0xff; 100], deepest()]
+}

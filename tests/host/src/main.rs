@@ -1,0 +1,88 @@
+//! The host test: the library, through its Rust wrapper, against the plain Rust implementation, on random and damaged
+//! files, graph tables and path rows, with lent memory of every length about the due one; then the C example and the
+//! program against the plain implementation.
+//!
+//! host_test FILES EXAMPLE PROGRAM RUNS [GYM..]: so many random files in process, so many runs of each of the two programs, and
+//! both programs on the gym files named. `host_test words` prints what the wrapper says of each refusal.
+
+mod calls;
+mod files;
+mod programs;
+
+use calls::{Tally, Test};
+use files::{file, limits};
+use plain::random::Rng;
+use programs::{print_the_same, words, Program};
+use std::env;
+use std::fs;
+use std::process::exit;
+use std::thread;
+
+fn differ(call: &str, text: &[u8], detail: String) -> ! {
+    eprintln!("{call} differs: {detail}\non the text\n{}", String::from_utf8_lossy(text));
+    exit(1);
+}
+
+/// What each call must have answered at least once.
+const DUE: [(&str, &[&str]); 7] = [
+    ("read", &["written", "refused 1", "refused 2", "refused 3", "refused 4", "refused 5", "refused 6", "refused 9"]),
+    ("write", &["written", "refused 2", "refused 3", "refused 4", "refused 5", "refused 6", "refused 9"]),
+    ("name_sought", &["found", "none"]),
+    ("listing", &["written", "refused 1", "refused 2", "refused 3", "refused 4", "refused 5", "refused 6", "refused 7", "refused 9"]),
+    ("judge", &["visible", "shadowed", "unreached", "refused 1", "refused 2", "refused 7", "refused 8", "refused 9"]),
+    ("compare", &["first", "second", "neither", "refused 1", "refused 2", "refused 8", "refused 9"]),
+    ("summary", &["written", "refused 1", "refused 2", "refused 3", "refused 4", "refused 5", "refused 6", "refused 9"]),
+];
+
+fn run(args: &[String]) {
+    if args == ["words"] {
+        print!("{}", words());
+        return;
+    }
+    let [files, example, program, runs, gyms @ ..] = args else {
+        eprintln!("host_test FILES EXAMPLE PROGRAM RUNS [GYM..]");
+        exit(2);
+    };
+    let files: usize = files.parse().expect("a number");
+    let runs: usize = runs.parse().expect("a number");
+    let mut test = Test { rng: Rng::new(1), tally: Tally::default() };
+    for text in limits() {
+        test.text(&text);
+    }
+    for seed in 0..files {
+        let text = file(&mut Rng::new(1000 + seed as u64));
+        test.text(&text);
+    }
+    for (call, answers) in DUE {
+        for answer in answers {
+            let times = test.tally.0.get(&(call, answer.to_string())).copied().unwrap_or(0);
+            if times == 0 {
+                eprintln!("{call} never answered '{answer}'");
+                exit(1);
+            }
+        }
+        let all: Vec<String> =
+            test.tally.0.iter().filter(|((c, _), _)| *c == call).map(|((_, a), n)| format!("{a} {n}")).collect();
+        println!("{call}: {}", all.join(", "));
+    }
+    let both = [Program { name: example, words: true }, Program { name: program, words: false }];
+    for text in limits() {
+        print_the_same(&both, &text);
+    }
+    for seed in 0..runs {
+        print_the_same(&both, &file(&mut Rng::new(500_000 + seed as u64)));
+    }
+    for gym in gyms {
+        print_the_same(&both, &fs::read(gym).unwrap_or_else(|e| panic!("{gym}: {e}")));
+    }
+    println!("{files} files in process, {} files by both programs", runs + gyms.len());
+}
+
+fn main() {
+    // on no more stack than the header asks for
+    let args: Vec<String> = env::args().skip(1).collect();
+    let test = thread::Builder::new().stack_size(tewhoranu::STACK).spawn(move || run(&args));
+    if test.expect("a thread").join().is_err() {
+        exit(1);
+    }
+}

@@ -1,0 +1,198 @@
+//! Listing, judge and summary.
+
+use crate::gym::{push_end, push_name, push_number, Gym, Query, Refusal};
+use crate::path_row::{fill, PathRow, Step};
+use crate::search::{Go, Rules, Search};
+
+#[derive(Clone, Copy, Debug, PartialEq, Eq)]
+pub enum Standing {
+    Visible,
+    Shadowed,
+    Unreached,
+}
+
+const HEAD: &[u8] = b"start seek found awaits\n";
+const ROWS: &[u8] = b"mark path\n";
+
+/// Appends a query's listing to `out` and answers its number of entries, two meaning several; or,
+/// where the listing is longer than `limit`, appends nothing and answers `None`.
+pub fn push_listing(
+    rules: &Rules,
+    gym: &Gym,
+    query: Query,
+    limit: usize,
+    out: &mut Vec<u8>,
+) -> Option<u8> {
+    let search = Search::new(rules, query.start, query.name);
+    let mut rows = Vec::new();
+    let mut found = 0;
+    search.entries(&mut |steps, mark| {
+        found = 2.min(found + 1);
+        push_number(&mut rows, u64::from(mark));
+        rows.push(b' ');
+        push_number(&mut rows, u64::from(query.start));
+        for step in steps {
+            rows.push(gym.labels[step.label as usize]);
+            push_number(&mut rows, u64::from(step.to));
+        }
+        rows.push(b'\n');
+        if rows.len() > limit {
+            Go::Stop
+        } else {
+            Go::On
+        }
+    });
+    if rows.len() > limit {
+        return None;
+    }
+    let before = out.len();
+    out.extend_from_slice(HEAD);
+    push_number(out, u64::from(query.start));
+    out.push(b' ');
+    push_name(out, query.name);
+    out.extend_from_slice([&b" none "[..], b" one ", b" several "][found as usize]);
+    match search.awaits() {
+        None => out.push(b'-'),
+        Some((scope, end)) => {
+            push_number(out, u64::from(scope));
+            push_end(out, &gym.labels, u64::from(end));
+        }
+    }
+    out.push(b'\n');
+    out.extend_from_slice(ROWS);
+    out.extend_from_slice(&rows);
+    if out.len() - before > limit {
+        out.truncate(before);
+        return None;
+    }
+    Some(found)
+}
+
+/// A query's entries, counted up to two.
+pub fn count(rules: &Rules, query: Query) -> u8 {
+    let mut found = 0;
+    Search::new(rules, query.start, query.name).entries(&mut |_, _| {
+        found += 1;
+        if found == 2 {
+            Go::Stop
+        } else {
+            Go::On
+        }
+    });
+    found
+}
+
+/// How many queries found none, one and several.
+pub type Figures = [u64; 3];
+
+/// Whole per cent to the nearest, an exact half to the even one: half up, and one back from an odd number at the half.
+fn share(one: u64, queries: u64) -> u64 {
+    let up = (200 * one + queries) / (2 * queries);
+    let half = (200 * one + queries) % (2 * queries) == 0;
+    if half && up % 2 == 1 {
+        up - 1
+    } else {
+        up
+    }
+}
+
+pub fn push_summary(figures: &Figures, out: &mut Vec<u8>) {
+    let [none, one, several] = *figures;
+    let queries = none + one + several;
+    out.extend_from_slice(b"queries one several none share\n");
+    for value in [queries, one, several, none] {
+        push_number(out, value);
+        out.push(b' ');
+    }
+    if queries == 0 {
+        out.push(b'-');
+    } else {
+        push_number(out, share(one, queries));
+    }
+    out.push(b'\n');
+}
+
+fn put(text: &[u8], out: &mut [u8]) -> Result<usize, Refusal> {
+    out.get_mut(..text.len()).ok_or(9)?.copy_from_slice(text);
+    Ok(text.len())
+}
+
+pub fn listing(text: &[u8], query: usize, out: &mut [u8]) -> Result<usize, Refusal> {
+    let gym = Gym::parse(text)?;
+    let query = *gym.queries.get(query).ok_or(7)?;
+    let mut listing = Vec::new();
+    push_listing(&Rules::new(&gym), &gym, query, out.len(), &mut listing).ok_or(9)?;
+    put(&listing, out)
+}
+
+pub fn summary(text: &[u8], out: &mut [u8]) -> Result<usize, Refusal> {
+    let gym = Gym::parse(text)?;
+    let rules = Rules::new(&gym);
+    let mut figures = [0; 3];
+    for &query in &gym.queries {
+        figures[count(&rules, query) as usize] += 1;
+    }
+    let mut summary = Vec::new();
+    push_summary(&figures, &mut summary);
+    put(&summary, out)
+}
+
+pub fn judge_row(gym: &Gym, rules: &Rules, query: Query, row: &PathRow) -> Standing {
+    let mut steps = Vec::with_capacity(row.steps.len());
+    for step in &row.steps {
+        match gym.labels.iter().position(|&l| l == step.letter) {
+            Some(label) => steps.push((label as u8, step.scope)),
+            None => return Standing::Unreached,
+        }
+    }
+    match Search::new(rules, query.start, query.name).visible(row.start, &steps, row.mark) {
+        None => Standing::Unreached,
+        Some(true) => Standing::Visible,
+        Some(false) => Standing::Shadowed,
+    }
+}
+
+pub fn judge(
+    text: &[u8],
+    query: usize,
+    row: &[u8],
+    table: &mut [Step],
+) -> Result<Standing, Refusal> {
+    let gym = Gym::parse(text)?;
+    let query = *gym.queries.get(query).ok_or(7)?;
+    let row = PathRow::parse(row).ok_or(8)?;
+    if row.steps.len() > table.len() {
+        return Err(9);
+    }
+    fill(table, &row);
+    Ok(judge_row(&gym, &Rules::new(&gym), query, &row))
+}
+
+/// What the program prints for a file.
+pub fn program(text: &[u8]) -> Vec<u8> {
+    let mut out = Vec::new();
+    let gym = match Gym::parse(text) {
+        Ok(gym) => gym,
+        Err(number) => {
+            push_refused(number, &mut out);
+            return out;
+        }
+    };
+    let rules = Rules::new(&gym);
+    let mut figures = [0; 3];
+    for &query in &gym.queries {
+        let found = push_listing(&rules, &gym, query, 65_536, &mut out).unwrap_or_else(|| {
+            push_refused(9, &mut out);
+            count(&rules, query)
+        });
+        figures[found as usize] += 1;
+    }
+    push_summary(&figures, &mut out);
+    out
+}
+
+fn push_refused(number: Refusal, out: &mut Vec<u8>) {
+    out.extend_from_slice(b"refused ");
+    push_number(out, u64::from(number));
+    out.push(b'\n');
+}

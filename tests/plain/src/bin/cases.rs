@@ -1,0 +1,166 @@
+//! Answers the cases of `crates/trials/stdin` on standard output, in the form of the `stdout` beside it: a check of
+//! this implementation against answers made by other code. `tests/trials/cases/case_file.py` says how cases stand.
+
+use plain::path_row::{self, Compared, PathRow, Step};
+use plain::{answers, gym};
+use std::io::{self, Read, Write};
+
+const BLANK: Step = Step {
+    letter: 0,
+    scope: 255,
+};
+
+fn sum(numbers: impl Iterator<Item = u64>) -> u64 {
+    numbers.fold(0, |s, x| (s * 1_000_003 + x + 1) % 4_294_967_291)
+}
+
+fn byte_sum(bytes: &[u8]) -> u64 {
+    sum(bytes.iter().map(|&b| u64::from(b)))
+}
+
+fn halves(cells: &[u64]) -> impl Iterator<Item = u64> + '_ {
+    cells.iter().flat_map(|c| [c >> 32, c & 0xFFFF_FFFF])
+}
+
+fn kept<T: PartialEq>(lent: &[T], filler: T) -> &'static str {
+    if lent.iter().all(|x| *x == filler) {
+        "kept"
+    } else {
+        "CHANGED"
+    }
+}
+
+fn back(same: bool) -> &'static str {
+    if same {
+        "back the same"
+    } else {
+        "NOT BACK"
+    }
+}
+
+fn read(text: &[u8], room: usize) -> String {
+    let mut table = vec![7; room];
+    match gym::read(text, &mut table) {
+        Err(number) => format!("refused {number}, all {}\n", kept(&table, 7)),
+        Ok(len) => {
+            let mut out = vec![0; text.len()];
+            let same = gym::write(&table[..len], &mut out) == Ok(text.len()) && out == text;
+            let (sum, rest) = (sum(halves(&table[..len])), kept(&table[len..], 7));
+            format!("read {len} sum {sum}, rest {rest}, {}\n", back(same))
+        }
+    }
+}
+
+fn write(body: &[u8], room: usize) -> String {
+    let text = std::str::from_utf8(body).expect("cells");
+    let words = text.split_whitespace();
+    let cells: Vec<u64> = words
+        .map(|w| u64::from_str_radix(w, 16).expect("a cell"))
+        .collect();
+    let mut out = vec![b'#'; room];
+    match gym::write(&cells, &mut out) {
+        Err(number) => format!("refused {number}, all {}\n", kept(&out, b'#')),
+        Ok(len) => {
+            let mut table = vec![0; cells.len()];
+            let same = gym::read(&out[..len], &mut table) == Ok(cells.len()) && table == cells;
+            let (sum, rest) = (byte_sum(&out[..len]), kept(&out[len..], b'#'));
+            format!("written {len} sum {sum}, rest {rest}, {}\n", back(same))
+        }
+    }
+}
+
+fn apart(row: &[u8], room: usize) -> String {
+    let Some(parts) = PathRow::parse(row) else {
+        return "refused 8\n".to_string();
+    };
+    let steps: String = parts
+        .steps
+        .iter()
+        .map(|s| format!(" {}{}", s.letter as char, s.scope))
+        .collect();
+    let written = parts.write();
+    let fits = &written[..room.min(written.len())];
+    let head = format!(
+        "mark {} start {} steps {}{steps}",
+        parts.mark,
+        parts.start,
+        parts.steps.len()
+    );
+    let same = back(fits == &row[..fits.len()]);
+    format!(
+        "{head}, written {} sum {}, rest kept, {same}\n",
+        fits.len(),
+        byte_sum(fits)
+    )
+}
+
+fn compare(text: &[u8], first: &[u8], second: &[u8], n: usize, m: usize) -> String {
+    // More records than any row has steps are as good as the numbers that the cases ask for.
+    let (mut a, mut b) = (vec![BLANK; n.min(1000)], vec![BLANK; m.min(1000)]);
+    let answer = match path_row::compare(text, first, second, &mut a, &mut b) {
+        Err(number) => format!("refused {number}"),
+        Ok(Compared::First) => "first".to_string(),
+        Ok(Compared::Second) => "second".to_string(),
+        Ok(Compared::Neither) => "neither".to_string(),
+    };
+    let records = |table: &[Step]| table.iter().filter(|s| **s != BLANK).count();
+    format!("{answer}, records {} and {}\n", records(&a), records(&b))
+}
+
+fn shown(verb: &str, room: usize, put: impl Fn(&mut [u8]) -> Result<usize, u8>) -> String {
+    let mut out = vec![b'#'; room];
+    match put(&mut out) {
+        Err(number) => format!("refused {number}, all {}\n", kept(&out, b'#')),
+        Ok(len) => {
+            let text = if len <= 4096 {
+                String::from_utf8_lossy(&out[..len])
+            } else {
+                "".into()
+            };
+            let (sum, rest) = (byte_sum(&out[..len]), kept(&out[len..], b'#'));
+            format!("{verb} {len} sum {sum}, rest {rest}\n{text}")
+        }
+    }
+}
+
+fn main() -> io::Result<()> {
+    let mut input = Vec::new();
+    io::stdin().lock().read_to_end(&mut input)?;
+    let mut rest = &input[..];
+    let mut body = Vec::new();
+    let mut stdout = io::stdout().lock();
+    while !rest.is_empty() {
+        let line = rest.iter().position(|&b| b == b'\n').expect("a line");
+        let head = std::str::from_utf8(&rest[..line]).expect("a head");
+        let words: Vec<&str> = head.split_whitespace().collect();
+        let hex = |n: usize| u64::from_str_radix(words[n], 16).expect("a number") as usize;
+        let (width, keep, len) = (hex(1), hex(2), hex(3));
+        let (number, room) = (hex(6), hex(7));
+        let title = &rest[line + 1..line + 1 + width];
+        body.truncate(keep);
+        body.extend_from_slice(&rest[line + 2 + width..line + 2 + width + len]);
+        rest = &rest[line + 3 + width + len..];
+        let (text, rows) = body.split_at(hex(4));
+        let (first, second) = rows.split_at(hex(5));
+        let listing = |n: usize| shown("listed", room, |out| answers::listing(text, n, out));
+        let summary = || shown("summed", room, |out| answers::summary(text, out));
+        let answer = match words[0] {
+            "r" => read(text, room),
+            "w" => write(text, room),
+            "n" => format!(
+                "seeks <{}>\n",
+                String::from_utf8_lossy(gym::name_sought(text, number))
+            ),
+            "p" => apart(first, room),
+            "c" => compare(text, first, second, number, room),
+            "l" => listing(number),
+            "s" => summary(),
+            "a" => (0..number).map(listing).chain([summary()]).collect(),
+            _ => "A KIND UNKNOWN HERE\n".to_string(),
+        };
+        stdout.write_all(title)?;
+        stdout.write_all(b": ")?;
+        stdout.write_all(answer.as_bytes())?;
+    }
+    Ok(())
+}

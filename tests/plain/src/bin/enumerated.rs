@@ -1,0 +1,300 @@
+//! Holds the search against the enumerator: `enumerated [COUNT [SEED]]`, 20,000 random gyms if not said.
+//!
+//! Same listing (entries, found, awaits), the same verdict on random path rows, comparison as the
+//! rules have it; a settled listing stays the same in random completions; reading and writing are
+//! inverse, on damaged files and tables too.
+
+use plain::answers::{self, Standing};
+use plain::enumerate::{self, Graph, Path, Verdict};
+use plain::gym::{self, Gym, Query};
+use plain::path_row::{self, Compared, PathRow, Step};
+use plain::random::{self, Rng};
+
+const BLANK: Step = Step {
+    letter: 0,
+    scope: 255,
+};
+
+#[derive(Default, Debug)]
+struct Counts {
+    listings: usize,
+    unsettled: usize,
+    several: usize,
+    none: usize,
+    completions: usize,
+    visible: usize,
+    shadowed: usize,
+    unreached: usize,
+    more_specific: usize,
+    damaged_accepted: usize,
+    damaged_refused: [usize; 10],
+    table_refused: [usize; 10],
+    table_written: usize,
+    rows_refused: usize,
+}
+
+fn fail(seed: usize, what: &str, text: &[u8]) -> ! {
+    eprintln!("gym {seed}: {what}\n{}", String::from_utf8_lossy(text));
+    std::process::exit(1)
+}
+
+fn path_of(gym: &Gym, row: &PathRow) -> Option<Path> {
+    let label = |letter| gym.labels.iter().position(|&l| l == letter);
+    let mut path = Path {
+        start: row.start as usize,
+        steps: Vec::new(),
+    };
+    for step in &row.steps {
+        path.steps
+            .push((label(step.letter)? as u8, step.scope as usize));
+    }
+    Some(path)
+}
+
+/// A random completion: rows at open pairs, new scopes with any rows.
+fn completion(rng: &mut Rng, gym: &Gym, name: u128) -> Graph {
+    let mut graph = Graph::of(gym);
+    let old = graph.scopes;
+    graph.scopes += rng.below(3);
+    for &(scope, e) in &gym.open {
+        for _ in 0..rng.below(3) {
+            match enumerate::end(e) {
+                None => {
+                    graph
+                        .declarations
+                        .push((scope as usize, name, 70_000 + rng.below(3) as u64))
+                }
+                Some(label) => graph
+                    .edges
+                    .push((scope as usize, label, rng.below(graph.scopes))),
+            }
+        }
+    }
+    for new in old..graph.scopes {
+        if rng.below(2) == 0 {
+            graph.declarations.push((new, name, rng.below(3) as u64));
+        }
+        for label in 0..graph.labels {
+            if rng.below(2) == 0 {
+                graph.edges.push((new, label, rng.below(graph.scopes)));
+            }
+        }
+    }
+    graph.edges.sort();
+    graph.edges.dedup();
+    graph.declarations.sort();
+    graph.declarations.dedup();
+    graph
+}
+
+fn check_listing(
+    seed: usize,
+    rng: &mut Rng,
+    text: &[u8],
+    gym: &Gym,
+    n: usize,
+    query: Query,
+    c: &mut Counts,
+) {
+    let due = enumerate::listing(gym, query);
+    let mut out = vec![b'#'; due.len() + 3];
+    if answers::listing(text, n, &mut out) != Ok(due.len())
+        || out[..due.len()] != due
+        || out[due.len()..] != *b"###"
+    {
+        fail(
+            seed,
+            &format!("listing {n}: {}", String::from_utf8_lossy(&out)),
+            text,
+        );
+    }
+    let mut short = vec![b'#'; due.len() - 1];
+    if answers::listing(text, n, &mut short) != Err(9) || short.iter().any(|&b| b != b'#') {
+        fail(seed, "a short buffer", text);
+    }
+    let graph = Graph::of(gym);
+    let entries = graph.entries(query.start as usize, query.name);
+    c.listings += 1;
+    c.several += usize::from(entries.len() > 1);
+    c.none += usize::from(entries.is_empty());
+    if enumerate::awaits(gym, query).is_some() {
+        c.unsettled += 1;
+        return;
+    }
+    for _ in 0..3 {
+        c.completions += 1;
+        if completion(rng, gym, query.name).entries(query.start as usize, query.name) != entries {
+            fail(seed, &format!("query {n} is not settled"), text);
+        }
+    }
+}
+
+fn check_rows(
+    seed: usize,
+    rng: &mut Rng,
+    text: &[u8],
+    gym: &Gym,
+    n: usize,
+    query: Query,
+    c: &mut Counts,
+) {
+    let graph = Graph::of(gym);
+    let seen: Vec<Vec<u8>> = enumerate::listing(&free_order(gym), query)
+        .split(|&b| b == b'\n')
+        .skip(3)
+        .filter(|line| !line.is_empty())
+        .map(<[u8]>::to_vec)
+        .collect();
+    let mut rows = Vec::new();
+    for _ in 0..6 {
+        // Reached paths, so that all three verdicts come; else any row.
+        if !seen.is_empty() && rng.below(3) > 0 {
+            rows.push(rng.pick(&seen).clone());
+        } else {
+            rows.push(random::path_row(rng, gym.scopes as usize + 1, &gym.labels));
+        }
+    }
+    for row in &rows {
+        let parsed = PathRow::parse(row).unwrap_or_else(|| fail(seed, "a row not read", row));
+        if parsed.write() != *row {
+            fail(seed, "a row not written back", row);
+        }
+        let due = match path_of(gym, &parsed) {
+            None => Verdict::Unreached,
+            Some(p) => graph.verdict(query.start as usize, query.name, &p, u64::from(parsed.mark)),
+        };
+        let mut table = [BLANK; 63];
+        let got = answers::judge(text, n, row, &mut table);
+        let (same, counter) = match due {
+            Verdict::Visible => (Ok(Standing::Visible), &mut c.visible),
+            Verdict::Shadowed => (Ok(Standing::Shadowed), &mut c.shadowed),
+            Verdict::Unreached => (Ok(Standing::Unreached), &mut c.unreached),
+        };
+        *counter += 1;
+        let steps = parsed.steps.len();
+        if got != same
+            || table[..steps] != parsed.steps
+            || table[steps..].iter().any(|&s| s != BLANK)
+        {
+            fail(
+                seed,
+                &format!(
+                    "judge {n} {}: {got:?}, due {due:?}",
+                    String::from_utf8_lossy(row)
+                ),
+                text,
+            );
+        }
+        if steps > 0 && answers::judge(text, n, row, &mut table[..steps - 1]) != Err(9) {
+            fail(seed, "a short table", text);
+        }
+    }
+    for pair in rows.windows(2) {
+        let (a, b) = (
+            PathRow::parse(&pair[0]).unwrap(),
+            PathRow::parse(&pair[1]).unwrap(),
+        );
+        let got = path_row::compare(text, &pair[0], &pair[1], &mut [BLANK; 63], &mut [BLANK; 63]);
+        if let (Some(p), Some(q)) = (path_of(gym, &a), path_of(gym, &b)) {
+            let due = match (graph.more_specific(&p, &q), graph.more_specific(&q, &p)) {
+                (true, false) => Compared::First,
+                (false, true) => Compared::Second,
+                _ => Compared::Neither,
+            };
+            c.more_specific += usize::from(due != Compared::Neither);
+            if got != Ok(due) {
+                fail(seed, "compare", text);
+            }
+        }
+        let broken = random::damaged_row(rng, &pair[0]);
+        match PathRow::parse(&broken) {
+            Some(row) if row.write() != broken => {
+                fail(seed, "a damaged row not written back", &broken)
+            }
+            Some(_) => {}
+            None => c.rows_refused += 1,
+        }
+    }
+}
+
+/// The same gym without its order, in which every reached path is visible.
+fn free_order(gym: &Gym) -> Gym {
+    Gym {
+        order: Vec::new(),
+        open: Vec::new(),
+        ..gym.clone()
+    }
+}
+
+fn check_inverse(seed: usize, rng: &mut Rng, text: &[u8], c: &mut Counts) {
+    let mut table = vec![7; 12_300];
+    let cells = match gym::read(text, &mut table) {
+        Ok(cells) => cells,
+        Err(number) => {
+            c.damaged_refused[number as usize] += 1;
+            if table.iter().any(|&cell| cell != 7) {
+                fail(seed, "a refused text changed the table", text);
+            }
+            return;
+        }
+    };
+    c.damaged_accepted += 1;
+    let mut out = vec![b'#'; text.len()];
+    if gym::write(&table[..cells], &mut out) != Ok(text.len()) || out != text {
+        fail(seed, "not written back", text);
+    }
+    if gym::read(text, &mut table[..cells - 1]) != Err(9)
+        || gym::write(&table[..cells], &mut out[1..]) != Err(9)
+    {
+        fail(seed, "9", text);
+    }
+    let broken = random::damaged_table(rng, &table[..cells]);
+    let mut out = vec![b'#'; 33_000];
+    match gym::write(&broken, &mut out) {
+        Err(number) => c.table_refused[number as usize] += 1,
+        Ok(len) => {
+            c.table_written += 1;
+            if gym::read(&out[..len], &mut table) != Ok(broken.len())
+                || table[..broken.len()] != broken
+            {
+                fail(seed, "a table not read back", &out[..len]);
+            }
+        }
+    }
+}
+
+fn check(seed: usize, c: &mut Counts) {
+    let mut rng = Rng::new(seed as u64 + 1);
+    let text = random::gym(&mut rng, random::SMALL);
+    let gym = Gym::parse(&text).unwrap_or_else(|n| fail(seed, &format!("refused {n}"), &text));
+    for (n, &query) in gym.queries.iter().enumerate() {
+        check_listing(seed, &mut rng, &text, &gym, n, query, c);
+        check_rows(seed, &mut rng, &text, &gym, n, query, c);
+        if gym::pack(gym::name_sought(&text, n)) != query.name {
+            fail(seed, "name sought", &text);
+        }
+    }
+    let past = gym.queries.len();
+    if answers::listing(&text, past, &mut []) != Err(7) || !gym::name_sought(&text, past).is_empty()
+    {
+        fail(seed, "a query number past the queries", &text);
+    }
+    check_inverse(seed, &mut rng, &text, c);
+    for _ in 0..5 {
+        let broken = random::damage(&mut rng, &text);
+        check_inverse(seed, &mut rng, &broken, c);
+    }
+}
+
+fn main() {
+    let mut args = std::env::args()
+        .skip(1)
+        .map(|a| a.parse().expect("a number"));
+    let count = args.next().unwrap_or(20_000);
+    let seed = args.next().unwrap_or(0);
+    let mut counts = Counts::default();
+    for n in seed..seed + count {
+        check(n, &mut counts);
+    }
+    println!("{count} gyms agree\n{counts:#?}");
+}

@@ -1,0 +1,171 @@
+//! Document 01's trials, marked and unmarked, on the plain implementation.
+
+use plain::answers::{self, Standing};
+use plain::gym;
+use plain::path_row::{self, Compared, PathRow, Step};
+
+const EXAMPLE: &str = "label / I / P / less more / $ I / $ P / I P / state label next / 0 I 1 / 0 P 0 / 1 I 1 / \
+    accept / 0 / 1 / scopes / 5 / from label to / 1 P 0 / 2 I 4 / 2 P 1 / 3 P 1 / at name mark / 0 hours 5 / \
+    1 service 10 / 2 service 21 / 4 hours 40 / at open / 3 $ / start seek / 2 service / 3 service / 2 hours / ";
+
+const BLANK: Step = Step {
+    letter: 0,
+    scope: 255,
+};
+
+fn lines(text: &str) -> String {
+    text.replace(" / ", "\n")
+}
+
+/// The example with one piece replaced by another.
+fn example(old: &str, new: &str) -> String {
+    assert_eq!(EXAMPLE.matches(old).count(), 1, "{old}");
+    lines(&EXAMPLE.replace(old, new))
+}
+
+/// What the program prints for a query: its line of values, then its rows, parted by ` / `.
+fn listed(text: &str, query: usize) -> String {
+    let mut out = [0; 1000];
+    let len = answers::listing(text.as_bytes(), query, &mut out).unwrap();
+    let text = String::from_utf8(out[..len].to_vec()).unwrap();
+    let rest = text.strip_prefix("start seek found awaits\n").unwrap();
+    rest.trim_end()
+        .replace("\nmark path", "")
+        .replace('\n', " / ")
+}
+
+fn printed(text: &str) -> String {
+    String::from_utf8(answers::program(text.as_bytes())).unwrap()
+}
+
+fn judged(text: &str, query: usize, row: &str) -> Result<Standing, u8> {
+    answers::judge(text.as_bytes(), query, row.as_bytes(), &mut [BLANK; 63])
+}
+
+#[test]
+fn the_example() {
+    let due = "start seek found awaits / 2 service one - / mark path / 21 2 / start seek found awaits / 3 service one 3$ / \
+        mark path / 10 3P1 / start seek found awaits / 2 hours one - / mark path / 40 2I4 / queries one several none share / \
+        3 3 0 0 100 / ";
+    assert_eq!(printed(&lines(EXAMPLE)), lines(due));
+}
+
+#[test]
+fn marked() {
+    assert_eq!(
+        listed(&example("3 $ / ", ""), 1),
+        "3 service one - / 10 3P1"
+    );
+    let one = example("3 $ / ", "1 $ / ");
+    assert_eq!(listed(&one, 1), "3 service one 1$ / 10 3P1");
+    assert_eq!(listed(&one, 0), "2 service one - / 21 2");
+    assert_eq!(
+        listed(&example("3 $ / ", "2 P / "), 2),
+        "2 hours one - / 40 2I4"
+    );
+    assert_eq!(
+        listed(&example("3 $ / ", "2 I / "), 2),
+        "2 hours one 2I / 40 2I4"
+    );
+    let two = example("4 hours 40 / ", "4 hours 40 / 4 hours 41 / ");
+    assert_eq!(listed(&two, 2), "2 hours several - / 40 2I4 / 41 2I4");
+    let back = lines(
+        &EXAMPLE
+            .replace("1 P 0 / ", "0 P 2 / 1 P 0 / ")
+            .replace("2 hours / ", "0 service / "),
+    );
+    assert_eq!(listed(&back, 2), "0 service one - / 21 0P2");
+    let text = lines(EXAMPLE);
+    assert_eq!(judged(&text, 0, "10 2P1"), Ok(Standing::Shadowed));
+    assert_eq!(judged(&text, 0, "21 2"), Ok(Standing::Visible));
+    assert_eq!(judged(&text, 0, "5 2P1P0"), Ok(Standing::Unreached));
+}
+
+#[test]
+fn unmarked() {
+    let none = example("accept / 0 / 1 / ", "accept / ");
+    assert!((0..3).all(|query| listed(&none, query).ends_with("none -")));
+    assert!(printed(&none).ends_with("3 0 0 3 0\n"));
+    let few = example("2 service / 3 service / 2 hours / ", "");
+    assert_eq!(printed(&few), "queries one several none share\n0 0 0 0 -\n");
+    let refused = |old, new| answers::summary(example(old, new).as_bytes(), &mut [0; 100]).err();
+    assert_eq!(refused("scopes / 5", "scopes / 64"), None);
+    assert_eq!(refused("scopes / 5", "scopes / 65"), Some(3));
+    assert_eq!(refused("scopes / 5", "scopes / 0"), Some(3));
+    assert_eq!(refused("0 hours", "0 abcdefghijklmnop"), None);
+    assert_eq!(refused("0 hours", "0 abcdefghijklmnopq"), Some(2));
+    assert_eq!(refused("0 hours 5", "0 hours 65535"), None);
+    assert_eq!(refused("0 hours 5", "0 hours 65536"), Some(3));
+    assert_eq!(refused("0 hours 5", "0 hours 100000"), Some(2));
+    assert_eq!(refused("$ P / I P", "$ P / I I"), Some(6));
+    assert_eq!(refused("$ P / I P", "$ P / P I"), None);
+    assert_eq!(refused("$ I / $ P / I P", "$ I / I P"), Some(6));
+    let text = lines(EXAMPLE);
+    assert_eq!(judged(&text, 3, "x"), Err(7));
+    assert_eq!(judged(&text, 0, "x"), Err(8));
+    assert_eq!(
+        answers::judge(text.as_bytes(), 0, b"1 2P1", &mut []),
+        Err(9)
+    );
+    assert_eq!(gym::name_sought(text.as_bytes(), 1), b"service");
+    assert_eq!(gym::name_sought(&text.as_bytes()[1..], 1), b"");
+}
+
+#[test]
+fn shares() {
+    let summed = |one: u64, queries: u64| {
+        let mut out = Vec::new();
+        answers::push_summary(&[queries - one, one, 0], &mut out);
+        String::from_utf8(out).unwrap()
+    };
+    let due = [
+        (1, 8, 12),
+        (3, 8, 38),
+        (5, 8, 62),
+        (7, 8, 88),
+        (1, 3, 33),
+        (2, 3, 67),
+        (0, 3, 0),
+        (1, 200, 0),
+        (3, 200, 2),
+        (256, 256, 100),
+    ];
+    for (one, queries, share) in due {
+        assert!(summed(one, queries).ends_with(&format!(" {share}\n")));
+    }
+}
+
+#[test]
+fn rows() {
+    let good = ["0 0", "65535 63", "10 3P1", "1 0A0A0"];
+    let bad = [
+        "", "1", "1 ", " 1", "01 1", "1 01", "65536 1", "1 64", "1 1P", "1 1p2", "1 1P2 ",
+        "1 1P2\n", "1  1", "1 1$",
+    ];
+    assert!(good
+        .iter()
+        .all(|row| PathRow::parse(row.as_bytes()).is_some_and(|r| r.write() == row.as_bytes())));
+    assert!(bad
+        .iter()
+        .all(|row| PathRow::parse(row.as_bytes()).is_none()));
+    let steps = |n| format!("1 0{}", "A1".repeat(n));
+    assert!(PathRow::parse(steps(63).as_bytes()).is_some());
+    assert!(PathRow::parse(steps(64).as_bytes()).is_none());
+    let text = lines(EXAMPLE);
+    let compared = |a: &str, b: &str, room: usize| {
+        path_row::compare(
+            text.as_bytes(),
+            a.as_bytes(),
+            b.as_bytes(),
+            &mut [BLANK; 63],
+            &mut vec![BLANK; room],
+        )
+    };
+    assert_eq!(compared("1 2", "1 2P1", 63), Ok(Compared::First));
+    assert_eq!(compared("1 2P1", "1 2I1", 63), Ok(Compared::Second));
+    assert_eq!(compared("1 2P1", "1 2P3", 63), Ok(Compared::Neither));
+    assert_eq!(compared("1 2", "1 2Z3", 63), Ok(Compared::Neither));
+    assert_eq!(compared("1 2", "1 3P1", 63), Ok(Compared::Neither));
+    assert_eq!(compared("1 2", "1 2P1", 0), Err(9));
+    assert_eq!(compared("1 2", "1 2P", 0), Err(8));
+}

@@ -1,0 +1,144 @@
+"""The gyms that the cases are made from: document 01's example with sections put in place, the smallest, the largest, one of a usual size, random ones."""
+from cases.case_file import bytes_of
+from reference.gym_file import NAMES
+
+
+def text_of(g, names=NAMES):
+    return b"".join(x + b"\n" for n, rows in zip(names, g) for x in [n] + rows)
+
+
+def graph(*sections):
+    return [[bytes_of(x) for x in rows] for rows in sections]
+
+
+def changed(g, **sections):
+    """The graph with some sections' rows put in place, as s6=[..]."""
+    out = [list(rows) for rows in g]
+    for name, rows in sections.items():
+        out[int(name[1:])] = [bytes_of(x) for x in rows]
+    return out
+
+
+def at_section(g, k, rows):
+    return changed(g, **{"s%d" % k: rows})
+
+
+EXAMPLE = graph(
+    ["I", "P"],
+    ["$ I", "$ P", "I P"],
+    ["0 I 1", "0 P 0", "1 I 1"],
+    ["0", "1"],
+    ["5"],
+    ["1 P 0", "2 I 4", "2 P 1", "3 P 1"],
+    ["0 hours 5", "1 service 10", "2 service 21", "4 hours 40"],
+    ["3 $"],
+    ["2 service", "3 service", "2 hours"],
+)
+SMALLEST = graph([], [], [], [], ["1"], [], [], [], [])
+WORD = ["label", "order", "step", "accept", "scopes", "edge", "declared", "open", "query"]
+
+
+def largest():
+    """Every section full, each row as long as its section allows."""
+    letters = "QWERTYUI"
+    ends = "$" + letters
+    pairs = ["%s %s" % (ends[i], ends[j]) for i in range(9) for j in range(i + 1, 9)]
+    steps = ["%d %s %d" % (s, letters[n], 10 + (s + n) % 6) for s in range(16) for n in range(8)]
+    edges = ["%d %s %d" % (s, letters[n], 10 + (s * 7 + n * 5) % 54) for s in range(10, 64) for n in range(8)]
+    edges += ["%d I %d" % (s, t) for s in range(10, 64) for t in (62, 63)]
+    rank = lambda e: (int(e.split()[0]), letters.index(e.split()[1]), int(e.split()[2]))
+    edges = sorted(set(edges), key=rank)[-512:]
+    names = ["profile_%02d_hours" % i for i in range(10, 64)]
+    names = [n + "_" * (16 - len(n)) for n in names]
+    declared = ["%d %s %d" % (s, names[(s + i) % 54 if i else 0], 10000 + s * 100 + i) for s in range(10, 64) for i in range(10)]
+    declared = sorted(declared, key=lambda d: (int(d.split()[0]), d.split()[1], int(d.split()[2])))[:512]
+    opens = ["%d %s" % (s, e) for s in range(64) for e in ends]
+    queries = ["%d %s" % (10 + (i * 11) % 54, names[i % 54]) for i in range(256)]
+    return graph(list(letters), pairs, steps, [str(s) for s in range(16)], ["64"], edges, declared, opens, queries)
+
+
+def last_row(k):
+    return EXAMPLE[k][-1].decode("latin-1")
+
+
+def with_last(k, row):
+    return text_of(at_section(EXAMPLE, k, EXAMPLE[k][:-1] + [row]))
+
+
+def with_more(k, *rows):
+    return text_of(at_section(EXAMPLE, k, EXAMPLE[k] + list(rows)))
+
+
+def with_rows(k, *rows):
+    """The example with more rows in a section, put where they belong."""
+    number = lambda x: int(x) if x.isdigit() else "$IP".find(x.decode()) if x.decode() in "$IP" else x
+    new = sorted(EXAMPLE[k] + [bytes_of(r) for r in rows], key=lambda r: [number(x) for x in r.split()])
+    return changed(EXAMPLE, **{"s%d" % k: new})
+
+
+def refused_files():
+    """For each refusal of a file a text that meets it."""
+    text = text_of(EXAMPLE)
+    return {
+        1: text + b"2 hours\n" * 4096,
+        2: text[:-1],
+        3: text_of(changed(EXAMPLE, s3=["16"])),
+        4: text_of(changed(EXAMPLE, s0=["I", "I"])),
+        5: text_of(changed(EXAMPLE, s4=["5", "5"])),
+        6: text_of(changed(EXAMPLE, s1=["I I"])),
+    }
+
+
+def realistic():
+    """A site, four walls, sixteen lanes, six profiles."""
+    walls, lanes, profiles = range(1, 5), range(5, 21), range(21, 27)
+    edges = [(w, "P", 0) for w in walls] + [(l, "P", 1 + (l - 5) // 4) for l in lanes] + [(l, "I", 21 + l % 6) for l in lanes if l % 3]
+    edges += [(3, "I", 21), (0, "I", 26)] + [(p, "I", p + 1) for p in profiles if p < 26] + [(26, "I", 22)]
+    edges.sort(key=lambda e: (e[0], "IP".index(e[1]), e[2]))
+    declared = [(0, "hours", 5), (0, "limit", 1), (2, "limit", 2), (3, "limit", 3)] + [(l, "service", 100 + l) for l in lanes if l % 2] + [(p, "limit", 200 + p) for p in profiles if p % 2]
+    declared += [(22, "hours", 7), (22, "hours", 8), (24, "cable", 9), (1, "service", 50)]
+    declared.sort()
+    opens = ["0 $", "2 I", "6 $", "9 I", "17 P", "22 $", "24 $", "24 I"]
+    queries = ["%d %s" % (l, n) for l in lanes for n in ("service", "hours", "limit", "cable", "belay")]
+    return text_of(changed(EXAMPLE, s4=["27"], s5=["%d %s %d" % e for e in edges], s6=["%d %s %d" % d for d in declared], s7=opens, s8=queries))
+
+
+def closed(pairs):
+    while True:
+        more = {(a, d) for a, b in pairs for c, d in pairs if b == c} - pairs
+        if not more:
+            return pairs
+        pairs |= more
+
+
+def shuffled(dice, items):
+    items = list(items)
+    return [items.pop(dice.below(len(items))) for _ in range(len(items))]
+
+
+def random_gym(dice, scopes, most_edges):
+    letters = shuffled(dice, "IPDX")[: 1 + dice.below(4)]
+    ends = ["$"] + letters
+    rank = shuffled(dice, ends)
+    thick = dice.below(4)
+    pairs = closed({(a, b) for i, a in enumerate(rank) for b in rank[i + 1 :] if dice.below(3) < thick})
+    states = range(1 + dice.below(3))
+    steps = ["%d %s %d" % (s, l, dice.pick(states)) for s in states for l in letters if dice.below(5)]
+    accept = [str(s) for s in states if dice.below(4)]
+    edges = {(dice.below(scopes), dice.below(len(letters)), dice.below(scopes)) for _ in range(scopes // 2 + dice.below(most_edges))}
+    names = ["a", "ab"][: 1 + dice.below(2)]
+    declared = {(dice.below(scopes), dice.pick(names), dice.pick([0, 7, 10, 65535])) for _ in range(2 + dice.below(2 * scopes))}
+    thick = dice.below(5)
+    opens = ["%d %s" % (s, e) for s in range(scopes) for e in ends if dice.below(10) < thick]
+    queries = ["%d %s" % (dice.below(scopes), dice.pick(names)) for _ in range(1 + dice.below(4))]
+    return text_of(graph(
+        letters,
+        ["%s %s" % (a, b) for a in ends for b in ends if (a, b) in pairs],
+        steps,
+        accept,
+        [str(scopes)],
+        ["%d %s %d" % (a, letters[l], b) for a, l, b in sorted(edges)],
+        ["%d %s %d" % d for d in sorted(declared)],
+        opens,
+        queries,
+    ))  # fmt: skip

@@ -1,0 +1,144 @@
+"""Cases of path rows that are judged for a query."""
+from cases.case_file import Dice, bytes_of, case
+from cases.file_calls import TOP
+from cases.gyms import EXAMPLE, changed, random_gym, refused_files, text_of, with_rows
+from cases.path_rows import chain
+from reference.gym_file import EDGE, Refused
+from reference.judge import judged
+from reference.query import Gym
+
+
+def judge(title, text, query, row, due=None, room=63):
+    """A row judged. `due` is the answer that the case is there for: a word, or a refusal's number."""
+    row = bytes_of(row)
+    try:
+        word = judged(text, query, row, room)
+        assert due is None or due == word.decode(), (title, due, word)
+    except Refused as r:
+        assert due is None or due == r.number, (title, due, r.number)
+        word = b"refused %d" % r.number
+    case(b"j", title, word + b"\n", text, row, number=query, room=room)
+
+
+def example_cases():
+    text = text_of(EXAMPLE)
+    judge("M10: 10 2P1 for 2 service", text, 0, "10 2P1", "shadowed")
+    judge("M10: 21 2 for 2 service", text, 0, "21 2", "visible")
+    judge("M10: 5 2P1P0 for 2 service", text, 0, "5 2P1P0", "unreached")
+    for title, query, row, due in [
+        ("the entry of 3 service", 1, "10 3P1", "visible"), ("the entry of 2 hours", 2, "40 2I4", "visible"), ("hours by the site", 2, "5 2P1P0", "shadowed"),
+        ("a mark of no declaration", 0, "22 2", "unreached"), ("a mark of another scope", 0, "10 2", "unreached"), ("a mark of another name", 2, "21 2", "unreached"),
+        ("a mark of no declaration, shadowed path", 0, "11 2P1", "unreached"), ("mark 65535", 0, "65535 2", "unreached"),
+        ("another start", 0, "10 3P1", "unreached"), ("another start with the name", 1, "21 2", "unreached"), ("the last scope alone", 1, "10 1", "unreached"),
+        ("an absent edge", 0, "21 2P3", "unreached"), ("an absent edge to the name", 2, "40 2P4", "unreached"), ("an edge the other way", 2, "40 2I4I2", "unreached"),
+        ("an absent edge on the way", 2, "5 2P3P1P0", "unreached"), ("a scope past the count", 0, "21 2P5", "unreached"), ("a start past the count", 0, "21 63", "unreached"),
+        ("an unlisted letter", 0, "10 2X1", "unreached"), ("an unlisted letter, the last", 2, "5 2P1Z0", "unreached"), ("letters A to H are no numbers", 2, "5 2B1B0", "unreached"),
+        ("a scope met twice", 0, "10 2P1P2P1", "unreached"), ("the start met again", 0, "21 2P1P2", "unreached"), ("no name there", 2, "5 2P1", "unreached"),
+        ("the name missing at the start", 2, "5 2", "unreached"), ("leading zero in the mark", 0, "021 2", 8), ("leading zero in the start", 0, "21 02", 8),
+        ("leading zero in a scope", 0, "10 2P01", 8), ("scope 64", 0, "10 2P64", 8), ("start 64", 0, "10 64", 8), ("mark 65536", 0, "65536 2", 8), ("mark 100000", 0, "100000 2", 8),
+        ("the empty row", 0, "", 8), ("a trailing LF", 0, "21 2\n", 8), ("a letter in lower case", 0, "10 2p1", 8), ("two spaces", 0, "21  2", 8),
+        ("no mark", 0, " 2", 8), ("a letter without scope", 0, "10 2P", 8), ("byte 0 last", 0, "21 2\0", 8), ("byte 255 last", 0, "21 2\xff", 8),
+        ("63 steps", 0, "21 2" + chain(63), "unreached"), ("64 steps", 0, "21 2" + chain(64), 8), ("257 bytes", 0, "21 2" + "P10" * 84 + "P", 8),
+    ]:  # fmt: skip
+        judge("judge: " + title, text, query, row, due)
+    ring = text_of(changed(with_rows(EDGE, "0 P 2", "4 P 4"), s8=["0 service", "2 service", "4 hours"]))
+    judge("judge: M9, the entry", ring, 0, "21 0P2", "visible")
+    judge("judge: M9, on along the ring", ring, 0, "10 0P2P1", "shadowed")
+    judge("judge: M9, round the ring", ring, 1, "21 2P1P0P2", "unreached")
+    judge("judge: a self-edge", ring, 2, "40 4P4", "unreached")
+    judge("judge: the scope of a self-edge", ring, 2, "40 4", "visible")
+    every = text_of(changed(EXAMPLE, s1=[]))
+    judge("judge: no order, the shorter", every, 0, "21 2", "visible")
+    judge("judge: no order, the longer", every, 0, "10 2P1", "visible")
+    judge("judge: no accept rows", text_of(changed(EXAMPLE, s3=[])), 0, "21 2", "unreached")
+    judge("judge: accept 1 alone", text_of(changed(EXAMPLE, s3=["1"])), 0, "21 2", "unreached")
+    judge("judge: a transition missing", text_of(changed(EXAMPLE, s2=["0 P 0"])), 2, "40 2I4", "unreached")
+    judge("judge: a transition missing, the path behind it", text_of(changed(EXAMPLE, s2=["0 P 0"])), 2, "5 2P1P0", "visible")
+    judge("judge: open places change nothing", text_of(changed(EXAMPLE, s7=["2 $", "2 I", "2 P"])), 0, "10 2P1", "shadowed")
+    two = text_of(changed(EXAMPLE, s6=["1 service 10", "2 service 21", "2 service 22"]))
+    judge("judge: one of two declarations", two, 0, "22 2", "visible")
+    long = text_of(changed(EXAMPLE, s2=["0 P 0"], s4=["64"], s5=["%d P %d" % (i, i + 1) for i in range(63)], s6=["63 a 7"], s7=[], s8=["0 a"]))
+    judge("judge: 63 steps that are a path", long, 0, "7 0" + chain(63), "visible")
+    judge("judge: 62 of them", long, 0, "7 0" + chain(62), "unreached")
+
+
+def refusal_cases():
+    text = text_of(EXAMPLE)
+    for n in (0, 1, 2, 3, 63, 64, 98304):
+        judge("judge: %d records, no step" % n, text, 0, "21 2", "visible", n)
+        judge("judge: %d records, one step" % n, text, 2, "40 2I4", 9 if n < 1 else "visible", n)
+        judge("judge: %d records, two steps" % n, text, 2, "5 2P1P0", 9 if n < 2 else "shadowed", n)
+        judge("judge: %d records, 63 steps" % n, text, 2, "5 2" + chain(63), 9 if n < 63 else "unreached", n)
+        judge("judge: %d records, malformed" % n, text, 2, "5 2p1", 8, n)
+        judge("judge: %d records, another start" % n, text, 2, "10 3P1", 9 if n < 1 else "unreached", n)
+    for k, t in refused_files().items():
+        judge("judge: file refused %d" % k, t, 0, "21 2", k)
+        judge("judge: file refused %d, query past the last" % k, t, 99, "21 2", k)
+        judge("judge: file refused %d, row malformed" % k, t, 0, "x", k)
+        judge("judge: file refused %d, no records" % k, t, 0, "40 2I4", k, 0)
+        judge("judge: file refused %d, all at once" % k, t, 99, "x", k, 0)
+    for query in (3, 4, 256, 1 << 32, TOP):
+        judge("judge: query %d of three" % query, text, query, "21 2", 7)
+        judge("judge: query %d of three, row malformed" % query, text, query, "x", 7)
+        judge("judge: query %d of three, no records" % query, text, query, "40 2I4", 7, 0)
+        judge("judge: query %d of three, row malformed, no records" % query, text, query, "40 2i4", 7, 0)
+    judge("judge: query 0 of none", text_of(changed(EXAMPLE, s8=[])), 0, "21 2", 7)
+
+
+def row_text(start, steps, mark):
+    return "%d %d" % (mark, start) + "".join("%s%d" % (label.decode(), to) for label, to in steps)
+
+
+def shadowed(gym, query):
+    visible = [steps for steps, _ in gym.entries(*gym.queries[query])]
+    return [steps for steps in gym.reached(*gym.queries[query]) if steps not in visible]
+
+
+def random_row(dice, gym, query):
+    """A row near a path of the query: a shadowed or a reached one where there are, with its mark, or one with a small change."""
+    start, name = gym.queries[query]
+    reached, hidden = gym.reached(start, name), shadowed(gym, query)
+    steps = list(dice.pick(hidden if hidden and dice.below(2) else reached if reached and dice.below(4) else gym.paths(start)))
+    last = steps[-1][1] if steps else start
+    marks = [mark for at, n, mark in gym.declared if n == name and at == last] or [mark for _, _, mark in gym.declared]
+    mark = dice.pick(marks)
+    change = dice.below(14)
+    if change == 0:
+        mark = dice.pick([0, 7, 10, 65535, 11])
+    elif change == 1 and steps:
+        i = dice.below(len(steps))
+        steps[i] = (bytes_of(dice.pick("IPDXZ")), steps[i][1])
+    elif change == 2 and steps:
+        i = dice.below(len(steps))
+        steps[i] = (steps[i][0], dice.below(gym.scopes + 1))
+    elif change == 3 and steps:
+        steps.append(dice.pick(steps))
+    elif change == 4:
+        start = dice.below(gym.scopes)
+    row = row_text(start, steps, mark)
+    if change == 5:
+        i = dice.below(len(row))
+        row = row[:i] + dice.pick(["", "0", " ", "i", "9", "\n"]) + row[i + 1 :]
+    return row
+
+
+def random_cases():
+    dice = Dice(10)
+    n = 0
+    while n < 90:
+        scopes = 2 + dice.below(6)
+        text = random_gym(dice, scopes, 2 * scopes + 1)
+        gym = Gym(text)
+        if dice.below(3) and not any(shadowed(gym, query) for query in range(len(gym.queries))):
+            continue
+        for i in range(5):
+            query = dice.below(len(gym.queries))
+            room = 63 if dice.below(10) else dice.below(3)
+            judge("gym %d judged, row %d" % (n, i), text, query, random_row(dice, gym, query), None, room)
+        n += 1
+
+
+def cases():
+    example_cases()
+    refusal_cases()
+    random_cases()

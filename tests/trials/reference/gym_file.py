@@ -1,0 +1,154 @@
+"""The gym file, from document 01 ("The gym file", "Who can cause a refusal"): its sections, its rows, what is refused, and the name that a query seeks.
+
+Nothing here is shared with the crates."""
+import re
+
+NAMES = [b"label", b"less more", b"state label next", b"accept", b"scopes", b"from label to", b"at name mark", b"at open", b"start seek"]
+MOST = [8, 36, 128, 16, 1, 512, 512, 576, 256]
+LABEL, ORDER, STEP, ACCEPT, SCOPES, EDGE, DECLARED, OPEN, QUERY = range(9)
+NUMBER = rb"(0|[1-9][0-9]{0,4})"
+LETTER = rb"([A-Z])"
+END = rb"([$A-Z])"
+NAME = rb"([a-z][a-z0-9_]{0,15})"
+
+FORMS = [
+    [LETTER],
+    [END, END],
+    [NUMBER, LETTER, NUMBER],
+    [NUMBER],
+    [NUMBER],
+    [NUMBER, LETTER, NUMBER],
+    [NUMBER, NAME, NUMBER],
+    [NUMBER, END],
+    [NUMBER, NAME],
+]
+
+
+class Refused(Exception):
+    def __init__(self, number):
+        self.number = number
+
+
+class Graph:
+    """The rows so far, each as its values: numbers, letters as bytes, names as bytes, an end as b'$' or a letter."""
+
+    def __init__(self):
+        self.rows = [[] for _ in range(9)]
+
+    def labels(self):
+        return [r[0] for r in self.rows[LABEL]]
+
+    def end_number(self, end):
+        return 0 if end == b"$" else 1 + self.labels().index(end)
+
+    def ranges(self, k, v):
+        """Refusal 3: is every value of the row in its range or list?"""
+        state = lambda x: 0 <= x <= 15
+        scope = lambda x: 0 <= x < self.rows[SCOPES][0][0]
+        mark = lambda x: 0 <= x <= 65535
+        label = lambda x: x in self.labels()
+        end = lambda x: x == b"$" or label(x)
+        if k == ORDER:
+            return end(v[0]) and end(v[1])
+        if k == STEP:
+            return state(v[0]) and label(v[1]) and state(v[2])
+        if k == ACCEPT:
+            return state(v[0])
+        if k == SCOPES:
+            return 1 <= v[0] <= 64
+        if k == EDGE:
+            return scope(v[0]) and label(v[1]) and scope(v[2])
+        if k == DECLARED:
+            return scope(v[0]) and mark(v[2])
+        if k == OPEN:
+            return scope(v[0]) and end(v[1])
+        if k == QUERY:
+            return scope(v[0])
+        return True
+
+    def key(self, k, v):
+        """What the rows of a section ascend by."""
+        number = self.labels().index
+        if k == ORDER:
+            return (self.end_number(v[0]), self.end_number(v[1]))
+        if k == STEP:
+            return (v[0], number(v[1]))
+        if k == ACCEPT:
+            return (v[0],)
+        if k == EDGE:
+            return (v[0], number(v[1]), v[2])
+        if k == DECLARED:
+            return (v[0], v[1], v[2])
+        if k == OPEN:
+            return (v[0], self.end_number(v[1]))
+        return None
+
+    def add(self, k, v):
+        """A row of its form: 5, 3, 4, or taken."""
+        rows = self.rows[k]
+        if len(rows) == MOST[k]:
+            raise Refused(5)
+        if not self.ranges(k, v):
+            raise Refused(3)
+        if k == LABEL:
+            if v[0] in self.labels():
+                raise Refused(4)
+        elif self.key(k, v) is not None and rows and not self.key(k, rows[-1]) < self.key(k, v):
+            raise Refused(4)
+        rows.append(v)
+
+    def order(self):
+        """Refusal 6."""
+        pairs = set(self.rows[ORDER])
+        for a, b in pairs:
+            if a == b:
+                raise Refused(6)
+            for c, d in pairs:
+                if b == c and (a, d) not in pairs:
+                    raise Refused(6)
+
+    def text(self):
+        lines = []
+        for k in range(9):
+            lines.append(NAMES[k])
+            for v in self.rows[k]:
+                lines.append(b" ".join(x if isinstance(x, bytes) else b"%d" % x for x in v))
+        return b"".join(x + b"\n" for x in lines)
+
+
+def read(text):
+    """The graph of a text, or Refused."""
+    if len(text) > 32768:
+        raise Refused(1)
+    g = Graph()
+    k = -1
+    at = 0
+    while at < len(text):
+        end = text.find(b"\n", at)
+        if end < 0:
+            raise Refused(2)
+        line = text[at:end]
+        at = end + 1
+        if b"a" <= line[:1] <= b"z":
+            if k == 8 or line != NAMES[k + 1] or (k == SCOPES and not g.rows[SCOPES]):
+                raise Refused(2)
+            k += 1
+            continue
+        if k < 0:
+            raise Refused(2)
+        m = re.fullmatch(b" ".join(FORMS[k]), line)
+        if not m:
+            raise Refused(2)
+        g.add(k, tuple(int(x) if f is NUMBER else x for f, x in zip(FORMS[k], m.groups())))
+    if k != 8:
+        raise Refused(2)
+    g.order()
+    return g
+
+
+def name_sought(text, query):
+    try:
+        rows = read(text).rows[QUERY]
+    except Refused:
+        return b""
+    return rows[query][1] if query < len(rows) else b""

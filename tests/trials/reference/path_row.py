@@ -1,0 +1,50 @@
+"""Path rows, from document 01 ("Paths"): taken apart, made from their parts, and compared."""
+import re
+
+from reference.gym_file import ORDER, Refused, read
+
+NUMBER = rb"(?:0|[1-9][0-9]{0,4})"
+ROW = re.compile(b"(%s) (%s)((?:[A-Z]%s)*)" % (NUMBER, NUMBER, NUMBER))
+STEP = re.compile(b"([A-Z])(%s)" % NUMBER)
+
+
+def row_of(row):
+    """The mark, the start and the steps of a path row, or refusal 8."""
+    m = ROW.fullmatch(row)
+    if not m or len(row) > 256:
+        raise Refused(8)
+    mark, start = int(m[1]), int(m[2])
+    steps = [(letter, int(scope)) for letter, scope in STEP.findall(m[3])]
+    if mark > 65535 or len(steps) > 63 or any(s > 63 for s in [start] + [s for _, s in steps]):
+        raise Refused(8)
+    return mark, start, steps
+
+
+def row_from(mark, start, letters, scopes, count):
+    """The path row of a mark, a start and so many steps, each a letter and a scope, or refusal 8. Past the last of either a step has 0."""
+    at = lambda s, i: s[i] if i < len(s) else 0
+    well = mark <= 65535 and start <= 63 and count <= 63
+    if not well or not all(65 <= at(letters, i) <= 90 and at(scopes, i) <= 63 for i in range(count)):
+        raise Refused(8)
+    return b"%d %d" % (mark, start) + b"".join(b"%c%d" % (at(letters, i), at(scopes, i)) for i in range(count))
+
+
+def more_specific(order, p, q):
+    """Is the path p, its start and its steps, more specific than q? `order` holds pairs of ends; a letter that is not listed is in none."""
+    if p[0] != q[0] or p[1] == q[1]:
+        return False
+    n = 0
+    while n < len(p[1]) and n < len(q[1]) and p[1][n] == q[1][n]:
+        n += 1
+    end = lambda steps: steps[n][0] if n < len(steps) else b"$"
+    return (end(p[1]), end(q[1])) in order
+
+
+def compared(text, a, b, n, m):
+    """The answer, and how many records go into each table; or Refused."""
+    order = set(read(text).rows[ORDER])
+    p, q = row_of(a), row_of(b)
+    if len(p[2]) > n or len(q[2]) > m:
+        raise Refused(9)
+    word = b"first" if more_specific(order, p[1:], q[1:]) else b"second" if more_specific(order, q[1:], p[1:]) else b"neither"
+    return word, len(p[2]), len(q[2])
