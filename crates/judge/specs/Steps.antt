@@ -8,7 +8,7 @@ use lib.Dec.{eqb, leb, ltb}
 use Rattle.scope_graph.specs.Path.{HopOf}
 use Rattle.scope_graph.specs.Rows.{anyOf}
 use Rattle.graph_file.specs.Admission.{Row, value}
-use Rattle.search.specs.Board.{among, reachedBy}
+use Rattle.search.specs.Board.{reachedBy}
 use Rattle.search.specs.Tables.{nextCell, freeFlag, tableBoard}
 use Rattle.edge_rows.specs.Rows.{hopTo, rowHops}
 use Rattle.prepared.specs.Sections.{rowsOf}
