@@ -6,7 +6,7 @@ use lib.ListN.{length, getD, drop}
 use Rattle.edge_rows.specs.Rows.{hopAt, rowHops, allHops, RowsAscend, nextRow}
 
 -- the next row from cell p on is the first of those that are found from there on, and behind it stand the others. It leaves s, and each row from p on that
--- stands above it leaves an earlier scope, so r is the one place of which this holds.
+-- stands above it leaves an earlier scope.
 pub record NextRow (rows : List ℕ) (s p r : ℕ) : Type 0 where
   pub most : r ≤ length rows
   pub none : length rows ≤ r → rowHops (drop p rows) s ≡ []
@@ -18,6 +18,10 @@ pub record NextRow (rows : List ℕ) (s p r : ℕ) : Type 0 where
 
 abbrev pub NextIs : Type 0
 NextIs = (rows : List ℕ) (s p : ℕ) → NextRow rows s p (nextRow rows s p)
+
+-- and this holds of no other place
+abbrev pub NextOne : Type 0
+NextOne = (rows : List ℕ) (s p r : ℕ) → NextRow rows s p r → r ≡ nextRow rows s p
 
 -- whole rows, none of which leaves a scope later than s
 pub record NoneLater (rows : List ℕ) (s : ℕ) : Type 0 where
