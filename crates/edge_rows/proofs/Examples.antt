@@ -1,6 +1,6 @@
 -- Worked examples on rows that do not ascend (02, K4). Assumes nothing.
 use mathlib.Core.Path.{_≡_, refl}
-use mathlib.Core.List.{List, [], _∷_, _++_}
+use mathlib.Core.List.{List, [], _∷_}
 use Prim.Native.Nat.{ℕ}
 use Rattle.edge_rows.specs.Rows.{hopTo, ifOwn, byScope, rowHops, allHops, placeFrom, nextRow}
 
@@ -33,6 +33,11 @@ second-place = refl
 pub no-more : nextRow mixed 2 24 ≡ 36
 unfolding nextRow placeFrom byScope ifOwn
 no-more = refl
+
+-- from cell 30 on, behind the row of scope 3: what stands above is not looked at
+pub place-behind : nextRow mixed 2 30 ≡ 30
+unfolding nextRow placeFrom byScope ifOwn
+place-behind = refl
 
 -- scopes 2, 2, 3, 2, the first two rows equal: each of these is found, at its place
 abbrev equal : List ℕ

@@ -1,9 +1,9 @@
 -- Laws of the rows of a scope, from a cell on, for any rows. Assumes nothing.
-use mathlib.Core.Path.{_≡_, refl, sym, ap, _∙_}
+use mathlib.Core.Path.{_≡_, refl, sym, ap, subst, _∙_}
 use mathlib.Core.Logic.{_⊎_, inl, inr}
 use mathlib.Core.Bool.{Bool, true, false}
 use mathlib.Core.List.{List, [], _∷_}
-use Prim.Native.Nat.{ℕ, zero, suc, _+_, _≤_, _<_}
+use Prim.Native.Nat.{ℕ, zero, suc, _+_, _*_, _≤_, _<_}
 use native.Mathlib.Omega.{arith}
 use native.Mathlib.Numerals.{towards-suc}
 use borrow.Author.Tests.{ne-eqb, eq-eqb, eqb-true, eqb-false, lt-ltb, le-ltb, ltb-true, ltb-false}
@@ -131,24 +131,35 @@ module _ (l : List ℕ) (s p r : ℕ) where
     none = λ h. e;
     on = λ h. absurd (omega arith);
     whole = λ h. absurd (omega arith);
+    leaves = λ h. absurd (omega arith);
+    passed = λ h. absurd (omega arith);
     hops = λ h. absurd (omega arith);
   }
 
-  next-here : p + 6 ≤ length l → rowHops (drop p l) s ≡ hopAt l p ∷ rowHops (drop (p + 6) l) s → r ≡ p → NextRow l s p r
-  next-here inside e is = record {
+  next-here : p + 6 ≤ length l → getD l (p + 1) 0 ≡ s → rowHops (drop p l) s ≡ hopAt l p ∷ rowHops (drop (p + 6) l) s → r ≡ p → NextRow l s p r
+  next-here inside own e is = record {
     most = omega arith;
     none = λ h. absurd (omega arith);
     on = λ h. omega arith;
     whole = λ h. omega arith;
+    leaves = λ h. rw is own;
+    passed = λ h. (0, omega arith, λ j m. absurd (omega arith));
     hops = λ h. rw is e;
   }
 
-  next-behind : rowHops (drop p l) s ≡ rowHops (drop (p + 6) l) s → NextRow l s (p + 6) r → NextRow l s p r
-  next-behind e row = record {
+  -- a row of an earlier scope, and k such rows behind it
+  one-more : getD l (p + 1) 0 < s → (k : ℕ) → ((j : ℕ) → j < k → getD l (p + 6 + 6 * j + 1) 0 < s) → (j : ℕ) → j < suc k → getD l (p + 6 * j + 1) 0 < s
+  one-more first k others zero m = subst (λ (i : ℕ). getD l i 0 < s) (omega arith) first
+  one-more first k others (suc j) m = subst (λ (i : ℕ). getD l i 0 < s) (omega arith) (others j (omega arith))
+
+  next-behind : getD l (p + 1) 0 < s → rowHops (drop p l) s ≡ rowHops (drop (p + 6) l) s → NextRow l s (p + 6) r → NextRow l s p r
+  next-behind first e row = record {
     most = row .most;
     none = λ h. e ∙ row .none h;
     on = λ h. let on = row .on h in omega arith;
     whole = row .whole;
+    leaves = row .leaves;
+    passed = λ h. let (k, is, others) = row .passed h in (suc k, omega arith, one-more first k others);
     hops = λ h. e ∙ row .hops h;
   }
 
@@ -158,10 +169,10 @@ next-from l s (suc k) p h = at (λ inside. next-from l s k (p + 6) (omega arith)
   where
     by-scope : (p + 6 ≤ length l → NextRow l s (p + 6) (nextRow l s (p + 6))) → (inside : p + 6 ≤ length l) → (s < getD l (p + 1) 0) ⊎ ((getD l (p + 1) 0 ≡ s) ⊎ (getD l (p + 1) 0 < s)) → NextRow l s p (nextRow l s p)
     by-scope so inside (inl m) = next-end l s p (nextRow l s p) (rows-later l s p inside m) (next-later l s p inside m)
-    by-scope so inside (inr (inl m)) = next-here l s p (nextRow l s p) inside (rows-own l s p inside m) (next-own l s p inside m)
+    by-scope so inside (inr (inl m)) = next-here l s p (nextRow l s p) inside m (rows-own l s p inside m) (next-own l s p inside m)
     by-scope so inside (inr (inr m)) =
         rw (next-earlier l s p inside m)
-        (next-behind l s p (nextRow l s (p + 6)) (rows-earlier l s p inside m) (so inside))
+        (next-behind l s p (nextRow l s (p + 6)) m (rows-earlier l s p inside m) (so inside))
 
     at : (p + 6 ≤ length l → NextRow l s (p + 6) (nextRow l s (p + 6))) → (ltb (length l) (p + 6) ≡ true) ⊎ (ltb (length l) (p + 6) ≡ false) → NextRow l s p (nextRow l s p)
     at so (inl e) =

@@ -21,8 +21,8 @@ ifOwn s from own other = elim (eqb from s) [ true ↦ own | false ↦ other ]
 unfoldable pub byScope : {A : Type 0} → ℕ → ℕ → A → A → A → A
 byScope s from later own earlier = elim (ltb s from) [ true ↦ later | false ↦ ifOwn s from own earlier ]
 
--- 02, K4, for any rows: those of the scope that stand above the first row of a later scope, each once, in row sequence. What stands behind that row
--- does not count, and cells that do not fill a row are none.
+-- 02, K4, for any rows: one hop for each row that leaves s and has no later scope's row above it, from the top down. Cells that do not fill a row are
+-- none. What this comes to is said by places in Promises (`AboveLater`).
 unfoldable pub rowHops : List ℕ → ℕ → List (HopOf ℕ)
 rowHops [] s = []
 rowHops (a ∷ []) s = []

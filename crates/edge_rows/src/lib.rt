@@ -2,8 +2,8 @@
 ghost use mathlib.Core.Path.{_≡_};
 ghost use Rattle.edge_rows.specs.Rows.{nextRow};
 
-// From cell p on, where the next row stands that leaves scope s; the number of cells if there is none. Rows ascend in an accepted table, so the look ends at the first row of a
-// later scope; in any other table the rows behind that one are not found.
+// From cell p on, where the next row stands that leaves scope s; the number of cells if there is none. A later scope's row means none: in an accepted table no row of s is left
+// behind it, and in any other those behind it do not count. What stands above p is not looked at: begin at 0, and go on behind the row that was found.
 pub fn next_row(edges: &[u64], s: u64, p: usize) -> usize
     ensures answer { λ r. ⌜ r ≡ nextRow (now (edges .entry)) s p ⌝ }
 {
