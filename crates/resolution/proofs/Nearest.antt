@@ -1,6 +1,6 @@
 -- What the share is: the value of specs/Share's theorem, and the three ways in which the code comes to it. Assumes nothing.
 use Prim.Native.Nat.{ℕ, zero, suc, _+_, _*_, _/_, _%_, _<_, _≤_}
-use mathlib.Core.Path.{_≡_, refl, sym}
+use mathlib.Core.Path.{_≡_, refl}
 use mathlib.Core.Bool.{Bool, true, false}
 use mathlib.Core.Logic.{_⊎_, inl, inr}
 use native.Mathlib.Omega.{arith}
@@ -90,3 +90,12 @@ unfolding share nearest
 share-nearest one n h =
     let is = is-rounded one n (one * 100 / n) (one * 100 % n) (div-add-mod (one * 100) n) (mod-lt (one * 100) h) in
     record { is-share = is; at-most = at-most one n h (share one n) is; no-other = λ s a. no-other one n h s (share one n) a is }
+
+-- document 02's two figures, K1
+pub one-of-eight : share 1 8 ≡ 12
+unfolding share nearest rounded
+one-of-eight = refl
+
+pub three-of-eight : share 3 8 ≡ 38
+unfolding share nearest rounded
+three-of-eight = refl
