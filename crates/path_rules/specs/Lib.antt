@@ -1,0 +1,10 @@
+pub mod Expression
+pub mod Grammar
+pub mod Table
+pub mod Sets
+pub mod Parts
+pub mod Reading
+pub mod Vectors
+pub mod Walk
+pub mod Rules
+pub mod Promises
