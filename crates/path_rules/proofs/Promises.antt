@@ -18,7 +18,7 @@ use Rattle.path_rules.specs.declared.reading.Reading.{Reading}
 use Rattle.path_rules.specs.declared.walk.Walk.{Walk}
 use Rattle.path_rules.proofs.Ends.{rules-long, rules-part, rules-whole}
 use Rattle.path_rules.proofs.ReadingLaws.{ready, taken, one-tree}
-use Rattle.path_rules.proofs.TableLaws.{Below, reads-below, made, table-decides, table-fewest, table-met, table-over, walked-few}
+use Rattle.path_rules.proofs.TableLaws.{Below, below-up, reads-below, made, table-decides, table-fewest, table-met, table-over, walked-few}
 
 -- a table is refused by 13 or by nothing
 table-refusal : (w : Walk) → (tableOf w .refusal ≡ 13) ⊎ (tableOf w .refusal ≡ 0)
@@ -56,6 +56,9 @@ module _ (labels text : List ℕ) where
     low : Below (length labels) e
     low = reads-below labels sides e text (x .reads)
 
+    low-eight : Below 8 e
+    low-eight = below-up (length labels) 8 e eight low
+
     abbrev whole : Reading
     whole = chosen (merged read)
 
@@ -90,6 +93,7 @@ module _ (labels text : List ℕ) where
         by (inr o) =
             let z = made-is o in
             let d = table-decides e whole (ready labels e text x .letters) (ready labels e text x .tracked) (length labels) eight low o in
+            let all = table-decides e whole (ready labels e text x .letters) (ready labels e text x .tracked) 8 (omega arith) low-eight o in
             let b = walked-few e whole (ready labels e text x .letters) (ready labels e text x .tracked) (length labels) eight low in
             record {
               too-many = (
@@ -97,7 +101,7 @@ module _ (labels text : List ℕ) where
                 λ h. absurd (let y = h (walk .states) _ _ d in omega arith),
               );
               refused = λ h. ap (λ r. r .refusal) z;
-              decides = λ h. rw z d;
+              decides = λ h. rw z all;
               fewest = λ h. rw z (table-fewest e whole (ready labels e text x .letters) (ready labels e text x .tracked) (length labels) eight low o);
               few = rw z b;
               numbered = λ h. rw z (table-met e whole (ready labels e text x .letters) (ready labels e text x .tracked) (length labels) eight low o);

@@ -47,6 +47,12 @@ Below n (seq a b) = Below n a × Below n b
 Below n (alt a b) = Below n a × Below n b
 Below n (star a) = Below n a
 
+pub below-up : (m n : ℕ) (e : Expr) → m ≤ n → Below m e → Below n e
+below-up m n (letter l) h b = omega arith
+below-up m n (seq x y) h b = (below-up m n x h (b .0), below-up m n y h (b .1))
+below-up m n (alt x y) h b = (below-up m n x h (b .0), below-up m n y h (b .1))
+below-up m n (star x) h b = below-up m n x h b
+
 each-over : (n : ℕ) (P : List ℕ → Type 0) → ((w : List ℕ) → P w → Over n w) → (ws : List (List ℕ)) → Each P ws → Over n (joined ws)
 each-over n P h [] i = tt
 each-over n P h (w ∷ ws) i = over-both n w (joined ws) (h w (i .0)) (each-over n P h ws (i .1))

@@ -16,14 +16,15 @@ pub data Binding : Type 0 where
 unfoldable pub isSign : ℕ → Bool
 isSign c = eqb c 40 || (eqb c 41 || (eqb c 42 || eqb c 124))
 
--- a label's number is its place; 8, which is no label's, if the byte is none of them
+-- a label's number is its place; 8 if the byte is none of them. Only numbers below 8 are labels'
 unfoldable pub placeOf : ℕ → ℕ → List ℕ → ℕ
 placeOf i b [] = 8
 placeOf i b (l ∷ ls) = elim (eqb b l) [ true ↦ i | false ↦ placeOf (suc i) b ls ]
 
--- The text is an expression, over labels whose numbers are their places: a star binds closest and
--- may follow a star, a bar loosest; every bracket pair and each side of a bar holds something,
--- since no text here is empty.
+-- The text is an expression, over labels whose numbers are their places. The kinds of binding say
+-- what goes with what: a star belongs to one item, a bar parts whole sequences. No rule reads an
+-- empty text, so neither a bracket pair nor a side of a bar is empty; `starred` makes an item of an
+-- item, so stars may stand one behind the other.
 pub data Reads (labels : List ℕ) : Binding → Expr → List ℕ → Type 0 where
   label : (c l : ℕ) → isSign c ≡ false → placeOf 0 c labels ≡ l → l < 8 → Reads labels item (letter l) (c ∷ [])
   starred : (e : Expr) (s t : List ℕ) → Reads labels item e s → t ≡ s ++ 42 ∷ [] → Reads labels item (star e) t

@@ -21,10 +21,11 @@ pub record RowPromises (labels text : List ℕ) (e : Expr) : Type 0 where
   -- 13 exactly if every table of the language needs more than 16 states; else nothing refuses
   pub too-many : (rulesOf labels text .refusal ≡ 13) ↔ AtLeast (length labels) (In e) 17
   pub refused : ¬ (rulesOf labels text .refusal ≡ 13) → rulesOf labels text .refusal ≡ 0
-  -- the table leads to acceptance on precisely the words of the language, no table that does has
-  -- fewer states, and there are at most 16
+  -- Of all words over eight label numbers the table accepts those of the language and no other, so
+  -- none by a number that has no label; no table that is right of the words over the labels has
+  -- fewer states, and there are at most 16.
   pub decides : rulesOf labels text .refusal ≡ 0
-      → Decides (length labels) (In e) (rulesOf labels text .states) (nextIn (rulesOf labels text)) (acceptsIn (rulesOf labels text))
+      → Decides 8 (In e) (rulesOf labels text .states) (nextIn (rulesOf labels text)) (acceptsIn (rulesOf labels text))
   pub fewest : rulesOf labels text .refusal ≡ 0 → AtLeast (length labels) (In e) (rulesOf labels text .states)
   pub few : rulesOf labels text .states ≤ 16
   -- a breadth-first walk by label number meets the states in the sequence of their numbers, 0 first

@@ -22,8 +22,7 @@ abbrev pub Over : ℕ → List ℕ → Type 0
 Over n [] = Unit {0}
 Over n (l ∷ w) = (l < n) × Over n w
 
--- a table of m states leads to an accepting state on precisely the words of P, of the words over n
--- labels
+-- of the words over n labels, a table of m states accepts those of P and no other
 pub record Decides (n : ℕ) (P : List ℕ → Type 0) (m : ℕ) (next : ℕ → ℕ → Option ℕ) (accepts : ℕ → Bool) : Type 0 where
   pub start : 0 < m
   pub inside : (q l r : ℕ) → q < m → l < n → next q l ≡ some r → r < m
@@ -32,6 +31,7 @@ pub record Decides (n : ℕ) (P : List ℕ → Type 0) (m : ℕ) (next : ℕ →
 -- The targets of the cells state * 8 + label, in sequence, 16 for none, and how many states are met
 -- by then: a breadth-first walk by label number meets the states in the sequence of their numbers.
 -- Each cell's own state is met before it; its target is none, one that is met, or the next number.
+-- This is for at most 16 states: from a seventeenth on, 16 would be a state too.
 pub data Met : List ℕ → ℕ → Type 0 where
   start : Met [] 1
   nowhere : (rs : List ℕ) (c : ℕ) → Met rs c → length rs / 8 < c → Met (rs ++ 16 ∷ []) c

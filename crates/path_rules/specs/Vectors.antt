@@ -45,7 +45,7 @@ unfoldable pub firstFound : Found
 firstFound = record { cells = set (replicate 2048 0) 0 endSet; count = 1 }
 
 module _ (after labels : List ℕ) where
-  -- turn k: what label k % 8 leads into set k / 8
+  -- turn k: what leads by label k % 8 into set k / 8
   unfoldable pub noteTurn : ℕ → Found → Found
   noteTurn k f =
       elim (ltb (k / 8) (f .count)) [ true ↦ noted f (before after labels (getD (f .cells) (k / 8) 0) (k % 8)) | false ↦ f ]
@@ -58,15 +58,16 @@ module _ (after labels : List ℕ) where
   unfoldable pub vectors : Found
   vectors = turns 16384 firstFound
 
--- do two sets meet the same ones of a list of sets?
+-- does v meet both sets, or neither?
 unfoldable pub alikeOn : ℕ → ℕ → ℕ → Bool
 alikeOn v a b = elim (meets a v) [ true ↦ meets b v | false ↦ not (meets b v) ]
 
+-- do two sets meet the same ones of a list of sets?
 unfoldable pub sameOn : List ℕ → ℕ → ℕ → Bool
 sameOn [] a b = true
 sameOn (v ∷ vs) a b = elim (alikeOn v a b) [ true ↦ sameOn vs a b | false ↦ false ]
 
--- the place of the first set that is the same as t, or how many there are
+-- the place of the first set that meets the same of `vs` as t does, or how many there are
 unfoldable pub placeSame : List ℕ → List ℕ → ℕ → ℕ
 placeSame vs [] t = 0
 placeSame vs (s ∷ ss) t = elim (sameOn vs s t) [ true ↦ 0 | false ↦ suc (placeSame vs ss t) ]

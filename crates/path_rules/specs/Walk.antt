@@ -22,7 +22,7 @@ toNew w k t = record { over = w .over; states = w .states + 1; sets = set (w .se
 abbrev pub tooMany : Walk → Walk
 tooMany w = record { over = true; states = w .states; sets = w .sets; next = w .next }
 
--- the set t is reached at cell k, and j is the place of a state like it
+-- the set t is reached at cell k; j is the place of a state like it, or the number of states
 unfoldable pub arrived : Walk → ℕ → ℕ → ℕ → Walk
 arrived w k t j =
     elim (ltb j (w .states)) [ true ↦ toState w k j | false ↦ elim (ltb (w .states) 16) [ true ↦ toNew w k t | false ↦ tooMany w ] ]

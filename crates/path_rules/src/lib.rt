@@ -1,9 +1,9 @@
 // Path rules as an expression (02, K6): an expression's text and the file's labels make a
 // transition table and its accepting states.
-pub mod reading;
-pub mod sets;
-pub mod vectors;
-pub mod walk;
+mod reading;
+mod sets;
+mod vectors;
+mod walk;
 
 use crate::reading::Part;
 use crate::reading::Reading;
@@ -69,7 +69,7 @@ fn start_set(e: Part) -> u64
 
 // 1 if the state accepts: the word's end is in its set.
 fn accept_cell(sets: [u64; 16], q: usize) -> u64
-    requires { ⌜ q < 16 ⌝ }
+    requires state { ⌜ q < 16 ⌝ }
     ensures answer { λ r. ⌜ r ≡ acceptCell sets q ⌝ }
 {
     only_if(has_bit(sets[q], 10), 1)

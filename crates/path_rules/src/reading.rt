@@ -98,7 +98,7 @@ fn star_part(a: Part) -> Part
 
 // Where position p may go on to, when each of `lasts` may go on to `firsts` too.
 fn link_cell(after: [u64; 10], lasts: u64, firsts: u64, p: usize) -> u64
-    requires { ⌜ p < 10 ⌝ }
+    requires position { ⌜ p < 10 ⌝ }
     ensures answer { λ r. ⌜ r ≡ linkCell after lasts firsts p ⌝ }
 {
     after[p] | only_if(has_bit(lasts, p as u64), firsts)
@@ -157,7 +157,7 @@ fn choose(mut s: Reading) -> Reading
 
 // Choice and sequence laid aside while a bracket pair is read.
 fn push(mut s: Reading) -> Reading
-    requires { ⌜ s .depth < 64 ⌝ }
+    requires depth { ⌜ s .depth < 64 ⌝ }
     ensures answer { λ r. ⌜ r ≡ pushed s ⌝ }
 {
     let d = s.depth;
@@ -177,7 +177,7 @@ fn push(mut s: Reading) -> Reading
 
 // What was read between brackets is the next item behind what was laid aside.
 fn pop(mut s: Reading) -> Reading
-    requires { ⌜ (0 < s .depth) × (s .depth ≤ 64) ⌝ }
+    requires depth { ⌜ (0 < s .depth) × (s .depth ≤ 64) ⌝ }
     ensures answer { λ r. ⌜ r ≡ popped s ⌝ }
 {
     let d = s.depth - 1;
@@ -208,7 +208,7 @@ fn repeat(mut s: Reading) -> Reading
 
 // A letter is the next item; its position is the number of letters before it.
 fn put_letter(mut s: Reading, label: u64) -> Reading
-    requires { ⌜ s .letters < 10 ⌝ }
+    requires letters { ⌜ s .letters < 10 ⌝ }
     ensures answer { λ r. ⌜ r ≡ placed s label ⌝ }
 {
     let n = s.letters;
@@ -230,7 +230,7 @@ fn open(s: Reading) -> Reading
 }
 
 fn close(s: Reading) -> Reading
-    requires { ⌜ s .depth ≤ 64 ⌝ }
+    requires depth { ⌜ s .depth ≤ 64 ⌝ }
     ensures answer { λ r. ⌜ r ≡ closed s ⌝ }
 {
     if both(s.filled, 0 < s.depth) {
@@ -281,7 +281,7 @@ fn place(labels: &[u8], b: u8) -> u64
 }
 
 fn read_byte(labels: &[u8], s: Reading, b: u8) -> Reading
-    requires { ⌜ s .depth ≤ 64 ⌝ }
+    requires depth { ⌜ s .depth ≤ 64 ⌝ }
     ensures answer { λ r. ⌜ r ≡ readByte (now (labels .entry)) s b ⌝ }
 {
     if b == b'(' {

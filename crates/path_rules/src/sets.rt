@@ -6,7 +6,7 @@ ghost use Rattle.path_rules.specs.Sets.{has, onlyIf, meets};
 
 // Is x in the set?
 pub fn has_bit(set: u64, x: u64) -> bool
-    requires { ⌜ x < 11 ⌝ }
+    requires number { ⌜ x < 11 ⌝ }
     ensures answer { λ r. ⌜ r ≡ has set x ⌝ }
 {
     (set >> x) % 2 == 1
@@ -14,7 +14,7 @@ pub fn has_bit(set: u64, x: u64) -> bool
 
 // The set of one position.
 pub fn bit(x: u64) -> u64
-    requires { ⌜ x < 11 ⌝ }
+    requires number { ⌜ x < 11 ⌝ }
     ensures answer { λ r. ⌜ r ≡ 2 ^ x ⌝ }
 {
     1 << x

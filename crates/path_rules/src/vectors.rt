@@ -14,7 +14,7 @@ ghost use Rattle.path_rules.specs.Vectors.{beforeCell, before, onwardCel
 
 // Position p, if it has the label and goes on into the set v.
 fn before_cell(after: [u64; 10], labels: [u64; 10], v: u64, l: u64, p: usize) -> u64
-    requires { ⌜ p < 10 ⌝ }
+    requires position { ⌜ p < 10 ⌝ }
     ensures answer { λ r. ⌜ r ≡ beforeCell after labels v l p ⌝ }
 {
     only_if(both(labels[p] == l, meet(after[p], v)), bit(p as u64))
@@ -35,7 +35,7 @@ fn positions_before(after: [u64; 10], labels: [u64; 10], v: u64, l: u64) -> u64
 
 // What position p goes on to, if it is in the set and has the label.
 fn onward_cell(after: [u64; 10], labels: [u64; 10], s: u64, l: u64, p: usize) -> u64
-    requires { ⌜ p < 10 ⌝ }
+    requires position { ⌜ p < 10 ⌝ }
     ensures answer { λ r. ⌜ r ≡ onwardCell after labels s l p ⌝ }
 {
     only_if(both(labels[p] == l, has_bit(s, p as u64)), after[p])
@@ -70,7 +70,7 @@ fn is_known(cells: &[u64], v: u64) -> bool
 
 // The set noted, if it is new; answers how many there are then.
 fn note(cells: &mut [u64], count: usize, v: u64) -> usize
-    requires { ⌜ count ≤ length (now cells) ⌝ }
+    requires held { ⌜ count ≤ length (now cells) ⌝ }
     ensures found { λ r. ⌜ record { cells = now (cells .exit); count = r } ≡ noted (record { cells = now (cells .entry); count = count }) v ⌝ }
 {
     if is_known(&cells[..count], v) {
@@ -91,7 +91,7 @@ fn note_turn(
     count: usize,
     k: usize,
 ) -> usize
-    requires { ⌜ count ≤ length (now cells) ⌝ }
+    requires held { ⌜ count ≤ length (now cells) ⌝ }
     ensures found { λ r. ⌜ record { cells = now (cells .exit); count = r } ≡ noteTurn after labels k (record { cells = now (cells .entry); count = count }) ⌝ }
 {
     let i = k / 8;
@@ -108,7 +108,7 @@ fn note_turn(
 
 // All sets, found backwards from the end's own; answers how many there are.
 pub fn find_vectors(after: [u64; 10], labels: [u64; 10], cells: &mut [u64]) -> usize
-    requires { ⌜ now cells ≡ replicate 2048 0 ⌝ }
+    requires cleared { ⌜ now cells ≡ replicate 2048 0 ⌝ }
     ensures found { λ r. ⌜ record { cells = now (cells .exit); count = r } ≡ vectors after labels ⌝ }
 {
     cells[0] = 1024;

@@ -31,7 +31,7 @@ fn start_walk(start: u64) -> Walk
 }
 
 fn to_state(mut w: Walk, k: usize, j: usize) -> Walk
-    requires { ⌜ k < 128 ⌝ }
+    requires cell { ⌜ k < 128 ⌝ }
     ensures answer { λ r. ⌜ r ≡ toState w k j ⌝ }
 {
     w.next[k] = j as u64;
@@ -39,7 +39,7 @@ fn to_state(mut w: Walk, k: usize, j: usize) -> Walk
 }
 
 fn to_new(mut w: Walk, k: usize, t: u64) -> Walk
-    requires { ⌜ (k < 128) × (w .states < 16) ⌝ }
+    requires room { ⌜ (k < 128) × (w .states < 16) ⌝ }
     ensures answer { λ r. ⌜ r ≡ toNew w k t ⌝ }
 {
     let n = w.states;
@@ -56,9 +56,9 @@ fn too_many(mut w: Walk) -> Walk
     w
 }
 
-// The set t is reached at cell k, and j is the place of a state like it.
+// The set t is reached at cell k; j is the place of a state like it, or the number of states.
 fn arrive(w: Walk, k: usize, t: u64, j: usize) -> Walk
-    requires { ⌜ k < 128 ⌝ }
+    requires cell { ⌜ k < 128 ⌝ }
     ensures answer { λ r. ⌜ r ≡ arrived w k t j ⌝ }
 {
     if j < w.states {
@@ -72,7 +72,7 @@ fn arrive(w: Walk, k: usize, t: u64, j: usize) -> Walk
 
 // The set t is reached at cell k. A set that meets no vector is dead, and no state.
 fn reach(vs: &[u64], w: Walk, k: usize, t: u64) -> Walk
-    requires { ⌜ (k < 128) × (w .states ≤ 16) × (length (w .sets) ≡ 16) ⌝ }
+    requires room { ⌜ (k < 128) × (w .states ≤ 16) × (length (w .sets) ≡ 16) ⌝ }
     ensures answer { λ r. ⌜ r ≡ reached (now (vs .entry)) w k t ⌝ }
 {
     if same(vs, t, 0) {
@@ -86,7 +86,7 @@ fn reach(vs: &[u64], w: Walk, k: usize, t: u64) -> Walk
 
 // What cell k leads to, if its state is met already.
 fn walk_turn(vs: &[u64], after: [u64; 10], labels: [u64; 10], w: Walk, k: usize) -> Walk
-    requires { ⌜ (k < 128) × (w .states ≤ 16) × (length (w .sets) ≡ 16) ⌝ }
+    requires room { ⌜ (k < 128) × (w .states ≤ 16) × (length (w .sets) ≡ 16) ⌝ }
     ensures answer { λ r. ⌜ r ≡ walkTurn (now (vs .entry)) after labels k w ⌝ }
 {
     let q = k / 8;

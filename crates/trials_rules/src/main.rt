@@ -1,5 +1,5 @@
 // Reads expressions from standard input and prints for each the rows that it becomes, or what
-// refuses it. tests/rules writes the cases and, by another method, the output that is due.
+// refuses it. tests/rules/make writes the cases and, by another method, the output that is due.
 use path_rules::Rules;
 use path_rules::path_rules;
 ghost use Prim.Native.Nat.{_≤_};
@@ -20,7 +20,7 @@ fn digit(x: u8) -> usize
     (x - 48) as usize
 }
 
-// The bytes from a place on, as many as there are.
+// So many bytes from a place on; none if there are fewer.
 fn part(s: &[u8], from: usize, count: usize) -> &[u8] {
     if from <= s.len() {
         let rest = s.len() - from;
@@ -50,12 +50,12 @@ fn put(out: &mut [u8], at: usize, b: u8) -> usize {
     at
 }
 
-// What the cell holds, past the last none.
+// What the cell holds; 16, none, past the last.
 fn cell(next: [u64; 128], i: usize) -> u64 {
     if i < 128 { next[i] } else { 16 }
 }
 
-// Where state q leads by each of eight labels, from cell i on.
+// Where state q leads by each of eight labels, put from a place on; the place behind.
 fn put_cells(next: [u64; 128], q: usize, out: &mut [u8], from: usize) -> usize {
     let mut at = from;
     let mut l: usize = 0;
