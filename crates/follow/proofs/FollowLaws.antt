@@ -17,11 +17,12 @@ use Rattle.scope_graph.specs.Computed.{NodeOf}
 use Rattle.scope_graph.proofs.Lists.{Two}
 use Rattle.search.specs.Board.{Board, without, cutHere, nodeAt, after, ownHit, hopHits, hitsFrom}
 use Rattle.search.specs.Live.{Closed}
-use Rattle.search.specs.Tables.{rowHops, stateOf, nextCell, placeFlag, freeFlag, tableOrder, tableBoard}
-use Rattle.search.specs.Steps.{NextRow, Known, hopTo, wayOf}
+use Rattle.edge_rows.specs.Rows.{hopTo, rowHops, nextRow}
+use Rattle.edge_rows.proofs.Laws.{next-row}
+use Rattle.search.specs.Tables.{stateOf, nextCell, placeFlag, freeFlag, tableOrder, tableBoard}
+use Rattle.search.specs.Steps.{Known, wayOf}
 use Rattle.search.proofs.Closed.{closed-less, closed-hits}
 use Rattle.search.proofs.Cells.{place-state, next-no-label, free-below, free-taken, way-is-open}
-use Rattle.search.proofs.Rows.{rows-none, rows-leave}
 use Rattle.search.proofs.Leads.{taken-within}
 use Rattle.search.proofs.Closing.{state-cell}
 use Rattle.search.proofs.CutEnds.{known-nothing}
@@ -253,13 +254,13 @@ module _ (mode : ℕ) (letters decls : List ℕ) (high low start : ℕ) (edges d
         (share-after hops (hopTo l t))
 
   -- the rows from cell p on, of which the next one that leaves the scope stands at `at`, behind the path of a stack
-  module _ (labels tos : List ℕ) (depth : ℕ) (free : List ℕ) (fuel s q : ℕ) (p at : ℕ) (row : NextRow edges s p at) where
+  module _ (labels tos : List ℕ) (depth : ℕ) (free : List ℕ) (fuel s q : ℕ) (p at : ℕ) (next : at ≡ nextRow edges s p) where
     abbrev rest : ℕ → List ℕ
     rest k = flatMap (along (stackHops labels tos depth) fuel (freeFlag free) s q) (rowHops (drop k edges) s)
 
     pub rest-none : length edges ≤ at → rest p ≡ []
     unfolding flatMap
-    rest-none h = ap (flatMap (along (stackHops labels tos depth) fuel (freeFlag free) s q)) (row .same ∙ rows-none edges s at (omega arith))
+    rest-none h = ap (flatMap (along (stackHops labels tos depth) fuel (freeFlag free) s q)) (next-row next .none h)
 
     module _ (inside : at < length edges) where
       -- the label and the scope of that row's hop
@@ -273,7 +274,7 @@ module _ (mode : ℕ) (letters decls : List ℕ) (high low start : ℕ) (edges d
       unfolding flatMap
       rest-row =
           ap (flatMap (along (stackHops labels tos depth) fuel (freeFlag free) s q))
-          (row .same ∙ rows-leave edges s at (row .whole inside) (row .leaves inside))
+          (next-row next .hops inside)
 
       -- a hop that gives nothing
       rest-nothing : along (stackHops labels tos depth) fuel (freeFlag free) s q (hopTo label to) ≡ [] → rest p ≡ rest (at + 6)

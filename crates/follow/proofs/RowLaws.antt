@@ -10,8 +10,8 @@ use lib.ListN.{length, getD, set, drop, length-drop}
 use lib.Seq.{getD-set-same, getD-set-other}
 use borrow.Author.Tests.{eq-eqb, ne-eqb}
 use Rattle.scope_graph.specs.Path.{HopOf}
-use Rattle.search.specs.Steps.{hopTo}
-use Rattle.search.proofs.Rows.{six}
+use Rattle.edge_rows.specs.Rows.{hopTo}
+use Rattle.edge_rows.proofs.Laws.{six}
 use Rattle.text_field.specs.Number.{numberText}
 use Rattle.follow.specs.Text.{letterOf, hopsText, rowText}
 use Rattle.follow.specs.Walk.{declaredHere, matches, marksIn, entryBytes, entriesBytes}

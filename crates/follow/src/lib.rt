@@ -1,9 +1,9 @@
 // The walk over followed places: it writes the rows of a listing, measures them, counts entries, or finds places, all by one fold.
+use edge_rows::next_row;
 use search::Learnt;
 use search::is_free;
 use search::learn;
 use search::live_table;
-use search::next_row;
 use search::next_state;
 use search::nothing_known;
 use search::place;
@@ -20,8 +20,9 @@ ghost use lib.ListN.{getD, set, drop, replicate};
 ghost use Rattle.scope_graph.specs.Order.{endOf};
 ghost use Rattle.search.specs.Board.{cutHere};
 ghost use Rattle.search.specs.Live.{Closed, any-way};
-ghost use Rattle.search.specs.Tables.{rowHops, placeFlag, freeFlag, tableOrder, tableBoard};
-ghost use Rattle.search.specs.Steps.{hopTo, wayOf, Sorted, Known};
+ghost use Rattle.edge_rows.specs.Rows.{hopTo, rowHops};
+ghost use Rattle.search.specs.Tables.{placeFlag, freeFlag, tableOrder, tableBoard};
+ghost use Rattle.search.specs.Steps.{wayOf, Known};
 ghost use Rattle.text_field.specs.Number.{numberText};
 ghost use Rattle.follow.specs.Text.{rowText, hopsText};
 ghost use Rattle.follow.specs.Pour.{State, spend, pour};
@@ -304,7 +305,6 @@ fn own_end(
     s: u64,
     q: u64,
 ) -> Learnt
-    requires { ⌜ Sorted (now edges) ⌝ }
     requires { ⌜ Closed (tableBoard (now edges) (now delta) (now goal)) (placeFlag (now goal)) (any-way (tableBoard (now edges) (now delta) (now goal))) (freeFlag free) (placeFlag (now live)) ⌝ }
     ensures { λ r. ⌜ Known (tableBoard (now (edges .entry)) (now (delta .entry)) (now (goal .entry))) fuel (freeFlag free) s q (r .known) ⌝ }
     ensures { λ r. ⌜ r .cut ≡ (not (placeFlag (now (seek .entry)) s q) || cutHere (tableBoard (now (edges .entry)) (now (delta .entry)) (now (goal .entry))) (tableOrder (now (order .entry))) fuel (freeFlag free) s q (endOf e)) ⌝ }
@@ -413,7 +413,6 @@ fn follow_at(
     out: &mut [u8],
     tally: Tally,
 ) -> Tally
-    requires { ⌜ Sorted (now edges) ⌝ }
     requires { ⌜ Closed (tableBoard (now edges) (now delta) (now goal)) (placeFlag (now goal)) (any-way (tableBoard (now edges) (now delta) (now goal))) (freeFlag free) (placeFlag (now live)) ⌝ }
     requires { ⌜ Closed (tableBoard (now edges) (now delta) (now goal)) (placeFlag (now seek)) (wayOf (now goal) (now order) true) (freeFlag free) (placeFlag (now worth)) ⌝ }
     requires { ⌜ depth + fuel ≤ 64 ⌝ }
@@ -517,7 +516,6 @@ fn follow_from(
     out: &mut [u8],
     tally: Tally,
 ) -> Tally
-    requires { ⌜ Sorted (now edges) ⌝ }
     requires { ⌜ Closed (tableBoard (now edges) (now delta) (now goal)) (placeFlag (now goal)) (any-way (tableBoard (now edges) (now delta) (now goal))) (freeFlag free) (placeFlag (now live)) ⌝ }
     requires { ⌜ Closed (tableBoard (now edges) (now delta) (now goal)) (placeFlag (now seek)) (wayOf (now goal) (now order) true) (freeFlag free) (placeFlag (now worth)) ⌝ }
     requires { ⌜ depth + fuel < 64 ⌝ }
@@ -800,7 +798,6 @@ pub fn walk(
     out: &mut [u8],
     tally: Tally,
 ) -> Tally
-    requires { ⌜ Sorted (now edges) ⌝ }
     requires { ⌜ Closed (tableBoard (now edges) (now delta) (now goal)) (placeFlag (now goal)) (any-way (tableBoard (now edges) (now delta) (now goal))) (freeFlag (set (replicate 64 1) start 0)) (placeFlag (now live)) ⌝ }
     requires { ⌜ Closed (tableBoard (now edges) (now delta) (now goal)) (placeFlag (now seek)) (wayOf (now goal) (now order) true) (freeFlag (set (replicate 64 1) start 0)) (placeFlag (now worth)) ⌝ }
     ensures { λ r. ⌜ _≡_ {A = State} (now (out .exit), r) (walked mode (now (letters .entry)) (now (decls .entry)) high low start (now (edges .entry)) (now (delta .entry)) (now (goal .entry)) (now (order .entry)) (now (seek .entry)) e scopes (now (out .entry), tally)) ⌝ }

@@ -1,4 +1,4 @@
--- Laws of one step of a path row: rows looked through one by one, the state after a hop, the ends that are cut. Assumes nothing.
+-- Laws of one step of a path row: rows looked through one by one, edges that leave a scope, the state after a hop, the ends that are cut. Assumes nothing.
 use mathlib.Core.Path.{_≡_, refl, sym, ap, _∙_}
 use mathlib.Core.Bool.{Bool, true, false, not, _&&_, _||_, and-false, and-true}
 use mathlib.Core.List.{List, [], _∷_, map}
@@ -16,52 +16,49 @@ use Rattle.scope_graph.specs.Rows.{anyOf}
 use Rattle.graph_file.specs.Admission.{Row, value, blank}
 use Rattle.search.specs.Board.{Board, cutHere, cutAlong}
 use Rattle.search.specs.Tables.{nextCell, freeFlag, endNumber, tableOrder}
-use Rattle.search.specs.Steps.{hopTo, Known}
+use Rattle.edge_rows.specs.Rows.{hopTo, rowHops, nextRow}
+use Rattle.edge_rows.proofs.Laws.{next-row}
+use Rattle.search.specs.Steps.{Known}
 use Rattle.search.proofs.RulesLists.{anyOf-no}
 use Rattle.search.proofs.Cells.{pair-no-second}
 use Rattle.search.proofs.CutEnds.{known-nothing}
-use Rattle.prepared.specs.Sections.{rowsOf}
-use Rattle.judge.specs.Steps.{rowIs, hasRow, stateOn, stateAlong}
+use Rattle.judge.specs.Steps.{rowIs, hasRow, hasHop, stateOn, stateAlong}
 
 -- nothing is known of ends whose bytes are all 0
 pub known-none : (b : Board ℕ) (fuel : ℕ) (free : ℕ → Bool) (s q : ℕ) (known : List ℕ) → known ≡ replicate 9 0 → Known b fuel free s q known
 known-none b fuel free s q known is = rw is (known-nothing b fuel free s q)
 
 -- a row's values one by one
-module _ (four : Bool) (a b c d : ℕ) (row : Row) (v0 : ℕ) (e0 : v0 ≡ value row 0) where
-  pub row-apart : (v0 ≡ a → ⊥) → false ≡ rowIs four a b c d row
+module _ (a b c d : ℕ) (row : Row) (v0 : ℕ) (e0 : v0 ≡ value row 0) where
+  pub row-apart : (v0 ≡ a → ⊥) → false ≡ rowIs a b c d row
   unfolding rowIs
   row-apart h = rw (← e0, ne-eqb v0 a h)
 
   module _ (h : v0 ≡ a) (v1 : ℕ) (e1 : v1 ≡ value row 1) where
-    pub row-apart-1 : (v1 ≡ b → ⊥) → false ≡ rowIs four a b c d row
+    pub row-apart-1 : (v1 ≡ b → ⊥) → false ≡ rowIs a b c d row
     unfolding rowIs
     row-apart-1 k = rw (← e0, eq-eqb v0 a h, ← e1, ne-eqb v1 b k)
 
     module _ (k : v1 ≡ b) (v2 : ℕ) (e2 : v2 ≡ value row 2) where
-      pub row-apart-2 : (v2 ≡ c → ⊥) → false ≡ rowIs four a b c d row
+      pub row-apart-2 : (v2 ≡ c → ⊥) → false ≡ rowIs a b c d row
       unfolding rowIs
       row-apart-2 m = rw (← e0, eq-eqb v0 a h, ← e1, eq-eqb v1 b k, ← e2, ne-eqb v2 c m)
 
       module _ (m : v2 ≡ c) where
-        pub row-three : four ≡ false → true ≡ rowIs four a b c d row
+        pub row-four : (v3 : ℕ) → v3 ≡ value row 3 → eqb d v3 ≡ rowIs a b c d row
         unfolding rowIs
-        row-three n = rw (← e0, eq-eqb v0 a h, ← e1, eq-eqb v1 b k, ← e2, eq-eqb v2 c m, n)
-
-        pub row-four : four ≡ true → (v3 : ℕ) → v3 ≡ value row 3 → eqb d v3 ≡ rowIs four a b c d row
-        unfolding rowIs
-        row-four n v3 e3 = rw (← e0, eq-eqb v0 a h, ← e1, eq-eqb v1 b k, ← e2, eq-eqb v2 c m, n, ← e3)
+        row-four v3 e3 = rw (← e0, eq-eqb v0 a h, ← e1, eq-eqb v1 b k, ← e2, eq-eqb v2 c m, ← e3)
 
 -- rows from place i on
-module _ (four : Bool) (a b c d : ℕ) (rows : List Row) (i : ℕ) where
+module _ (a b c d : ℕ) (rows : List Row) (i : ℕ) where
   abbrev pub has : ℕ → Bool
-  has k = hasRow four a b c d (drop k rows)
+  has k = hasRow a b c d (drop k rows)
 
   pub has-none : length rows ≤ i → has i ≡ false
   unfolding hasRow anyOf
   has-none h = rw (drop-of-length-le rows {i = i} h)
 
-  module _ (h : i < length rows) (t : Bool) (e : t ≡ rowIs four a b c d (getD rows i blank)) where
+  module _ (h : i < length rows) (t : Bool) (e : t ≡ rowIs a b c d (getD rows i blank)) where
     pub has-here : t ≡ true → has i ≡ true
     unfolding hasRow anyOf
     has-here f = rw (drop-cons rows i blank h, ← e, f, anyOf)
@@ -69,6 +66,31 @@ module _ (four : Bool) (a b c d : ℕ) (rows : List Row) (i : ℕ) where
     pub has-on : t ≡ false → has i ≡ has (i + 1)
     unfolding hasRow anyOf
     has-on f = rw (drop-cons rows i blank h, ← e, f, anyOf, add-one i)
+
+-- two hops
+pub same-not : (label l to t : ℕ) → (label ≡ l → ⊥) → false ≡ (eqb label l && eqb to t)
+same-not label l to t h = rw (ne-eqb label l h)
+
+pub same-rest : (label l to t : ℕ) → label ≡ l → eqb to t ≡ (eqb label l && eqb to t)
+same-rest label l to t h = rw (eq-eqb label l h)
+
+-- the edges from cell p on, of which the next one stands at `at`
+module _ (edges : List ℕ) (s : ℕ) (h : HopOf ℕ) (p at : ℕ) (next : at ≡ nextRow edges s p) where
+  abbrev left : ℕ → Bool
+  left k = hasHop h (rowHops (drop k edges) s)
+
+  pub hop-none : length edges ≤ at → left p ≡ false
+  unfolding hasHop anyOf
+  hop-none k = ap (hasHop h) (next-row next .none k)
+
+  module _ (inside : at < length edges) (u : Bool) (e : u ≡ (eqb (getD edges (at + 2) 0) (h .step) && eqb (getD edges (at + 3) 0) (h .to))) where
+    pub hop-here : u ≡ true → left p ≡ true
+    unfolding hasHop anyOf
+    hop-here k = ap (hasHop h) (next-row next .hops inside) ∙ rw (sym e ∙ k, anyOf)
+
+    pub hop-on : u ≡ false → left p ≡ left (at + 6)
+    unfolding hasHop anyOf
+    hop-on k = ap (hasHop h) (next-row next .hops inside) ∙ rw (sym e ∙ k, anyOf)
 
 -- the state after a hop
 module _ (delta free : List ℕ) (q l t : ℕ) where
@@ -80,7 +102,7 @@ module _ (delta free : List ℕ) (q l t : ℕ) where
   unfolding stateOn
   on-free h = rw (h, stateOn)
 
-  module _ (edges : List ℕ) (s : ℕ) (u : Bool) (e : u ≡ hasRow false s l t 0 (rowsOf edges)) where
+  module _ (edges : List ℕ) (s : ℕ) (u : Bool) (e : u ≡ hasHop (hopTo l t) (rowHops edges s)) where
     pub along-none : u ≡ false → stateAlong edges delta free s q (hopTo l t) ≡ 16
     unfolding stateAlong
     along-none h = rw (sym e ∙ h, stateAlong)

@@ -48,7 +48,7 @@ module _ (r : Rules) (s high low mark : ℕ) where
   abbrev markOf : Declaration (language r) → ℕ
   markOf d = d .mark
 
-  marked : (rows : List Row) → hasRow true s high low mark rows ≡ anyOf (eqb mark) (marksAt (language r) (map (declarationOf r) rows) s x)
+  marked : (rows : List Row) → hasRow s high low mark rows ≡ anyOf (eqb mark) (marksAt (language r) (map (declarationOf r) rows) s x)
   unfolding hasRow rowIs anyOf marksAt keep declarationOf nameAt sameName
   marked [] = refl
   marked (row ∷ rows) = at (eqb (value row 0) s) (eqb (value row 1) high) (eqb (value row 2) low) (marked rows)
@@ -56,8 +56,8 @@ module _ (r : Rules) (s high low mark : ℕ) where
       rest : List (Declaration (language r))
       rest = keep declared (map (declarationOf r) rows)
 
-      at : (u v w : Bool) → hasRow true s high low mark rows ≡ anyOf (eqb mark) (map markOf rest)
-          → (elim (u && (v && (w && eqb mark (value row 3)))) as (λ _. Bool) [ true ↦ true | false ↦ hasRow true s high low mark rows ])
+      at : (u v w : Bool) → hasRow s high low mark rows ≡ anyOf (eqb mark) (map markOf rest)
+          → (elim (u && (v && (w && eqb mark (value row 3)))) as (λ _. Bool) [ true ↦ true | false ↦ hasRow s high low mark rows ])
           ≡ anyOf (eqb mark) (map markOf (elim (u && (v && w)) as (λ _. List (Declaration (language r))) [ true ↦ declarationOf r row ∷ rest | false ↦ rest ]))
       at false v w e = e
       at true false w e = e
@@ -148,7 +148,7 @@ module _ (cells : List ℕ) (start high low mark from : ℕ) (row : List ℕ) (a
       (delta-is : delta ≡ transitionCells (rowsOf (partOf 2 cells))) (accepts-is : accepts ≡ acceptingFlags (rowsOf (partOf 3 cells)))
       (goal-is : goal ≡ goalSets accepts (declaringFlags (record { high = high; low = low }) (rowsOf (partOf 6 cells))))
       (free-is : free ≡ set (replicate 64 1) start 0) (at-is : stepsOf mostSteps (drop at row) ≡ stepsIn row) where
-    marked-is : hasRow true (lastOf start hs) high low mark (rowsOf (partOf 6 cells)) ≡ ruledMark
+    marked-is : hasRow (lastOf start hs) high low mark (rowsOf (partOf 6 cells)) ≡ ruledMark
     unfolding graphOf
     marked-is =
         rw (rows-are cells (a .read) declarationSection, last-is (rulesOf cells) start hs, ← same)

@@ -1,23 +1,20 @@
 -- Laws of going along a path row's steps, one by one: what is left of them, whether they lead to what is sought, whether an end on their way is cut. Assumes nothing.
 use mathlib.Core.Path.{_≡_, refl, sym, ap, _∙_}
-use mathlib.Core.Bool.{Bool, true, false, not, _&&_, _||_, and-true}
+use mathlib.Core.Bool.{Bool, true, false, not, _&&_, _||_}
 use mathlib.Core.Logic.{_⊎_, inl, inr}
 use mathlib.Core.Option.{Option, some, none}
 use mathlib.Core.List.{List, [], _∷_}
 use Prim.Native.Nat.{ℕ, zero, suc, _-_, _≤_, _<_}
 use native.Mathlib.Omega.{arith}
 use borrow.Author.Tests.{lt-ltb, le-ltb}
-use lib.Dec.{eqb}
 use lib.ListN.{set, drop}
 use Rattle.scope_graph.specs.Language.{End, stop, by}
 use Rattle.scope_graph.specs.Order.{endOf}
 use Rattle.scope_graph.specs.Path.{HopOf}
-use Rattle.scope_graph.specs.Rows.{anyOf}
 use Rattle.scope_graph.proofs.Lists.{Two}
-use Rattle.graph_file.specs.Admission.{Row, value}
 use Rattle.search.specs.Board.{Board, without, leadsTo, among, reachedBy, cutHere, cutAlong}
-use Rattle.search.specs.Tables.{rowHop, rowHops, stateOf, nextCell, placeFlag, freeFlag, tableOrder, tableBoard}
-use Rattle.search.specs.Steps.{hopTo}
+use Rattle.edge_rows.specs.Rows.{hopTo, rowHops}
+use Rattle.search.specs.Tables.{stateOf, nextCell, placeFlag, freeFlag, tableOrder, tableBoard}
 use Rattle.search.proofs.Cells.{free-taken}
 use Rattle.prepared.specs.Sections.{rowsOf}
 use Rattle.path_row.specs.declared.form.StepRead.{StepRead}
@@ -26,7 +23,7 @@ use Rattle.path_row.specs.Form.{stepMeaning, stepFrom, stepsOf}
 use Rattle.path_row.specs.Compare.{labelNumber}
 use Rattle.path_row.specs.Scan.{scannedLetters}
 use Rattle.path_row.proofs.Steps.{steps-next, steps-none}
-use Rattle.judge.specs.Steps.{rowIs, hasRow, hopsBy, stateOn, stateAlong, lastOf, rowReached}
+use Rattle.judge.specs.Steps.{hasRow, hasHop, hopsBy, stateOn, stateAlong, lastOf, rowReached}
 use Rattle.judge.proofs.HopLaws.{on-taken, on-free}
 
 -- the hops of the steps that are left
@@ -75,29 +72,6 @@ module _ (edges delta goal free : List ℕ) (q l t r : ℕ) (is : r ≡ stateOn 
           let n : nextCell delta q l < 16 = omega arith in
           rw (f, leadsTo, lt-ltb (nextCell delta q l) 16 n, ← e)
 
--- an edge's row is among the rows
-module _ (delta goal : List ℕ) (s l t : ℕ) where
-  pub among-rows : (edges full : List ℕ) → among (tableBoard full delta goal) (hopTo l t) (rowHops edges s) ≡ hasRow false s l t 0 (rowsOf edges)
-  unfolding among rowHops rowHop hasRow rowIs rowsOf anyOf tableBoard
-  among-rows [] full = refl
-  among-rows (a ∷ []) full = refl
-  among-rows (a ∷ from ∷ []) full = refl
-  among-rows (a ∷ from ∷ label ∷ []) full = refl
-  among-rows (a ∷ from ∷ label ∷ to ∷ []) full = refl
-  among-rows (a ∷ from ∷ label ∷ to ∷ x ∷ []) full = refl
-  among-rows (a ∷ from ∷ label ∷ to ∷ x ∷ y ∷ cells) full = at (eqb from s) (among-rows cells full)
-    where
-      here : List (HopOf ℕ)
-      here = rowHops cells s
-
-      at : (u : Bool) → among (tableBoard full delta goal) (hopTo l t) here ≡ hasRow false s l t 0 (rowsOf cells)
-          → among (tableBoard full delta goal) (hopTo l t) (elim u as (λ _. List (HopOf ℕ)) [ true ↦ hopTo label to ∷ here | false ↦ here ])
-          ≡ (elim (u && (eqb label l && (eqb to t && true))) as (λ _. Bool) [ true ↦ true | false ↦ hasRow false s l t 0 (rowsOf cells) ])
-      at false e = e
-      at true e =
-          ap (λ (v : Bool). elim (eqb label l && v) as (λ _. Bool) [ true ↦ true | false ↦ among (tableBoard full delta goal) (hopTo l t) here ]) (sym (and-true (eqb to t)))
-          ∙ ap (λ (v : Bool). elim (eqb label l && (eqb to t && true)) as (λ _. Bool) [ true ↦ true | false ↦ v ]) e
-
 -- does the row lead on by a hop?
 module _ (edges decls delta goal : List ℕ) (high low mark : ℕ) (free : List ℕ) (s q l t r : ℕ) (is : r ≡ stateAlong edges delta free s q (hopTo l t)) (hs : List (HopOf ℕ)) where
   abbrev reached : List ℕ → ℕ → ℕ → List (HopOf ℕ) → Bool
@@ -107,13 +81,13 @@ module _ (edges decls delta goal : List ℕ) (high low mark : ℕ) (free : List 
   beyond = leadsTo (tableBoard edges delta goal) (λ t′ r′. reachedBy (tableBoard edges delta goal) (without (freeFlag free) t′) t′ r′ hs) (freeFlag free) q (hopTo l t)
 
   by-edge : reachedBy (tableBoard edges delta goal) (freeFlag free) s q (hopTo l t ∷ hs)
-      ≡ (elim (hasRow false s l t 0 (rowsOf edges)) as (λ _. Bool) [ false ↦ false | true ↦ beyond ])
-  unfolding reachedBy tableBoard
-  by-edge = ap (λ (u : Bool). elim u as (λ _. Bool) [ false ↦ false | true ↦ beyond ]) (among-rows delta goal s l t edges edges)
+      ≡ (elim (hasHop (hopTo l t) (rowHops edges s)) as (λ _. Bool) [ false ↦ false | true ↦ beyond ])
+  unfolding reachedBy among hasHop tableBoard
+  by-edge = refl
 
   pub reach-no : 15 < r → reached free s q (hopTo l t ∷ hs) ≡ false
   unfolding rowReached stateAlong
-  reach-no h = at (hasRow false s l t 0 (rowsOf edges)) is by-edge
+  reach-no h = at (hasHop (hopTo l t) (rowHops edges s)) is by-edge
     where
       at : (u : Bool) → r ≡ (elim u as (λ _. ℕ) [ true ↦ stateOn delta free q (hopTo l t) | false ↦ 16 ])
           → reachedBy (tableBoard edges delta goal) (freeFlag free) s q (hopTo l t ∷ hs) ≡ (elim u as (λ _. Bool) [ false ↦ false | true ↦ beyond ])
@@ -123,7 +97,7 @@ module _ (edges decls delta goal : List ℕ) (high low mark : ℕ) (free : List 
 
   pub reach-on : r ≤ 15 → (free′ : List ℕ) → free′ ≡ set free t 0 → reached free s q (hopTo l t ∷ hs) ≡ reached free′ t r hs
   unfolding rowReached stateAlong lastOf
-  reach-on h free′ f = at (hasRow false s l t 0 (rowsOf edges)) is by-edge
+  reach-on h free′ f = at (hasHop (hopTo l t) (rowHops edges s)) is by-edge
     where
       at : (u : Bool) → r ≡ (elim u as (λ _. ℕ) [ true ↦ stateOn delta free q (hopTo l t) | false ↦ 16 ])
           → reachedBy (tableBoard edges delta goal) (freeFlag free) s q (hopTo l t ∷ hs) ≡ (elim u as (λ _. Bool) [ false ↦ false | true ↦ beyond ])
@@ -138,7 +112,7 @@ module _ (edges decls delta goal : List ℕ) (high low mark : ℕ) (free : List 
   unfolding rowReached reachedBy tableBoard
   end-no h = rw (← e, h)
 
-  pub end-yes : u ≡ true → hasRow true s high low mark (rowsOf decls) ≡ rowReached edges decls delta goal high low mark free s q []
+  pub end-yes : u ≡ true → hasRow s high low mark (rowsOf decls) ≡ rowReached edges decls delta goal high low mark free s q []
   unfolding rowReached reachedBy tableBoard lastOf
   end-yes h = rw (← e, h)
 

@@ -1,15 +1,16 @@
--- What the steps of the judge's code answer: which refusal is told, a row of a section, the state
--- after a hop, whether a row's path is reached. Assumes nothing: these are definitions.
+-- What the steps of the judge's code answer: which refusal is told, a declaration's row, an edge that
+-- leaves a scope, the state after a hop, whether a row's path is reached. Assumes nothing: these are
+-- definitions.
 use Prim.Native.Nat.{ℕ, zero, suc}
-use mathlib.Core.Bool.{Bool, true, false, not, _&&_, _||_}
+use mathlib.Core.Bool.{Bool, true, false, _&&_}
 use mathlib.Core.List.{List, [], _∷_, map}
 use lib.Dec.{eqb, leb, ltb}
 use Rattle.scope_graph.specs.Path.{HopOf}
 use Rattle.scope_graph.specs.Rows.{anyOf}
 use Rattle.graph_file.specs.Admission.{Row, value}
-use Rattle.search.specs.Board.{among, reachedBy}
+use Rattle.search.specs.Board.{reachedBy}
 use Rattle.search.specs.Tables.{nextCell, freeFlag, tableBoard}
-use Rattle.search.specs.Steps.{hopTo}
+use Rattle.edge_rows.specs.Rows.{hopTo, rowHops}
 use Rattle.prepared.specs.Sections.{rowsOf}
 use Rattle.path_row.specs.declared.form.Step.{Step}
 use Rattle.path_row.specs.Compare.{labelNumber}
@@ -27,12 +28,16 @@ unfoldable pub firstFault : ℕ → ℕ → ℕ
 firstFault zero later = later
 firstFault (suc n) later = suc n
 
--- the row has these first three values, and this fourth one if it counts
-unfoldable pub rowIs : Bool → ℕ → ℕ → ℕ → ℕ → Row → Bool
-rowIs four a b c d row = eqb (value row 0) a && (eqb (value row 1) b && (eqb (value row 2) c && (not four || eqb d (value row 3))))
+-- the row has these first four values
+unfoldable pub rowIs : ℕ → ℕ → ℕ → ℕ → Row → Bool
+rowIs a b c d row = eqb (value row 0) a && (eqb (value row 1) b && (eqb (value row 2) c && eqb d (value row 3)))
 
-unfoldable pub hasRow : Bool → ℕ → ℕ → ℕ → ℕ → List Row → Bool
-hasRow four a b c d rows = anyOf (rowIs four a b c d) rows
+unfoldable pub hasRow : ℕ → ℕ → ℕ → ℕ → List Row → Bool
+hasRow a b c d rows = anyOf (rowIs a b c d) rows
+
+-- the hop is one of these
+unfoldable pub hasHop : HopOf ℕ → List (HopOf ℕ) → Bool
+hasHop h hops = anyOf (λ k. eqb (k .step) (h .step) && eqb (k .to) (h .to)) hops
 
 -- steps as hops, by their letters' numbers
 unfoldable pub hopsBy : List ℕ → List Step → List (HopOf ℕ)
@@ -45,7 +50,7 @@ stateOn delta free q h = elim (freeFlag free (h .to)) [ true ↦ nextCell delta 
 
 unfoldable pub stateAlong : List ℕ → List ℕ → List ℕ → ℕ → ℕ → HopOf ℕ → ℕ
 stateAlong edges delta free s q h =
-    elim (hasRow false s (h .step) (h .to) 0 (rowsOf edges)) [ true ↦ stateOn delta free q h | false ↦ 16 ]
+    elim (hasHop h (rowHops edges s)) [ true ↦ stateOn delta free q h | false ↦ 16 ]
 
 -- the scope that hops come to
 unfoldable pub lastOf : ℕ → List (HopOf ℕ) → ℕ
@@ -55,4 +60,4 @@ lastOf s (h ∷ hs) = lastOf (h .to) hs
 -- the hops lead to what is sought, and the mark is that of a matching declaration where they end
 unfoldable pub rowReached : List ℕ → List ℕ → List ℕ → List ℕ → ℕ → ℕ → ℕ → List ℕ → ℕ → ℕ → List (HopOf ℕ) → Bool
 rowReached edges decls delta goal high low mark free s q hs =
-    reachedBy (tableBoard edges delta goal) (freeFlag free) s q hs && hasRow true (lastOf s hs) high low mark (rowsOf decls)
+    reachedBy (tableBoard edges delta goal) (freeFlag free) s q hs && hasRow (lastOf s hs) high low mark (rowsOf decls)

@@ -28,7 +28,6 @@ ghost use Rattle.scope_graph.specs.Rows.{language};
 ghost use Rattle.scope_graph.specs.Computed.{judged};
 ghost use Rattle.search.specs.Board.{cutAlong};
 ghost use Rattle.search.specs.Live.{Closed, any-way};
-ghost use Rattle.search.specs.Steps.{Sorted};
 ghost use Rattle.search.specs.Tables.{placeFlag, freeFlag, tableOrder, tableBoard};
 ghost use Rattle.text_field.specs.Outcome.{done};
 ghost use Rattle.graph_file.specs.Decode.{rulesOf, graphOf};
@@ -53,7 +52,7 @@ fn ends_here(decls: &[u64], goal: &[u64], high: u64, low: u64, mark: u64, s: u64
     if !place(goal, s, q) {
         return false;
     }
-    has_row(decls, true, s, high, low, mark)
+    has_row(decls, s, high, low, mark)
 }
 
 // Do the steps from place `at` of the row on lead from the start, along edges and by free scopes,
@@ -112,7 +111,6 @@ fn end_cut(
     q: u64,
     e: u64,
 ) -> bool
-    requires sorted { ⌜ Sorted (now edges) ⌝ }
     requires closed { ⌜ Closed (tableBoard (now edges) (now delta) (now goal)) (placeFlag (now goal)) (any-way (tableBoard (now edges) (now delta) (now goal))) (freeFlag free) (placeFlag (now live)) ⌝ }
     ensures answer { λ r. ⌜ r ≡ cutAlong (tableBoard (now (edges .entry)) (now (delta .entry)) (now (goal .entry))) (tableOrder (now (order .entry))) fuel (freeFlag free) s q [] (endOf e) ⌝ }
 {
@@ -151,7 +149,6 @@ fn label_cut(
     q: u64,
     label: u64,
 ) -> bool
-    requires sorted { ⌜ Sorted (now edges) ⌝ }
     requires closed { ⌜ Closed (tableBoard (now edges) (now delta) (now goal)) (placeFlag (now goal)) (any-way (tableBoard (now edges) (now delta) (now goal))) (freeFlag free) (placeFlag (now live)) ⌝ }
     ensures answer { λ r. ⌜ r ≡ cutAlong (tableBoard (now (edges .entry)) (now (delta .entry)) (now (goal .entry))) (tableOrder (now (order .entry))) fuel (freeFlag free) s q [] (by label) ⌝ }
 {
@@ -190,7 +187,6 @@ fn is_cut(
     row: &[u8],
     at: usize,
 ) -> bool
-    requires sorted { ⌜ Sorted (now edges) ⌝ }
     requires closed { ⌜ Closed (tableBoard (now edges) (now delta) (now goal)) (placeFlag (now goal)) (any-way (tableBoard (now edges) (now delta) (now goal))) (freeFlag free) (placeFlag (now live)) ⌝ }
     ensures answer { λ r. ⌜ r ≡ cutAlong (tableBoard (now (edges .entry)) (now (delta .entry)) (now (goal .entry))) (tableOrder (now (order .entry))) scopes (freeFlag free) start 0 (hopsBy (scannedLetters (now (table .entry))) (stepsOf mostSteps (drop at (now (row .entry))))) stop ⌝ }
 {

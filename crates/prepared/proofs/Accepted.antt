@@ -1,4 +1,4 @@
--- What is read from a text, or written to one, is a sound table (specs/Promises): from graph_file's theorems on accepted tables. Assumes nothing.
+-- What is read from a text, or written to one, is a sound table, and a scope's rows in it are all found (specs/Promises): from graph_file's theorems on accepted tables. Assumes nothing.
 use Prim.Native.Nat.{ℕ, zero, suc, _≤_, _<_}
 use mathlib.Core.Path.{_≡_}
 use mathlib.Core.List.{List, [], _∷_, _++_, append-assoc}
@@ -10,11 +10,14 @@ use Rattle.graph_file.specs.Admission.{Row, Sofar, nothing, begun, taken}
 use Rattle.graph_file.specs.File.{readCells, writeText}
 use Rattle.graph_file.specs.Decode.{rulesOf, scopesOf, graphOf}
 use Rattle.graph_file.specs.Accepted.{EndListed, AcceptedTable}
+use Rattle.graph_file.specs.Format.{edgeSection}
 use Rattle.graph_file.proofs.DecodeWay.{AdmittedRows, takenAll, cellsOf, tableCells, AdmittedSections, AdmittedTable, read-admitted, written-admitted}
 use Rattle.graph_file.proofs.DecodeAccepted.{read-accepted, written-accepted}
+use Rattle.edge_rows.proofs.Promises.{ascending-all}
 use Rattle.search.specs.Tables.{endNumber}
-use Rattle.prepared.specs.Sections.{SectionsAscend}
-use Rattle.prepared.specs.Promises.{Sound, ReadSound, WrittenSound}
+use Rattle.prepared.specs.Sections.{SectionsAscend, partOf}
+use Rattle.prepared.specs.Promises.{Sound, ReadSound, WrittenSound, EdgesAscend, EdgesFound}
+use Rattle.prepared.proofs.Ascending.{admitted-edges}
 
 -- the section numbers of admitted rows ascend
 ascend-from : (least k : ℕ) (l : List ℕ) → least ≤ k → SectionsAscend k l → SectionsAscend least l
@@ -61,6 +64,7 @@ module _ (cells : List ℕ) (a : AcceptedTable cells) (t : AdmittedTable cells) 
   unfolding graphOf
   sound = record {
     ascend = table-ascends cells t;
+    edges-ascend = admitted-edges cells t (table-ascends cells t);
     labels = a .labels;
     states = a .states;
     listed = a .rules .labels;
@@ -80,3 +84,9 @@ read-sound text cells e = sound cells (read-accepted text cells e) (read-admitte
 
 pub written-sound : WrittenSound
 written-sound cells text e = sound cells (written-accepted cells text e) (written-admitted cells text e)
+
+pub edges-ascend : EdgesAscend
+edges-ascend text cells e = read-sound text cells e .edges-ascend
+
+pub edges-found : EdgesFound
+edges-found text cells e s = ascending-all (partOf edgeSection cells) (edges-ascend text cells e) s

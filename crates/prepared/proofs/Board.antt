@@ -19,8 +19,10 @@ use Rattle.scope_graph.proofs.Rows.{preferredBy-row, nextBy-row}
 use Rattle.graph_file.specs.Admission.{Row, value, blank}
 use Rattle.graph_file.specs.Format.{labelSection, pairSection, transitionSection, acceptSection, edgeSection, declarationSection}
 use Rattle.graph_file.specs.Decode.{rowsIn, lettersOf, orderPairOf, rulesOf, nameAt, edgeOf, declarationOf, graphOf}
+use Rattle.edge_rows.specs.Rows.{rowHops}
+use Rattle.edge_rows.proofs.Promises.{ascending-all}
 use Rattle.search.specs.Board.{boardOf}
-use Rattle.search.specs.Tables.{rowHops, stateOf, nextCell, hasState, placeFlag, endNumber, pairFlag, tableOrder, tableBoard}
+use Rattle.search.specs.Tables.{stateOf, nextCell, hasState, placeFlag, endNumber, pairFlag, tableOrder, tableBoard}
 use Rattle.search.proofs.States.{state-in, state-past, states-none}
 use Rattle.search.proofs.Cells.{place-in, place-no-scope}
 use Rattle.prepared.specs.Sections.{partOf, rowsOf}
@@ -30,7 +32,7 @@ use Rattle.prepared.proofs.Fill.{tabulate-at, hopes-length}
 use Rattle.prepared.proofs.Sets.{states-at, goal-there, goal-else}
 use Rattle.prepared.proofs.Parts.{below-or}
 use Rattle.prepared.proofs.Cells.{and-second, and-first, and-rest, and-true, next-state-past}
-use Rattle.prepared.proofs.SectionLaws.{rows-in-part, row-hops}
+use Rattle.prepared.proofs.SectionLaws.{rows-in-part, all-hops}
 use Rattle.prepared.proofs.Automaton.{flag-is, state-flag-past, accepting-is, next-is, behind, behind-is, behind-equal, flag-behind, or-false, hope-is}
 
 -- the set of the states below 16 of which a test holds has just these, if the test fails past them
@@ -220,7 +222,8 @@ module _ (cells : List ℕ) (sound : Sound cells) where
   hops-eq : (s : ℕ) → rowHops (partOf edgeSection cells) s ≡ hopsAt (language (rulesOf cells)) (graphOf cells .edges) s
   unfolding graphOf
   hops-eq s =
-      row-hops (rulesOf cells) (partOf edgeSection cells) s
+      ascending-all (partOf edgeSection cells) (sound .edges-ascend) s
+      ∙ all-hops (rulesOf cells) (partOf edgeSection cells) s
       ∙ ap (λ (rows : List Row). hopsAt (language (rulesOf cells)) (map (edgeOf (rulesOf cells)) rows) s) (part edgeSection)
 
   order-inside : (a c : End ℕ) → endNumber a < 9 → endNumber c < 9 → pairFlag (orderTable cells) (endNumber a) (endNumber c) ≡ preferredBy (rulesOf cells .order) a c

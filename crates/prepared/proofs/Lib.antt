@@ -6,5 +6,5 @@ pub mod Cells
 pub mod SectionLaws
 pub mod Automaton
 pub mod Board
-pub mod Accepted
 pub mod Ascending
+pub mod Accepted

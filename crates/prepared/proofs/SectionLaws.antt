@@ -10,11 +10,12 @@ use lib.Dec.{eqb}
 use lib.ListN.{take, drop}
 use lib.Seq.{drop-drop, take-add}
 use borrow.Author.Tests.{eq-eqb, ne-eqb}
+use Rattle.scope_graph.specs.Path.{HopOf}
 use Rattle.scope_graph.specs.Rows.{Rules, language}
 use Rattle.scope_graph.specs.Computed.{keep, hopsAt}
 use Rattle.graph_file.specs.Admission.{Row}
 use Rattle.graph_file.specs.Decode.{keptIf, rowsAmong, rowsIn, edgeOf}
-use Rattle.search.specs.Tables.{rowHop, rowHops}
+use Rattle.edge_rows.specs.Rows.{hopTo, ifOwn, allHops}
 use Rattle.prepared.specs.Sections.{leading, startOf, partOf, rowsOf, SectionsAscend}
 use Rattle.prepared.specs.Promises.{PartIs}
 use Rattle.prepared.proofs.Parts.{leading-yes, leading-no, below-or}
@@ -111,12 +112,12 @@ kept-hops : {A B : Type 0} (f : A → B) (b : Bool) (x : A) (xs : List A)
 kept-hops f true x xs = refl
 kept-hops f false x xs = refl
 
-pub row-hops : (r : Rules) (l : List ℕ) (s : ℕ) → rowHops l s ≡ hopsAt (language r) (map (edgeOf r) (rowsOf l)) s
-unfolding rowHops rowHop hopsAt edgeOf rowsOf keep
-row-hops r [] s = refl
-row-hops r (o ∷ []) s = refl
-row-hops r (o ∷ a ∷ []) s = refl
-row-hops r (o ∷ a ∷ b ∷ []) s = refl
-row-hops r (o ∷ a ∷ b ∷ c ∷ []) s = refl
-row-hops r (o ∷ a ∷ b ∷ c ∷ d ∷ []) s = refl
-row-hops r (o ∷ a ∷ b ∷ c ∷ d ∷ e ∷ l) s = ap (rowHop s a b c) (row-hops r l s) ∙ sym (kept-hops _ (eqb a s) (edgeOf r (a ∷ b ∷ c ∷ d ∷ e ∷ [])) _)
+pub all-hops : (r : Rules) (l : List ℕ) (s : ℕ) → allHops l s ≡ hopsAt (language r) (map (edgeOf r) (rowsOf l)) s
+unfolding allHops ifOwn hopsAt edgeOf rowsOf keep
+all-hops r [] s = refl
+all-hops r (o ∷ []) s = refl
+all-hops r (o ∷ a ∷ []) s = refl
+all-hops r (o ∷ a ∷ b ∷ []) s = refl
+all-hops r (o ∷ a ∷ b ∷ c ∷ []) s = refl
+all-hops r (o ∷ a ∷ b ∷ c ∷ d ∷ []) s = refl
+all-hops r (o ∷ a ∷ b ∷ c ∷ d ∷ e ∷ l) s = ap (λ (z : List (HopOf ℕ)). ifOwn s a (hopTo b c ∷ z) z) (all-hops r l s) ∙ sym (kept-hops _ (eqb a s) (edgeOf r (a ∷ b ∷ c ∷ d ∷ e ∷ [])) _)

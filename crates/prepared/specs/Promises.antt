@@ -15,15 +15,16 @@ use Rattle.graph_file.specs.Format.{labelSection, pairSection, transitionSectio
 use Rattle.text_field.specs.Outcome.{done}
 use Rattle.graph_file.specs.File.{readCells, writeText}
 use Rattle.graph_file.specs.Decode.{rowsIn, lettersOf, rulesOf, graphOf}
+use Rattle.edge_rows.specs.Rows.{rowHops, allHops, RowsAscend}
 use Rattle.search.specs.Board.{boardOf}
 use Rattle.search.specs.Tables.{endNumber, placeFlag, tableBoard, tableOrder}
-use Rattle.search.specs.Steps.{Sorted}
 use Rattle.prepared.specs.Sections.{SectionsAscend, partOf, rowsOf}
 use Rattle.prepared.specs.Tables.{tabulate, stateFlag, letterBytes, transitionCells, acceptingFlags, orderFlags, hopefulFlags, declaringFlags, goalSets, openSets}
 
--- what an accepted table gives: the sections stand in sequence, and values are in their ranges (01, refusals 2 and 3)
+-- what an accepted table gives: the sections and the edge rows stand in sequence, and values are in their ranges (01, refusals 2 to 4)
 pub record Sound (cells : List ℕ) : Type 0 where
   pub ascend : SectionsAscend 0 (drop 1 cells)
+  pub edges-ascend : RowsAscend 0 (partOf edgeSection cells)
   pub labels : rulesOf cells .labels ≤ 8
   pub states : (t : Transition) → t ∈ rulesOf cells .transitions → t .state < 16
   pub listed : (t : Transition) → t ∈ rulesOf cells .transitions → t .label < rulesOf cells .labels
@@ -86,6 +87,10 @@ ReadSound = (text cells : List ℕ) → readCells text ≡ done cells → Sound 
 abbrev pub WrittenSound : Type 0
 WrittenSound = (cells text : List ℕ) → writeText cells ≡ done text → Sound cells
 
--- the edge rows of what a text is read as stand by ascending scope, as the search needs them (01, "The gym file": edges are sorted by `from` first)
+-- the edge rows of what a text is read as stand by ascending scope (01, "The gym file": edges are sorted by `from` first)
 abbrev pub EdgesAscend : Type 0
-EdgesAscend = (text cells : List ℕ) → readCells text ≡ done cells → Sorted (partOf edgeSection cells)
+EdgesAscend = (text cells : List ℕ) → readCells text ≡ done cells → RowsAscend 0 (partOf edgeSection cells)
+
+-- so the rows found for a scope are all its rows: that the look ends at the first row of a later scope changes no answer for an accepted file (02, K4)
+abbrev pub EdgesFound : Type 0
+EdgesFound = (text cells : List ℕ) → readCells text ≡ done cells → (s : ℕ) → rowHops (partOf edgeSection cells) s ≡ allHops (partOf edgeSection cells) s

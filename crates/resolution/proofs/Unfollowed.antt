@@ -17,7 +17,7 @@ use Rattle.graph_file.specs.Admission.{value, blank}
 use Rattle.search.specs.Board.{Board, without, leadsOn, nodeAt, cutHere, ownHit, hopHits, hitsFrom}
 use Rattle.search.specs.Live.{Closed, any-way}
 use Rattle.search.specs.Tables.{hasState, placeFlag, pairFlag, freeFlag, endNumber, tableOrder, tableBoard}
-use Rattle.search.specs.Steps.{Sorted, wayOf}
+use Rattle.search.specs.Steps.{wayOf}
 use Rattle.search.proofs.RulesLists.{flatMap-same}
 use Rattle.search.proofs.Closed.{without-within, closed-hits}
 use Rattle.search.proofs.Cells.{place-scope, place-state, place-held, way-is-open}
@@ -25,7 +25,6 @@ use Rattle.prepared.specs.Sections.{partOf, rowsOf}
 use Rattle.prepared.specs.Tables.{statesBelow, usableFlag, openSets, declaringFlags, goalSets}
 use Rattle.prepared.specs.Promises.{transitionTable, acceptingTable, orderTable, goalTable}
 use Rattle.prepared.proofs.Board.{states-are, one-set}
-use Rattle.prepared.proofs.Ascending.{edges-ascend}
 use Rattle.follow.specs.declared.Budget.the-variants.{Left}
 use Rattle.follow.specs.Pour.{State, spend, pour}
 use Rattle.follow.specs.Walk.{placeBytes, bytesFrom, walked}
@@ -156,10 +155,6 @@ module _ (cells delta goal order seek edges ones : List ℕ) (start : ℕ) (e : 
   pub worth-at : (worth : List ℕ) → Closed (tableBoard edges delta goal) (placeFlag seek) (wayOf goal order true) (freeFlag ones) (placeFlag worth)
       → WorthAt cells delta goal order seek start worth
   worth-at worth c = rw (e, f) at c
-
--- the edges of a table that was read stand by ascending scope
-pub read-sorted : (cells : List ℕ) → WasRead cells → Sorted (partOf edgeSection cells)
-read-sorted cells r = edges-ascend (r .0) cells (r .1)
 
 -- a table that is made with all scopes free, over the table's edges
 pub away-at : (cells delta goal order edges away : List ℕ) → edges ≡ partOf edgeSection cells

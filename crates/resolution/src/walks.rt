@@ -24,7 +24,6 @@ ghost use Rattle.scope_graph.specs.Rows.{language};
 ghost use Rattle.scope_graph.specs.Computed.{awaits};
 ghost use Rattle.graph_file.specs.Format.{edgeSection};
 ghost use Rattle.graph_file.specs.Decode.{rulesOf, graphOf, opensOf};
-ghost use Rattle.search.specs.Steps.{Sorted};
 ghost use Rattle.prepared.specs.Sections.{partOf, rowsOf};
 ghost use Rattle.prepared.specs.Tables.{usableFlag, hopefulFlags};
 ghost use Rattle.prepared.specs.Promises.{transitionTable, orderTable, goalTable};
@@ -53,7 +52,6 @@ fn walk_with(
     out: &mut [u8],
     tally: Tally,
 ) -> Tally
-    requires { ⌜ Sorted (partOf edgeSection (now table)) ⌝ }
     requires { ⌜ LiveAt (now table) (now delta) (now goal) start (now live) ⌝ }
     requires { ⌜ WorthAt (now table) (now delta) (now goal) (now order) (now seek) start (now worth) ⌝ }
     ensures { λ r. ⌜ _≡_ {A = State} (now (out .exit), r) (walkWith (now (table .entry)) mode (now (letters .entry)) (now (delta .entry)) (now (goal .entry)) (now (order .entry)) start high low (now (seek .entry)) e (now (out .entry), tally)) ⌝ }
@@ -322,7 +320,6 @@ fn is_followed(
     at: u64,
     end: u64,
 ) -> bool
-    requires { ⌜ Sorted (partOf edgeSection (now table)) ⌝ }
     requires { ⌜ LiveAt (now table) (now delta) (now goal) start (now live) ⌝ }
     requires { ⌜ AwayAt (now table) (now delta) (now goal) (now order) (now away) ⌝ }
     ensures { λ r. ⌜ r ≡ followedBy (now (table .entry)) (now (letters .entry)) (now (delta .entry)) (now (accepts .entry)) (now (hopes .entry)) (now (goal .entry)) (now (order .entry)) start high low at end ⌝ }
@@ -375,7 +372,6 @@ fn first_followed(
     high: u64,
     low: u64,
 ) -> Awaits
-    requires { ⌜ Sorted (partOf edgeSection (now table)) ⌝ }
     requires { ⌜ LiveAt (now table) (now delta) (now goal) start (now live) ⌝ }
     requires { ⌜ AwayAt (now table) (now delta) (now goal) (now order) (now away) ⌝ }
     ensures { λ r. ⌜ r ≡ firstFollowed (now (table .entry)) (now (letters .entry)) (now (delta .entry)) (now (accepts .entry)) (now (hopes .entry)) (now (goal .entry)) (now (order .entry)) start high low (rowsOf (now (opens .entry))) ⌝ }
@@ -423,7 +419,6 @@ fn first_open(
     high: u64,
     low: u64,
 ) -> Awaits
-    requires { ⌜ Sorted (partOf edgeSection (now table)) ⌝ }
     requires { ⌜ LiveAt (now table) (now delta) (now goal) start (now live) ⌝ }
     ensures { λ r. ⌜ r ≡ firstFollowed (now (table .entry)) (now (letters .entry)) (now (delta .entry)) (now (accepts .entry)) (hopefulFlags (now (delta .entry)) (now (accepts .entry))) (now (goal .entry)) (now (order .entry)) start high low (rowsOf (now (opens .entry))) ⌝ }
 {

@@ -17,7 +17,8 @@ use Rattle.scope_graph.proofs.Lists.{Two, not-true, and-left}
 use Rattle.search.specs.Board.{without}
 use Rattle.search.specs.Live.{any-way, open-way}
 use Rattle.search.specs.Tables.{nextCell, hasState, placeFlag, pairFlag, freeFlag, tableOrder, endNumber, tableBoard}
-use Rattle.search.specs.Steps.{NoState, Kept, Covers, wayOf, lacks, hopTo, wantedHop, worthState}
+use Rattle.edge_rows.specs.Rows.{hopTo}
+use Rattle.search.specs.Steps.{NoState, Kept, Covers, wayOf, lacks, wantedHop, worthState}
 use Rattle.search.proofs.States.{state-past, state-below, states-none, states-left, states-either}
 
 -- within the list the default does not matter

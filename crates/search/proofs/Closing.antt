@@ -6,17 +6,18 @@ use mathlib.Core.Option.{Option, some, none}
 use mathlib.Core.List.{List, List·Memᴰ·cases-cons, List·Memᴰ·not-nil}
 use Prim.Native.Nat.{ℕ, _+_, _≤_, _<_}
 use native.Mathlib.Omega.{arith}
-use borrow.Author.Tests.{ltb-true, ltb-false, eqb-true, eqb-false}
-use lib.Dec.{eqb, ltb}
+use borrow.Author.Tests.{ltb-true, ltb-false}
+use lib.Dec.{ltb}
 use lib.ListN.{length, getD, drop, replicate, getD-replicate}
 use Rattle.scope_graph.specs.Path.{HopOf}
 use Rattle.scope_graph.proofs.Lists.{Two}
 use Rattle.search.specs.Live.{Closed}
 use Rattle.search.specs.Tables.{stateOf, nextCell, placeFlag, freeFlag, tableBoard}
-use Rattle.search.specs.Steps.{RowClosed, RowsClosed, lacks, hopTo}
+use Rattle.edge_rows.specs.Rows.{hopAt}
+use Rattle.edge_rows.proofs.Laws.{rows-none, rows-later, rows-own, rows-earlier, compare}
+use Rattle.search.specs.Steps.{RowClosed, RowsClosed, lacks}
 use Rattle.search.proofs.Cells.{place-in, place-scope, place-state, next-no-state, free-below}
 use Rattle.search.proofs.States.{states-all}
-use Rattle.search.proofs.Rows.{rows-none, rows-leave, rows-pass}
 
 -- a state that a cell gives is the cell
 pub state-cell : (x r : ℕ) → stateOf x ≡ some r → x ≡ r
@@ -60,15 +61,16 @@ module _ (edges delta : List ℕ) (way : ℕ → ℕ → ℕ → Bool) (free : �
   closed-none p h s k m = absurd (List·Memᴰ·not-nil (rw (rows-none edges s p h) at m))
 
   pub closed-row : (p : ℕ) → p + 6 ≤ length edges
-      → RowClosed delta way free live (getD edges (p + 1) 0) (hopTo (getD edges (p + 2) 0) (getD edges (p + 3) 0))
+      → RowClosed delta way free live (getD edges (p + 1) 0) (hopAt edges p)
       → RowsClosed delta way free live (drop (p + 6) edges) → RowsClosed delta way free live (drop p edges)
-  closed-row p h row rest s k m = at (Two (eqb (getD edges (p + 1) 0) s))
+  closed-row p h row rest s k m = at (compare s (getD edges (p + 1) 0))
     where
-      at : (eqb (getD edges (p + 1) 0) s ≡ true) ⊎ (eqb (getD edges (p + 1) 0) s ≡ false) → RowClosed delta way free live s k
-      at (inl e) =
-          let x : getD edges (p + 1) 0 ≡ s = eqb-true (getD edges (p + 1) 0) s e in
-          ⊎-elim (λ y. subst (λ (z : HopOf ℕ). RowClosed delta way free live s z) (sym y) (subst (λ (z : ℕ). RowClosed delta way free live z (hopTo (getD edges (p + 2) 0) (getD edges (p + 3) 0))) x row)) (λ y. rest s k y) (List·Memᴰ·cases-cons (rw (rows-leave edges s p h x) at m))
-      at (inr e) = rest s k (rw (rows-pass edges s p h (eqb-false (getD edges (p + 1) 0) s e)) at m)
+      at : (s < getD edges (p + 1) 0) ⊎ ((getD edges (p + 1) 0 ≡ s) ⊎ (getD edges (p + 1) 0 < s)) → RowClosed delta way free live s k
+      at (inl e) = absurd (List·Memᴰ·not-nil (rw (rows-later edges s p h e) at m))
+      at (inr (inl e)) =
+          ⊎-elim (λ y. subst (λ (z : HopOf ℕ). RowClosed delta way free live s z) (sym y) (subst (λ (z : ℕ). RowClosed delta way free live z (hopAt edges p)) e row))
+          (λ y. rest s k y) (List·Memᴰ·cases-cons (rw (rows-own edges s p h e) at m))
+      at (inr (inr e)) = rest s k (rw (rows-earlier edges s p h e) at m)
 
 -- the table of all places holds each place of 64 scopes and 16 states
 pub all-places : (s q : ℕ) → s < 64 → q < 16 → placeFlag (replicate 64 65535) s q ≡ true

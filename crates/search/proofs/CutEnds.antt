@@ -16,7 +16,8 @@ use Rattle.scope_graph.specs.Path.{HopOf}
 use Rattle.scope_graph.specs.Rows.{anyOf}
 use Rattle.scope_graph.proofs.Lists.{Two, and-left, and-right, and-both, or-cases, or-left, or-right, not-true, true-false, anyOf-intro, anyOf-elim}
 use Rattle.search.specs.Board.{Board, leadsOn, cutHere}
-use Rattle.search.specs.Tables.{rowHops, placeFlag, pairFlag, tableOrder, endNumber, tableBoard}
+use Rattle.edge_rows.specs.Rows.{rowHops}
+use Rattle.search.specs.Tables.{placeFlag, pairFlag, tableOrder, endNumber, tableBoard}
 use Rattle.search.specs.Steps.{wantedHop, behindEnd, Known, KnownCut, verdictOf}
 use Rattle.search.proofs.Cells.{pair-first}
 

@@ -14,12 +14,13 @@ use Rattle.scope_graph.specs.Rows.{anyOf}
 use Rattle.scope_graph.proofs.Lists.{Two, anyOf-intro}
 use Rattle.search.specs.Board.{leadsTo, existsFrom, leadsOn}
 use Rattle.search.specs.Live.{Closed, any-way}
-use Rattle.search.specs.Tables.{rowHops, stateOf, nextCell, placeFlag, freeFlag, tableBoard}
-use Rattle.search.specs.Steps.{NextRow, HopAt, wantedHop, worthState, hopTo}
+use Rattle.edge_rows.specs.Rows.{hopTo, hopAt, rowHops, nextRow}
+use Rattle.edge_rows.proofs.Laws.{next-row}
+use Rattle.search.specs.Tables.{stateOf, nextCell, placeFlag, freeFlag, tableBoard}
+use Rattle.search.specs.Steps.{HopAt, wantedHop, worthState}
 use Rattle.search.proofs.Cells.{place-state, free-taken, worth-yes, worth-has}
 use Rattle.search.proofs.Closing.{state-cell}
 use Rattle.search.proofs.Closed.{Within, closed-less, closed-exists, without-within}
-use Rattle.search.proofs.Rows.{rows-none, rows-leave}
 
 -- the free scopes after one is taken are among those before
 pub taken-within : (free : List ℕ) (t : ℕ) → Within (freeFlag (set free t 0)) (freeFlag free)
@@ -156,20 +157,19 @@ exists-hop edges delta goal live free fuel s q r some-left hop e = at (Two (plac
     at (inr h) = exists-on edges delta goal free fuel s q (λ z. omega arith) h ∙ walk-hop edges delta goal live free (fuel - 1) s q 8 r hop e
 
 -- the walk along the rows from cell p on, of which the next one that leaves the scope stands at `at`
-module _ (edges delta goal free : List ℕ) (fuel q want s p at : ℕ) (row : NextRow edges s p at) where
+module _ (edges delta goal free : List ℕ) (fuel q want s p at : ℕ) (next : at ≡ nextRow edges s p) where
   abbrev along : ℕ → Bool
   along k = walk edges delta goal free fuel q want (rowHops (drop k edges) s)
 
   pub along-none : length edges ≤ at → along p ≡ false
-  along-none h =
-      ap (walk edges delta goal free fuel q want) (row .same ∙ rows-none edges s at (omega arith)) ∙ walk-none edges delta goal free fuel q want
+  along-none h = ap (walk edges delta goal free fuel q want) (next-row next .none h) ∙ walk-none edges delta goal free fuel q want
 
   module _ (inside : at < length edges) where
     abbrev hop : HopOf ℕ
-    hop = hopTo (getD edges (at + 2) 0) (getD edges (at + 3) 0)
+    hop = hopAt edges at
 
     along-row : along p ≡ walk edges delta goal free fuel q want (hop ∷ rowHops (drop (at + 6) edges) s)
-    along-row = ap (walk edges delta goal free fuel q want) (row .same ∙ rows-leave edges s at (row .whole inside) (row .leaves inside))
+    along-row = ap (walk edges delta goal free fuel q want) (next-row next .hops inside)
 
     module _ (live : List ℕ) (closed : Closed (tableBoard edges delta goal) (placeFlag goal) (any-way (tableBoard edges delta goal)) (freeFlag free) (placeFlag live))
         (r : ℕ) (is : r ≡ worthState delta live free q want hop) where

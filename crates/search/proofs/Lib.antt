@@ -8,7 +8,7 @@ pub mod Rules
 pub mod Closed
 pub mod States
 pub mod Cells
-pub mod Rows
+pub mod Measure
 pub mod Closing
 pub mod Leads
 pub mod Near

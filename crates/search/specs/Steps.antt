@@ -1,39 +1,18 @@
--- What the steps of the search's code answer: the next row, one row's share in a closed table, which hops a question asks for, which ends lead on and what is known of that. Assumes
+-- What the steps of the search's code answer: one row's share in a closed table, which hops a question asks for, which ends lead on and what is known of that. Assumes
 -- nothing: these are definitions.
-use Prim.Native.Nat.{ℕ, zero, suc, _+_, _*_, _<_, _≤_}
+use Prim.Native.Nat.{ℕ, zero, suc, _+_, _<_, _≤_}
 use mathlib.Core.Path.{_≡_}
 use mathlib.Core.Bool.{Bool, true, false, not, _&&_}
 use mathlib.Core.List.{List, []}
 use lib.Dec.{eqb, ltb}
-use lib.ListN.{length, getD, drop}
+use lib.ListN.{length, getD}
 use Rattle.scope_graph.specs.Language.{_∈_}
 use Rattle.scope_graph.specs.Path.{HopOf}
 use Rattle.scope_graph.specs.Rows.{anyOf}
+use Rattle.edge_rows.specs.Rows.{hopAt, rowHops}
 use Rattle.search.specs.Board.{Board, leadsOn}
 use Rattle.search.specs.Live.{any-way, open-way}
-use Rattle.search.specs.Tables.{rowHops, nextCell, hasState, placeFlag, pairFlag, freeFlag, tableOrder, tableBoard}
-
--- r is where the next row that leaves s stands, from cell p on: the rows before it leave other scopes, and it is whole; or no row is left
-pub record NextRow (edges : List ℕ) (s p r : ℕ) : Type 0 where
-  pub same : rowHops (drop p edges) s ≡ rowHops (drop r edges) s
-  pub on : p ≤ r
-  pub whole : r < length edges → r + 6 ≤ length edges
-  pub leaves : r < length edges → getD edges (r + 1) 0 ≡ s
-
--- rows stand by ascending scope (01, "The gym file")
-abbrev pub Sorted : List ℕ → Type 0
-Sorted edges = (i j : ℕ) → i ≤ j → j * 6 + 6 ≤ length edges → getD edges (i * 6 + 1) 0 ≤ getD edges (j * 6 + 1) 0
-
--- r is the number of the first row from number `from` on whose scope is s or above
-pub record FirstFrom (edges : List ℕ) (s from r : ℕ) : Type 0 where
-  pub on : from ≤ r
-  pub inside : from * 6 ≤ length edges → r * 6 ≤ length edges
-  pub before : (i : ℕ) → from ≤ i → i < r → getD edges (i * 6 + 1) 0 < s
-  pub behind : (i : ℕ) → r ≤ i → i * 6 + 6 ≤ length edges → s ≤ getD edges (i * 6 + 1) 0
-
--- the hop of a label's number and a scope
-abbrev pub hopTo : ℕ → ℕ → HopOf ℕ
-hopTo label to = record { step = label; to = to }
+use Rattle.search.specs.Tables.{nextCell, hasState, placeFlag, pairFlag, freeFlag, tableOrder, tableBoard}
 
 -- the ways of specs/Live: open ones if `cutting`, else any. They look at what is sought alone, not at rows or transitions.
 unfoldable pub wayOf : List ℕ → List ℕ → Bool → ℕ → ℕ → ℕ → Bool
@@ -82,8 +61,8 @@ worthState delta live free q want h =
 -- the row at cell r is whole, and its hop leaves scope s, is asked for and worth entering
 pub record HopAt (edges delta live free : List ℕ) (s q want r : ℕ) : Type 0 where
   pub whole : r + 6 ≤ length edges
-  pub leaves : hopTo (getD edges (r + 2) 0) (getD edges (r + 3) 0) ∈ rowHops edges s
-  pub worth : worthState delta live free q want (hopTo (getD edges (r + 2) 0) (getD edges (r + 3) 0)) < 16
+  pub leaves : hopAt edges r ∈ rowHops edges s
+  pub worth : worthState delta live free q want (hopAt edges r) < 16
 
 -- does what is sought lie at the end with this number: here, or behind a hop with its label?
 unfoldable pub behindEnd : Board ℕ → ℕ → (ℕ → Bool) → ℕ → ℕ → ℕ → Bool

@@ -1,28 +1,14 @@
--- The tables that the code keeps, and the board that they are: edge rows as they stand in a graph table (six cells: section, from, label, to and two unused), a next state
+-- The tables that the code keeps, and the board that they are: edge rows as they stand in a graph table, of which a scope has those that `rowHops` finds, a next state
 -- for each of 16 states and 8 labels, a set of states for each of 64 scopes, a flag for each pair of nine ends. Assumes nothing: these are definitions.
 use Prim.Native.Nat.{ℕ, zero, suc, _+_, _*_, _/_, _%_, _^_}
 use mathlib.Core.Bool.{Bool, true, false, _&&_}
 use mathlib.Core.Option.{Option, some, none}
-use mathlib.Core.List.{List, [], _∷_}
+use mathlib.Core.List.{List}
 use lib.Dec.{eqb, ltb}
 use lib.ListN.{getD}
 use Rattle.scope_graph.specs.Language.{End, stop, by}
-use Rattle.scope_graph.specs.Path.{HopOf}
+use Rattle.edge_rows.specs.Rows.{rowHops}
 use Rattle.search.specs.Board.{Board}
-
--- a hop of the row, if it leaves the scope, and those after it
-unfoldable pub rowHop : ℕ → ℕ → ℕ → ℕ → List (HopOf ℕ) → List (HopOf ℕ)
-rowHop s from label to rest = elim (eqb from s) [ true ↦ record { step = label; to = to } ∷ rest | false ↦ rest ]
-
--- the hops along the rows that leave a scope, in row sequence; cells that do not fill a row are none
-unfoldable pub rowHops : List ℕ → ℕ → List (HopOf ℕ)
-rowHops [] s = []
-rowHops (a ∷ []) s = []
-rowHops (a ∷ from ∷ []) s = []
-rowHops (a ∷ from ∷ label ∷ []) s = []
-rowHops (a ∷ from ∷ label ∷ to ∷ []) s = []
-rowHops (a ∷ from ∷ label ∷ to ∷ x ∷ []) s = []
-rowHops (a ∷ from ∷ label ∷ to ∷ x ∷ y ∷ cells) s = rowHop s from label to (rowHops cells s)
 
 -- a state, or 16 and above for none
 unfoldable pub stateOf : ℕ → Option ℕ

@@ -1,6 +1,7 @@
 // The search over a query's tables: places worth entering, whether what is sought lies behind a place, and which ends are cut there.
 mod grow;
 
+use edge_rows::next_row;
 use grow::distances;
 use grow::grown;
 pub use grow::put_hints;
@@ -15,8 +16,9 @@ ghost use Rattle.scope_graph.specs.Order.{endOf};
 ghost use Rattle.scope_graph.specs.Rows.{anyOf};
 ghost use Rattle.search.specs.Board.{existsFrom, leadsOn, cutHere};
 ghost use Rattle.search.specs.Live.{Closed, any-way};
-ghost use Rattle.search.specs.Tables.{rowHops, nextCell, hasState, placeFlag, pairFlag, freeFlag, tableOrder, tableBoard};
-ghost use Rattle.search.specs.Steps.{NextRow, HopAt, Sorted, FirstFrom, wayOf, hopTo, NoState, Covers, RowClosed, RowsClosed, wantedHop, worthState, behindEnd, Known, KnownCut, verdictOf};
+ghost use Rattle.edge_rows.specs.Rows.{hopTo, rowHops};
+ghost use Rattle.search.specs.Tables.{nextCell, hasState, placeFlag, pairFlag, freeFlag, tableOrder, tableBoard};
+ghost use Rattle.search.specs.Steps.{HopAt, wayOf, NoState, Covers, RowClosed, RowsClosed, wantedHop, worthState, behindEnd, Known, KnownCut, verdictOf};
 
 // The cell at i, or d past the end.
 fn cell(cells: &[u64], i: u64, d: u64) -> u64
@@ -93,75 +95,6 @@ pub fn taken(free: [u8; 64], t: u64) -> [u8; 64]
         out[k] = 0;
     }
     out
-}
-
-// From cell p on, the next row that leaves s; the number of cells, or above it, if there is none. A row has six cells, its scope in the second. Looks at row after row.
-fn scan_row(edges: &[u64], s: u64, p: usize) -> usize
-    ensures { λ r. ⌜ NextRow (now (edges .entry)) s p r ⌝ }
-{
-    let n = edges.len();
-    let mut i = p;
-    while i < n {
-        if n - i < 6 {
-            return n;
-        }
-        if edges[i + 1] == s {
-            return i;
-        }
-        i += 6;
-    }
-    i
-}
-
-// The first row from number `from` on whose scope is s or above; the number of rows, or `from` if that is greater, if there is none. Halves the rows that are left.
-fn first_from(edges: &[u64], s: u64, from: usize) -> usize
-    requires { ⌜ Sorted (now edges) ⌝ }
-    ensures { λ r. ⌜ FirstFrom (now (edges .entry)) s from r ⌝ }
-{
-    let n = edges.len() / 6;
-    let mut low = from;
-    let mut high = n;
-    while low < high {
-        let middle = low + (high - low) / 2;
-        if edges[middle * 6 + 1] < s {
-            low = middle + 1;
-            continue;
-        }
-        high = middle;
-    }
-    low
-}
-
-// The same as `scan_row`, of rows that stand by ascending scope: of the rows between, only those that halving meets are looked at, and that no row of s is left is known by the next one.
-pub fn next_row(edges: &[u64], s: u64, p: usize) -> usize
-    requires { ⌜ Sorted (now edges) ⌝ }
-    ensures { λ r. ⌜ NextRow (now (edges .entry)) s p r ⌝ }
-{
-    if p % 6 != 0 {
-        return scan_row(edges, s, p);
-    }
-    let n = edges.len();
-    if n <= p {
-        return p;
-    }
-    if n - p < 6 {
-        return n;
-    }
-    let here = edges[p + 1];
-    if here == s {
-        return p;
-    }
-    if s < here {
-        return n;
-    }
-    let at = first_from(edges, s, p / 6) * 6;
-    if n - at < 6 {
-        return n;
-    }
-    if edges[at + 1] == s {
-        return at;
-    }
-    n
 }
 
 // Is stopping preferred to going on by the label?
@@ -458,7 +391,6 @@ fn nearest_row(
     q: u64,
     want: u64,
 ) -> usize
-    requires { ⌜ Sorted (now edges) ⌝ }
     ensures { λ r. ⌜ (r < length (now (edges .entry)) → HopAt (now (edges .entry)) (now (delta .entry)) (now (live .entry)) free s q want r) ⌝ }
 {
     let n = edges.len();
@@ -490,7 +422,6 @@ fn straight(
     s: u64,
     q: u64,
 ) -> bool
-    requires { ⌜ Sorted (now edges) ⌝ }
     ensures { λ r. ⌜ (r ≡ true → existsFrom (tableBoard (now (edges .entry)) (now (delta .entry)) (now (goal .entry))) fuel (freeFlag free) s q ≡ true) ⌝ }
 {
     let mut left = fuel;
@@ -527,7 +458,6 @@ fn straight_by(
     q: u64,
     want: u64,
 ) -> bool
-    requires { ⌜ Sorted (now edges) ⌝ }
     ensures { λ r. ⌜ (r ≡ true → anyOf (λ h. wantedHop want h && leadsOn (tableBoard (now (edges .entry)) (now (delta .entry)) (now (goal .entry))) fuel (freeFlag free) q h) (rowHops (now (edges .entry)) s) ≡ true) ⌝ }
 {
     let p = nearest_row(edges, delta, live, free, s, q, want);
@@ -568,7 +498,6 @@ fn exists_at(
     s: u64,
     q: u64,
 ) -> bool
-    requires { ⌜ Sorted (now edges) ⌝ }
     requires { ⌜ Closed (tableBoard (now edges) (now delta) (now goal)) (placeFlag (now goal)) (any-way (tableBoard (now edges) (now delta) (now goal))) (freeFlag free) (placeFlag (now live)) ⌝ }
     ensures { λ r. ⌜ r ≡ existsFrom (tableBoard (now (edges .entry)) (now (delta .entry)) (now (goal .entry))) fuel (freeFlag free) s q ⌝ }
 {
@@ -612,7 +541,6 @@ fn exists_from(
     vain: bool,
     p: usize,
 ) -> bool
-    requires { ⌜ Sorted (now edges) ⌝ }
     requires { ⌜ Closed (tableBoard (now edges) (now delta) (now goal)) (placeFlag (now goal)) (any-way (tableBoard (now edges) (now delta) (now goal))) (freeFlag free) (placeFlag (now live)) ⌝ }
     ensures { λ r. ⌜ r ≡ anyOf (λ h. wantedHop want h && leadsOn (tableBoard (now (edges .entry)) (now (delta .entry)) (now (goal .entry))) fuel (freeFlag free) q h) (rowHops (drop p (now (edges .entry))) s) ⌝ }
 {
@@ -700,7 +628,6 @@ fn end_leads(
     a: u64,
 ) -> bool
     requires { ⌜ a < 9 ⌝ }
-    requires { ⌜ Sorted (now edges) ⌝ }
     requires { ⌜ Closed (tableBoard (now edges) (now delta) (now goal)) (placeFlag (now goal)) (any-way (tableBoard (now edges) (now delta) (now goal))) (freeFlag free) (placeFlag (now live)) ⌝ }
     ensures { λ r. ⌜ r ≡ behindEnd (tableBoard (now (edges .entry)) (now (delta .entry)) (now (goal .entry))) fuel (freeFlag free) s q a ⌝ }
 {
@@ -771,7 +698,6 @@ fn end_byte(
     a: u64,
 ) -> u8
     requires { ⌜ a < 9 ⌝ }
-    requires { ⌜ Sorted (now edges) ⌝ }
     requires { ⌜ Closed (tableBoard (now edges) (now delta) (now goal)) (placeFlag (now goal)) (any-way (tableBoard (now edges) (now delta) (now goal))) (freeFlag free) (placeFlag (now live)) ⌝ }
     requires { ⌜ Known (tableBoard (now edges) (now delta) (now goal)) fuel (freeFlag free) s q known ⌝ }
     ensures { λ r. ⌜ r ≡ verdictOf (behindEnd (tableBoard (now (edges .entry)) (now (delta .entry)) (now (goal .entry))) fuel (freeFlag free) s q a) ⌝ }
@@ -801,7 +727,6 @@ pub fn learn(
     known: [u8; 9],
     c: u64,
 ) -> Learnt
-    requires { ⌜ Sorted (now edges) ⌝ }
     requires { ⌜ Closed (tableBoard (now edges) (now delta) (now goal)) (placeFlag (now goal)) (any-way (tableBoard (now edges) (now delta) (now goal))) (freeFlag free) (placeFlag (now live)) ⌝ }
     requires { ⌜ Known (tableBoard (now edges) (now delta) (now goal)) fuel (freeFlag free) s q known ⌝ }
     ensures { λ r. ⌜ Known (tableBoard (now (edges .entry)) (now (delta .entry)) (now (goal .entry))) fuel (freeFlag free) s q (r .known) ⌝ }

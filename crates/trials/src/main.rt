@@ -1,5 +1,6 @@
 // Reads cases from standard input and prints for each what a public function answers, and what became of the memory lent to it. The programs in
 // tests/trials write the cases and, by a reference of their own, the output that is due.
+mod edges;
 mod files;
 mod input;
 mod judged;
@@ -33,6 +34,7 @@ fn case(h: Head, body: &[u8], given: &mut [u64], table: &mut [u64], out: &mut [u
         b'l' => listings::listed(text, number, room, out),
         b's' => listings::summed(text, room, out),
         b'a' => listings::whole(text, number, room, out),
+        b'e' => edges::finding(text, number, given),
         _ => say::unknown(),
     }
 }

@@ -69,6 +69,12 @@ fn number(v: u64) {
     io::print_decimal(1, v);
 }
 
+// Where a row stands.
+pub fn place(at: usize) {
+    word(b" ");
+    number(at as u64);
+}
+
 // A path row in the large.
 pub fn row(mark: u64, start: u64, count: usize) {
     word(b"mark ");

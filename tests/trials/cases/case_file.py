@@ -11,6 +11,7 @@ them are its text, the next ROW its first path row, and the rest its second.
   j  the first row is judged for query NUMBER of the text, ROOM records lent for its steps
   l  the listing of query NUMBER of the text, in a lent buffer of ROOM bytes
   s  the summary of the text, in a lent buffer of ROOM bytes
+  e  the text is cells in hexadecimal, edge rows: where the rows stand that leave scope NUMBER
   a  the listings of the first NUMBER queries of the text and then its summary, each in a lent buffer of ROOM bytes
 """
 

@@ -5,7 +5,8 @@ use mathlib.Core.Path.{sym}
 use native.Mathlib.Omega.{arith}
 use lib.ListN.{length}
 use borrow.Author.Needs.{needs}
-use Rattle.search.proofs.Rows.{lex, lex-fst, lex-snd}
+use Rattle.edge_rows.proofs.Laws.{next-row}
+use Rattle.search.proofs.Measure.{lex, lex-fst, lex-snd}
 use Rattle.search.specs.Tables.{freeFlag}
 use Rattle.follow.specs.Steps.{stackHops}
 use Rattle.follow.proofs.PourLaws.{pour-as, pour-nil, pour-then}
@@ -27,7 +28,7 @@ use Rattle.follow.proofs.stale.Reads as stale-reads
 use Rattle.follow.proofs.visit.Reads as visit-reads
 use Rattle.search.proofs.learn.Reads as learn-reads
 use Rattle.search.proofs.live_table.Reads as live-table-reads
-use Rattle.search.proofs.next_row.Reads as next-row-reads
+use Rattle.edge_rows.proofs.next_row.Reads as next-row-reads
 use Rattle.search.proofs.taken.Reads as taken-reads
 use Rattle.follow.proofs.+follow_at+follow_from.{statement}
 use Rattle.follow.proofs.+follow_at+follow_from.Tie.{close}
@@ -68,7 +69,7 @@ follow-at-sub-own-end : (t : ℕ) → follow-at-lts.Need-sub-own-end (follow-at-
 follow-at-sub-own-end t c = omega arith
 
 follow-at-own-end-requires : (t : ℕ) → follow-at-lts.Need-own-end-requires (follow-at-calls t) (follow-at-at t) follow-at.Post
-follow-at-own-end-requires t c κs = let pre = c .before .before .before .before .before .before .before .before .before .before .before .before .pre in (pre .1 .0, pre .1 .1 .0)
+follow-at-own-end-requires t c κs = let pre = c .before .before .before .before .before .before .before .before .before .before .before .before .pre in pre .1 .0
 
 follow-at-visit-requires : (t : ℕ) → follow-at-lts.Need-visit-requires (follow-at-calls t) (follow-at-at t) follow-at.Post
 follow-at-visit-requires t c κs = tt
@@ -77,7 +78,7 @@ follow-at-sub-follow-from : (t : ℕ) → follow-at-lts.Need-sub-follow-from (fo
 follow-at-sub-follow-from t c = omega arith
 
 follow-at-follow-from-requires : (t : ℕ) → follow-at-lts.Need-follow-from-requires (follow-at-calls t) (follow-at-at t) follow-at.Post
-follow-at-follow-from-requires t c κs = let s = c .before .before .before .before .before .before .before .before .before .before .before .before .before .before .before .before .before .before .before in let a = s .args in let some = c .before .before .before .before .before .before .before .if1 .left in let room = s .pre .1 .1 .1 .1 in (lex-fst (a .fuel) 0 (s .pre .0) (a .fuel - 1) (1 + (length (a .edges .now) - 0)) (omega arith) (omega (arith, s .good .1 .1 .1 .1 .1 .1 .0)), (s .pre .1 .0, (s .pre .1 .1 .0, (s .pre .1 .1 .1 .0, (omega arith, c .before .before .before .before .before .before .own-end .ensures .0)))))
+follow-at-follow-from-requires t c κs = let s = c .before .before .before .before .before .before .before .before .before .before .before .before .before .before .before .before .before .before .before in let a = s .args in let some = c .before .before .before .before .before .before .before .if1 .left in let room = s .pre .1 .1 .1 in (lex-fst (a .fuel) 0 (s .pre .0) (a .fuel - 1) (1 + (length (a .edges .now) - 0)) (omega arith) (omega (arith, s .good .1 .1 .1 .1 .1 .1 .0)), (s .pre .1 .0, (s .pre .1 .1 .0, (omega arith, c .before .before .before .before .before .before .own-end .ensures .0))))
 
 follow-at-same-length : (t : ℕ) → follow-at-lts.Need-same-length (follow-at-calls t) (follow-at-at t) follow-at.Post
 follow-at-same-length t c = search needs
@@ -92,7 +93,7 @@ follow-from-returns : (t : ℕ) → follow-from-lts.Need-returns (follow-from-ca
 follow-from-returns t c = sym (c .before .is-over .ensures (c .if1 .taken) _ _)
 
 follow-from-next-row-requires : (t : ℕ) → follow-from-lts.Need-next-row-requires (follow-from-calls t) (follow-from-at t) follow-from.Post
-follow-from-next-row-requires t c κs = c .before .before .before .before .before .before .before .before .before .before .before .before .before .pre .1 .0
+follow-from-next-row-requires t c κs = tt
 
 follow-from-returns-2 : (t : ℕ) → follow-from-lts.Need-returns-2 (follow-from-calls t) (follow-from-at t) follow-from.Post
 follow-from-returns-2 t c = let s = c .before .before .before .before .before .before .before .before .before .before .before .before .before .before .before in let a = s .args in let row = c .before .next-row in pour-nil _ _ _ (rest-none (a .mode) (a .letters .now) (a .decls .now) (a .high) (a .low) (a .start) (a .edges .now) (a .delta .now) (a .goal .now) (a .order .now) (a .seek .now) (a .e) (a .labels) (a .tos) (a .depth) (a .free) (a .fuel) (a .s) (a .q) (a .p) (row .result) (row .ensures) (c .if2 .taken))
@@ -104,7 +105,7 @@ follow-from-mul-label : (t : ℕ) → follow-from-lts.Need-mul-label (follow-fro
 follow-from-mul-label t c = omega arith
 
 follow-from-shared-slice-read-label : (t : ℕ) → follow-from-lts.Need-shared-slice-read-label (follow-from-calls t) (follow-from-at t) follow-from.Post
-follow-from-shared-slice-read-label t c = omega (arith, c .before .before .next-row .ensures .whole (c .before .if2 .left))
+follow-from-shared-slice-read-label t c = omega (arith, next-row (c .before .before .next-row .ensures) .whole (c .before .if2 .left))
 
 follow-from-add-to : (t : ℕ) → follow-from-lts.Need-add-to (follow-from-calls t) (follow-from-at t) follow-from.Post
 follow-from-add-to t c = omega arith
@@ -113,34 +114,34 @@ follow-from-mul-to : (t : ℕ) → follow-from-lts.Need-mul-to (follow-from-call
 follow-from-mul-to t c = omega arith
 
 follow-from-shared-slice-read-to : (t : ℕ) → follow-from-lts.Need-shared-slice-read-to (follow-from-calls t) (follow-from-at t) follow-from.Post
-follow-from-shared-slice-read-to t c = omega (arith, c .before .before .before .next-row .ensures .whole (c .before .before .if2 .left))
+follow-from-shared-slice-read-to t c = omega (arith, next-row (c .before .before .before .next-row .ensures) .whole (c .before .before .if2 .left))
 
 follow-from-onward-requires : (t : ℕ) → follow-from-lts.Need-onward-requires (follow-from-calls t) (follow-from-at t) follow-from.Post
 follow-from-onward-requires t c κs = tt
 
 follow-from-add-follow-from : (t : ℕ) → follow-from-lts.Need-add-follow-from (follow-from-calls t) (follow-from-at t) follow-from.Post
-follow-from-add-follow-from t c = let s = c .before .before .before .before .before .before .before .before .before .before .before .before .before .before .before .before .before .before .before in let a = s .args in let row = c .before .before .before .before .before .next-row in let whole = row .ensures .whole (c .before .before .before .before .if2 .left) in omega (arith, s .good .1 .1 .1 .1 .1 .1 .0)
+follow-from-add-follow-from t c = let s = c .before .before .before .before .before .before .before .before .before .before .before .before .before .before .before .before .before .before .before in let a = s .args in let row = c .before .before .before .before .before .next-row in let whole = next-row (row .ensures) .whole (c .before .before .before .before .if2 .left) in omega (arith, s .good .1 .1 .1 .1 .1 .1 .0)
 
 follow-from-follow-from-requires : (t : ℕ) → follow-from-lts.Need-follow-from-requires (follow-from-calls t) (follow-from-at t) follow-from.Post
-follow-from-follow-from-requires t c κs = let s = c .before .before .before .before .before .before .before .before .before .before .before .before .before .before .before .before .before .before .before .before in let a = s .args in let row = c .before .before .before .before .before .before .next-row in let whole = row .ensures .whole (c .before .before .before .before .before .if2 .left) in let on = row .ensures .on in (lex-snd (a .fuel) (1 + (length (a .edges .now) - a .p)) (s .pre .0) (1 + (length (a .edges .now) - (row .result + 6))) (omega arith), s .pre .1)
+follow-from-follow-from-requires t c κs = let s = c .before .before .before .before .before .before .before .before .before .before .before .before .before .before .before .before .before .before .before .before in let a = s .args in let row = c .before .before .before .before .before .before .next-row in let inside = c .before .before .before .before .before .if2 .left in let whole = next-row (row .ensures) .whole inside in let on = next-row (row .ensures) .on inside in (lex-snd (a .fuel) (1 + (length (a .edges .now) - a .p)) (s .pre .0) (1 + (length (a .edges .now) - (row .result + 6))) (omega arith), s .pre .1)
 
 follow-from-same-length : (t : ℕ) → follow-from-lts.Need-same-length (follow-from-calls t) (follow-from-at t) follow-from.Post
 follow-from-same-length t c = search needs
 
 follow-from-returns-3 : (t : ℕ) → follow-from-lts.Need-returns-3 (follow-from-calls t) (follow-from-at t) follow-from.Post
-follow-from-returns-3 t c = let s = c .before .before .before .before .before .before .before .before .before .before .before .before .before .before .before .before .before .before .before .before .before .before .before in let a = s .args in let row = c .before .before .before .before .before .before .before .before .before .next-row in pour-as _ _ _ _ _ (c .before .before .follow-from .ensures) (rest-skip (a .mode) (a .letters .now) (a .decls .now) (a .high) (a .low) (a .start) (a .edges .now) (a .delta .now) (a .goal .now) (a .order .now) (a .seek .now) (a .e) (a .labels) (a .tos) (a .depth) (a .free) (a .fuel) (a .s) (a .q) (a .p) (row .result) (row .ensures) (c .before .before .before .before .before .before .before .before .if2 .left) (a .worth .now) (omega (arith, s .good .1 .1 .1 .1 .1 .1 .1 .1 .1 .1 .1 .1 .1 .1 .1 .1 .1 .1 .1 .0)) (s .pre .1 .1 .1 .0) (c .before .before .before .before .before .onward .result) (c .before .before .before .before .before .onward .ensures) (c .before .before .before .before .if3 .taken))
+follow-from-returns-3 t c = let s = c .before .before .before .before .before .before .before .before .before .before .before .before .before .before .before .before .before .before .before .before .before .before .before in let a = s .args in let row = c .before .before .before .before .before .before .before .before .before .next-row in pour-as _ _ _ _ _ (c .before .before .follow-from .ensures) (rest-skip (a .mode) (a .letters .now) (a .decls .now) (a .high) (a .low) (a .start) (a .edges .now) (a .delta .now) (a .goal .now) (a .order .now) (a .seek .now) (a .e) (a .labels) (a .tos) (a .depth) (a .free) (a .fuel) (a .s) (a .q) (a .p) (row .result) (row .ensures) (c .before .before .before .before .before .before .before .before .if2 .left) (a .worth .now) (omega (arith, s .good .1 .1 .1 .1 .1 .1 .1 .1 .1 .1 .1 .1 .1 .1 .1 .1 .1 .1 .1 .0)) (s .pre .1 .1 .0) (c .before .before .before .before .before .onward .result) (c .before .before .before .before .before .onward .ensures) (c .before .before .before .before .if3 .taken))
 
 follow-from-add-learn : (t : ℕ) → follow-from-lts.Need-add-learn (follow-from-calls t) (follow-from-at t) follow-from.Post
 follow-from-add-learn t c = let below = label-below _ _ _ _ _ _ _ (c .before .onward .ensures) (c .if3 .left) in omega arith
 
 follow-from-learn-requires : (t : ℕ) → follow-from-lts.Need-learn-requires (follow-from-calls t) (follow-from-at t) follow-from.Post
-follow-from-learn-requires t c κs = let pre = c .before .before .before .before .before .before .before .before .before .before .before .before .before .before .before .before .before .before .before .pre in (pre .1 .0, (pre .1 .1 .0, pre .1 .1 .1 .1 .1))
+follow-from-learn-requires t c κs = let pre = c .before .before .before .before .before .before .before .before .before .before .before .before .before .before .before .before .before .before .before .pre in (pre .1 .0, pre .1 .1 .1 .1)
 
 follow-from-add-follow-from-2 : (t : ℕ) → follow-from-lts.Need-add-follow-from-2 (follow-from-calls t) (follow-from-at t) follow-from.Post
-follow-from-add-follow-from-2 t c = let s = c .before .before .before .before .before .before .before .before .before .before .before .before .before .before .before .before .before .before .before .before .before .before in let a = s .args in let row = c .before .before .before .before .before .before .before .before .next-row in let whole = row .ensures .whole (c .before .before .before .before .before .before .before .if2 .left) in omega (arith, s .good .1 .1 .1 .1 .1 .1 .0)
+follow-from-add-follow-from-2 t c = let s = c .before .before .before .before .before .before .before .before .before .before .before .before .before .before .before .before .before .before .before .before .before .before in let a = s .args in let row = c .before .before .before .before .before .before .before .before .next-row in let whole = next-row (row .ensures) .whole (c .before .before .before .before .before .before .before .if2 .left) in omega (arith, s .good .1 .1 .1 .1 .1 .1 .0)
 
 follow-from-follow-from-requires-2 : (t : ℕ) → follow-from-lts.Need-follow-from-requires-2 (follow-from-calls t) (follow-from-at t) follow-from.Post
-follow-from-follow-from-requires-2 t c κs = let s = c .before .before .before .before .before .before .before .before .before .before .before .before .before .before .before .before .before .before .before .before .before .before .before in let a = s .args in let row = c .before .before .before .before .before .before .before .before .before .next-row in let whole = row .ensures .whole (c .before .before .before .before .before .before .before .before .if2 .left) in let on = row .ensures .on in (lex-snd (a .fuel) (1 + (length (a .edges .now) - a .p)) (s .pre .0) (1 + (length (a .edges .now) - (row .result + 6))) (omega arith), (s .pre .1 .0, (s .pre .1 .1 .0, (s .pre .1 .1 .1 .0, (s .pre .1 .1 .1 .1 .0, c .before .before .before .learn .ensures .0)))))
+follow-from-follow-from-requires-2 t c κs = let s = c .before .before .before .before .before .before .before .before .before .before .before .before .before .before .before .before .before .before .before .before .before .before .before in let a = s .args in let row = c .before .before .before .before .before .before .before .before .before .next-row in let inside = c .before .before .before .before .before .before .before .before .if2 .left in let whole = next-row (row .ensures) .whole inside in let on = next-row (row .ensures) .on inside in (lex-snd (a .fuel) (1 + (length (a .edges .now) - a .p)) (s .pre .0) (1 + (length (a .edges .now) - (row .result + 6))) (omega arith), (s .pre .1 .0, (s .pre .1 .1 .0, (s .pre .1 .1 .1 .0, c .before .before .before .learn .ensures .0))))
 
 follow-from-same-length-2 : (t : ℕ) → follow-from-lts.Need-same-length-2 (follow-from-calls t) (follow-from-at t) follow-from.Post
 follow-from-same-length-2 t c = search needs
@@ -149,7 +150,7 @@ follow-from-returns-4 : (t : ℕ) → follow-from-lts.Need-returns-4 (follow-fro
 follow-from-returns-4 t c = let s = c .before .before .before .before .before .before .before .before .before .before .before .before .before .before .before .before .before .before .before .before .before .before .before .before .before .before in let a = s .args in let row = c .before .before .before .before .before .before .before .before .before .before .before .before .next-row in pour-as _ _ _ _ _ (c .before .before .follow-from2 .ensures) (rest-cut (a .mode) (a .letters .now) (a .decls .now) (a .high) (a .low) (a .start) (a .edges .now) (a .delta .now) (a .goal .now) (a .order .now) (a .seek .now) (a .e) (a .labels) (a .tos) (a .depth) (a .free) (a .fuel) (a .s) (a .q) (a .p) (row .result) (row .ensures) (c .before .before .before .before .before .before .before .before .before .before .before .if2 .left) (c .before .before .before .before .before .before .learn .result .cut) (c .before .before .before .before .before .before .learn .ensures .1) (c .before .before .before .before .if4 .taken))
 
 follow-from-add-deeper : (t : ℕ) → follow-from-lts.Need-add-deeper (follow-from-calls t) (follow-from-at t) follow-from.Post
-follow-from-add-deeper t c = omega (arith, c .before .before .before .before .before .before .before .before .before .before .before .before .before .before .before .before .before .before .before .before .before .before .pre .1 .1 .1 .1 .0)
+follow-from-add-deeper t c = omega (arith, c .before .before .before .before .before .before .before .before .before .before .before .before .before .before .before .before .before .before .before .before .before .before .pre .1 .1 .1 .0)
 
 follow-from-stale-requires : (t : ℕ) → follow-from-lts.Need-stale-requires (follow-from-calls t) (follow-from-at t) follow-from.Post
 follow-from-stale-requires t c κs = tt
@@ -167,10 +168,10 @@ follow-from-slice-aggregate-follow-from : (t : ℕ) → follow-from-lts.Need-sli
 follow-from-slice-aggregate-follow-from t c = search needs
 
 follow-from-add-follow-from-3 : (t : ℕ) → follow-from-lts.Need-add-follow-from-3 (follow-from-calls t) (follow-from-at t) follow-from.Post
-follow-from-add-follow-from-3 t c = let s = c .before .before .before .before .before .before .before .before .before .before .before .before .before .before .before .before .before .before .before .before .before .before .before .before .before .before .before .before .before in let a = s .args in let row = c .before .before .before .before .before .before .before .before .before .before .before .before .before .before .before .next-row in let whole = row .ensures .whole (c .before .before .before .before .before .before .before .before .before .before .before .before .before .before .if2 .left) in omega (arith, s .good .1 .1 .1 .1 .1 .1 .0)
+follow-from-add-follow-from-3 t c = let s = c .before .before .before .before .before .before .before .before .before .before .before .before .before .before .before .before .before .before .before .before .before .before .before .before .before .before .before .before .before in let a = s .args in let row = c .before .before .before .before .before .before .before .before .before .before .before .before .before .before .before .next-row in let whole = next-row (row .ensures) .whole (c .before .before .before .before .before .before .before .before .before .before .before .before .before .before .if2 .left) in omega (arith, s .good .1 .1 .1 .1 .1 .1 .0)
 
 follow-from-follow-from-requires-3 : (t : ℕ) → follow-from-lts.Need-follow-from-requires-3 (follow-from-calls t) (follow-from-at t) follow-from.Post
-follow-from-follow-from-requires-3 t c κs = let s = c .before .before .before .before .before .before .before .before .before .before .before .before .before .before .before .before .before .before .before .before .before .before .before .before .before .before .before .before .before .before in let a = s .args in let row = c .before .before .before .before .before .before .before .before .before .before .before .before .before .before .before .before .next-row in let whole = row .ensures .whole (c .before .before .before .before .before .before .before .before .before .before .before .before .before .before .before .if2 .left) in let on = row .ensures .on in (lex-snd (a .fuel) (1 + (length (a .edges .now) - a .p)) (s .pre .0) (1 + (length (a .edges .now) - (row .result + 6))) (omega arith), (s .pre .1 .0, (s .pre .1 .1 .0, (c .before .before .before .before .before .live-table .ensures, (s .pre .1 .1 .1 .1 .0, c .before .before .before .before .before .before .before .before .before .before .learn .ensures .0)))))
+follow-from-follow-from-requires-3 t c κs = let s = c .before .before .before .before .before .before .before .before .before .before .before .before .before .before .before .before .before .before .before .before .before .before .before .before .before .before .before .before .before .before in let a = s .args in let row = c .before .before .before .before .before .before .before .before .before .before .before .before .before .before .before .before .next-row in let inside = c .before .before .before .before .before .before .before .before .before .before .before .before .before .before .before .if2 .left in let whole = next-row (row .ensures) .whole inside in let on = next-row (row .ensures) .on inside in (lex-snd (a .fuel) (1 + (length (a .edges .now) - a .p)) (s .pre .0) (1 + (length (a .edges .now) - (row .result + 6))) (omega arith), (s .pre .1 .0, (c .before .before .before .before .before .live-table .ensures, (s .pre .1 .1 .1 .0, c .before .before .before .before .before .before .before .before .before .before .learn .ensures .0))))
 
 follow-from-same-length-3 : (t : ℕ) → follow-from-lts.Need-same-length-3 (follow-from-calls t) (follow-from-at t) follow-from.Post
 follow-from-same-length-3 t c = search needs
@@ -191,22 +192,22 @@ follow-from-taken-requires : (t : ℕ) → follow-from-lts.Need-taken-requires (
 follow-from-taken-requires t c κs = tt
 
 follow-from-follow-at-requires : (t : ℕ) → follow-from-lts.Need-follow-at-requires (follow-from-calls t) (follow-from-at t) follow-from.Post
-follow-from-follow-at-requires t c κs = let s = c .before .before .before .before .before .before .before .before .before .before .before .before .before .before .before .before .before .before .before .before .before .before .before .before .before .before .before .before .before .before .before .before .before in let a = s .args in let room = s .pre .1 .1 .1 .1 .0 in let fewer = c .before .taken .ensures in (lex-snd (a .fuel) (1 + (length (a .edges .now) - a .p)) (s .pre .0) 0 (omega arith), (s .pre .1 .0, (fewer-closed _ _ _ _ _ _ _ fewer (s .pre .1 .1 .0), (fewer-closed _ _ _ _ _ _ _ fewer (c .before .before .before .before .before .before .before .before .live-table .ensures), omega arith))))
+follow-from-follow-at-requires t c κs = let s = c .before .before .before .before .before .before .before .before .before .before .before .before .before .before .before .before .before .before .before .before .before .before .before .before .before .before .before .before .before .before .before .before .before in let a = s .args in let room = s .pre .1 .1 .1 .0 in let fewer = c .before .taken .ensures in (lex-snd (a .fuel) (1 + (length (a .edges .now) - a .p)) (s .pre .0) 0 (omega arith), (fewer-closed _ _ _ _ _ _ _ fewer (s .pre .1 .0), (fewer-closed _ _ _ _ _ _ _ fewer (c .before .before .before .before .before .before .before .before .live-table .ensures), omega arith)))
 
 follow-from-slice-aggregate-follow-from-2 : (t : ℕ) → follow-from-lts.Need-slice-aggregate-follow-from-2 (follow-from-calls t) (follow-from-at t) follow-from.Post
 follow-from-slice-aggregate-follow-from-2 t c = search needs
 
 follow-from-add-follow-from-4 : (t : ℕ) → follow-from-lts.Need-add-follow-from-4 (follow-from-calls t) (follow-from-at t) follow-from.Post
-follow-from-add-follow-from-4 t c = let s = c .before .before .before .before .before .before .before .before .before .before .before .before .before .before .before .before .before .before .before .before .before .before .before .before .before .before .before .before .before .before .before .before .before .before .before .before .before in let a = s .args in let row = c .before .before .before .before .before .before .before .before .before .before .before .before .before .before .before .before .before .before .before .before .before .before .before .next-row in let whole = row .ensures .whole (c .before .before .before .before .before .before .before .before .before .before .before .before .before .before .before .before .before .before .before .before .before .before .if2 .left) in omega (arith, s .good .1 .1 .1 .1 .1 .1 .0)
+follow-from-add-follow-from-4 t c = let s = c .before .before .before .before .before .before .before .before .before .before .before .before .before .before .before .before .before .before .before .before .before .before .before .before .before .before .before .before .before .before .before .before .before .before .before .before .before in let a = s .args in let row = c .before .before .before .before .before .before .before .before .before .before .before .before .before .before .before .before .before .before .before .before .before .before .before .next-row in let whole = next-row (row .ensures) .whole (c .before .before .before .before .before .before .before .before .before .before .before .before .before .before .before .before .before .before .before .before .before .before .if2 .left) in omega (arith, s .good .1 .1 .1 .1 .1 .1 .0)
 
 follow-from-follow-from-requires-4 : (t : ℕ) → follow-from-lts.Need-follow-from-requires-4 (follow-from-calls t) (follow-from-at t) follow-from.Post
-follow-from-follow-from-requires-4 t c κs = let s = c .before .before .before .before .before .before .before .before .before .before .before .before .before .before .before .before .before .before .before .before .before .before .before .before .before .before .before .before .before .before .before .before .before .before .before .before .before .before in let a = s .args in let row = c .before .before .before .before .before .before .before .before .before .before .before .before .before .before .before .before .before .before .before .before .before .before .before .before .next-row in let whole = row .ensures .whole (c .before .before .before .before .before .before .before .before .before .before .before .before .before .before .before .before .before .before .before .before .before .before .before .if2 .left) in let on = row .ensures .on in (lex-snd (a .fuel) (1 + (length (a .edges .now) - a .p)) (s .pre .0) (1 + (length (a .edges .now) - (row .result + 6))) (omega arith), (s .pre .1 .0, (s .pre .1 .1 .0, (c .before .before .before .before .before .before .before .before .before .before .before .before .before .live-table .ensures, (s .pre .1 .1 .1 .1 .0, c .before .before .before .before .before .before .before .before .before .before .before .before .before .before .before .before .before .before .learn .ensures .0)))))
+follow-from-follow-from-requires-4 t c κs = let s = c .before .before .before .before .before .before .before .before .before .before .before .before .before .before .before .before .before .before .before .before .before .before .before .before .before .before .before .before .before .before .before .before .before .before .before .before .before .before in let a = s .args in let row = c .before .before .before .before .before .before .before .before .before .before .before .before .before .before .before .before .before .before .before .before .before .before .before .before .next-row in let inside = c .before .before .before .before .before .before .before .before .before .before .before .before .before .before .before .before .before .before .before .before .before .before .before .if2 .left in let whole = next-row (row .ensures) .whole inside in let on = next-row (row .ensures) .on inside in (lex-snd (a .fuel) (1 + (length (a .edges .now) - a .p)) (s .pre .0) (1 + (length (a .edges .now) - (row .result + 6))) (omega arith), (s .pre .1 .0, (c .before .before .before .before .before .before .before .before .before .before .before .before .before .live-table .ensures, (s .pre .1 .1 .1 .0, c .before .before .before .before .before .before .before .before .before .before .before .before .before .before .before .before .before .before .learn .ensures .0))))
 
 follow-from-same-length-4 : (t : ℕ) → follow-from-lts.Need-same-length-4 (follow-from-calls t) (follow-from-at t) follow-from.Post
 follow-from-same-length-4 t c = search needs
 
 follow-from-returns-6 : (t : ℕ) → follow-from-lts.Need-returns-6 (follow-from-calls t) (follow-from-at t) follow-from.Post
-follow-from-returns-6 t c = let s = c .before .before .before .before .before .before .before .before .before .before .before .before .before .before .before .before .before .before .before .before .before .before .before .before .before .before .before .before .before .before .before .before .before .before .before .before .before .before .before .before .before in let a = s .args in let row = c .before .before .before .before .before .before .before .before .before .before .before .before .before .before .before .before .before .before .before .before .before .before .before .before .before .before .before .next-row in let room = s .pre .1 .1 .1 .1 .0 in pour-then _ _ _ _ _ _ _ (c .before .before .before .before .before .before .before .follow-at .ensures) (c .before .before .follow-from4 .ensures) (rest-enter (a .mode) (a .letters .now) (a .decls .now) (a .high) (a .low) (a .start) (a .edges .now) (a .delta .now) (a .goal .now) (a .order .now) (a .seek .now) (a .e) (a .labels) (a .tos) (a .depth) (a .free) (a .fuel) (a .s) (a .q) (a .p) (row .result) (row .ensures) (c .before .before .before .before .before .before .before .before .before .before .before .before .before .before .before .before .before .before .before .before .before .before .before .before .before .before .if2 .left) (c .before .before .before .before .before .before .before .before .before .before .before .before .before .before .before .before .before .before .before .before .before .learn .result .cut) (c .before .before .before .before .before .before .before .before .before .before .before .before .before .before .before .before .before .before .before .before .before .learn .ensures .1) (c .before .before .before .before .before .before .before .before .before .before .before .before .before .before .before .before .before .before .before .if4 .left) (omega (arith, s .good .1 .1 .1 .1 .1 .1 .1 .1 .1 .1 .1 .1 .1 .1 .1 .1 .1 .1 .1 .0)) (c .before .before .before .before .before .before .before .before .before .before .before .before .before .before .before .before .live-table .result) (c .before .before .before .before .before .before .before .before .before .before .before .before .before .before .onward2 .result) (c .before .before .before .before .before .before .before .before .before .before .before .before .before .before .onward2 .ensures) (c .before .before .before .before .before .before .before .before .before .before .before .before .before .if6 .left) (c .before .before .before .before .before .before .before .before .before .before .before .pushed .result) (c .before .before .before .before .before .before .before .before .before .before .pushed2 .result) (c .before .before .before .before .before .before .before .before .before .taken .result) (omega (arith, room, s .good .1 .1 .1 .1 .1 .1 .1 .1 .1 .1 .1 .1 .1 .1 .1 .0)) (omega (arith, room, s .good .1 .1 .1 .1 .1 .1 .1 .1 .1 .1 .1 .1 .1 .1 .1 .1 .0)) (c .before .before .before .before .before .before .before .before .before .before .before .pushed .ensures) (c .before .before .before .before .before .before .before .before .before .before .pushed2 .ensures) (c .before .before .before .before .before .before .before .before .before .taken .ensures))
+follow-from-returns-6 t c = let s = c .before .before .before .before .before .before .before .before .before .before .before .before .before .before .before .before .before .before .before .before .before .before .before .before .before .before .before .before .before .before .before .before .before .before .before .before .before .before .before .before .before in let a = s .args in let row = c .before .before .before .before .before .before .before .before .before .before .before .before .before .before .before .before .before .before .before .before .before .before .before .before .before .before .before .next-row in let room = s .pre .1 .1 .1 .0 in pour-then _ _ _ _ _ _ _ (c .before .before .before .before .before .before .before .follow-at .ensures) (c .before .before .follow-from4 .ensures) (rest-enter (a .mode) (a .letters .now) (a .decls .now) (a .high) (a .low) (a .start) (a .edges .now) (a .delta .now) (a .goal .now) (a .order .now) (a .seek .now) (a .e) (a .labels) (a .tos) (a .depth) (a .free) (a .fuel) (a .s) (a .q) (a .p) (row .result) (row .ensures) (c .before .before .before .before .before .before .before .before .before .before .before .before .before .before .before .before .before .before .before .before .before .before .before .before .before .before .if2 .left) (c .before .before .before .before .before .before .before .before .before .before .before .before .before .before .before .before .before .before .before .before .before .learn .result .cut) (c .before .before .before .before .before .before .before .before .before .before .before .before .before .before .before .before .before .before .before .before .before .learn .ensures .1) (c .before .before .before .before .before .before .before .before .before .before .before .before .before .before .before .before .before .before .before .if4 .left) (omega (arith, s .good .1 .1 .1 .1 .1 .1 .1 .1 .1 .1 .1 .1 .1 .1 .1 .1 .1 .1 .1 .0)) (c .before .before .before .before .before .before .before .before .before .before .before .before .before .before .before .before .live-table .result) (c .before .before .before .before .before .before .before .before .before .before .before .before .before .before .onward2 .result) (c .before .before .before .before .before .before .before .before .before .before .before .before .before .before .onward2 .ensures) (c .before .before .before .before .before .before .before .before .before .before .before .before .before .if6 .left) (c .before .before .before .before .before .before .before .before .before .before .before .pushed .result) (c .before .before .before .before .before .before .before .before .before .before .pushed2 .result) (c .before .before .before .before .before .before .before .before .before .taken .result) (omega (arith, room, s .good .1 .1 .1 .1 .1 .1 .1 .1 .1 .1 .1 .1 .1 .1 .1 .0)) (omega (arith, room, s .good .1 .1 .1 .1 .1 .1 .1 .1 .1 .1 .1 .1 .1 .1 .1 .1 .0)) (c .before .before .before .before .before .before .before .before .before .before .before .pushed .ensures) (c .before .before .before .before .before .before .before .before .before .before .pushed2 .ensures) (c .before .before .before .before .before .before .before .before .before .taken .ensures))
 
 follow-from-pushed-requires-3 : (t : ℕ) → follow-from-lts.Need-pushed-requires-3 (follow-from-calls t) (follow-from-at t) follow-from.Post
 follow-from-pushed-requires-3 t c κs = tt
@@ -218,22 +219,22 @@ follow-from-taken-requires-2 : (t : ℕ) → follow-from-lts.Need-taken-requires
 follow-from-taken-requires-2 t c κs = tt
 
 follow-from-follow-at-requires-2 : (t : ℕ) → follow-from-lts.Need-follow-at-requires-2 (follow-from-calls t) (follow-from-at t) follow-from.Post
-follow-from-follow-at-requires-2 t c κs = let s = c .before .before .before .before .before .before .before .before .before .before .before .before .before .before .before .before .before .before .before .before .before .before .before .before .before .before .before .before in let a = s .args in let room = s .pre .1 .1 .1 .1 .0 in let fewer = c .before .taken2 .ensures in (lex-snd (a .fuel) (1 + (length (a .edges .now) - a .p)) (s .pre .0) 0 (omega arith), (s .pre .1 .0, (fewer-closed _ _ _ _ _ _ _ fewer (s .pre .1 .1 .0), (fewer-closed _ _ _ _ _ _ _ fewer (s .pre .1 .1 .1 .0), omega arith))))
+follow-from-follow-at-requires-2 t c κs = let s = c .before .before .before .before .before .before .before .before .before .before .before .before .before .before .before .before .before .before .before .before .before .before .before .before .before .before .before .before in let a = s .args in let room = s .pre .1 .1 .1 .0 in let fewer = c .before .taken2 .ensures in (lex-snd (a .fuel) (1 + (length (a .edges .now) - a .p)) (s .pre .0) 0 (omega arith), (fewer-closed _ _ _ _ _ _ _ fewer (s .pre .1 .0), (fewer-closed _ _ _ _ _ _ _ fewer (s .pre .1 .1 .0), omega arith)))
 
 follow-from-in-vain-requires : (t : ℕ) → follow-from-lts.Need-in-vain-requires (follow-from-calls t) (follow-from-at t) follow-from.Post
 follow-from-in-vain-requires t c κs = tt
 
 follow-from-add-follow-from-5 : (t : ℕ) → follow-from-lts.Need-add-follow-from-5 (follow-from-calls t) (follow-from-at t) follow-from.Post
-follow-from-add-follow-from-5 t c = let s = c .before .before .before .before .before .before .before .before .before .before .before .before .before .before .before .before .before .before .before .before .before .before .before .before .before .before .before .before .before .before .before .before in let a = s .args in let row = c .before .before .before .before .before .before .before .before .before .before .before .before .before .before .before .before .before .before .next-row in let whole = row .ensures .whole (c .before .before .before .before .before .before .before .before .before .before .before .before .before .before .before .before .before .if2 .left) in omega (arith, s .good .1 .1 .1 .1 .1 .1 .0)
+follow-from-add-follow-from-5 t c = let s = c .before .before .before .before .before .before .before .before .before .before .before .before .before .before .before .before .before .before .before .before .before .before .before .before .before .before .before .before .before .before .before .before in let a = s .args in let row = c .before .before .before .before .before .before .before .before .before .before .before .before .before .before .before .before .before .before .next-row in let whole = next-row (row .ensures) .whole (c .before .before .before .before .before .before .before .before .before .before .before .before .before .before .before .before .before .if2 .left) in omega (arith, s .good .1 .1 .1 .1 .1 .1 .0)
 
 follow-from-follow-from-requires-5 : (t : ℕ) → follow-from-lts.Need-follow-from-requires-5 (follow-from-calls t) (follow-from-at t) follow-from.Post
-follow-from-follow-from-requires-5 t c κs = let s = c .before .before .before .before .before .before .before .before .before .before .before .before .before .before .before .before .before .before .before .before .before .before .before .before .before .before .before .before .before .before .before .before .before in let a = s .args in let row = c .before .before .before .before .before .before .before .before .before .before .before .before .before .before .before .before .before .before .before .next-row in let whole = row .ensures .whole (c .before .before .before .before .before .before .before .before .before .before .before .before .before .before .before .before .before .before .if2 .left) in let on = row .ensures .on in (lex-snd (a .fuel) (1 + (length (a .edges .now) - a .p)) (s .pre .0) (1 + (length (a .edges .now) - (row .result + 6))) (omega arith), (s .pre .1 .0, (s .pre .1 .1 .0, (s .pre .1 .1 .1 .0, (s .pre .1 .1 .1 .1 .0, c .before .before .before .before .before .before .before .before .before .before .before .before .before .learn .ensures .0)))))
+follow-from-follow-from-requires-5 t c κs = let s = c .before .before .before .before .before .before .before .before .before .before .before .before .before .before .before .before .before .before .before .before .before .before .before .before .before .before .before .before .before .before .before .before .before in let a = s .args in let row = c .before .before .before .before .before .before .before .before .before .before .before .before .before .before .before .before .before .before .before .next-row in let inside = c .before .before .before .before .before .before .before .before .before .before .before .before .before .before .before .before .before .before .if2 .left in let whole = next-row (row .ensures) .whole inside in let on = next-row (row .ensures) .on inside in (lex-snd (a .fuel) (1 + (length (a .edges .now) - a .p)) (s .pre .0) (1 + (length (a .edges .now) - (row .result + 6))) (omega arith), (s .pre .1 .0, (s .pre .1 .1 .0, (s .pre .1 .1 .1 .0, c .before .before .before .before .before .before .before .before .before .before .before .before .before .learn .ensures .0))))
 
 follow-from-same-length-5 : (t : ℕ) → follow-from-lts.Need-same-length-5 (follow-from-calls t) (follow-from-at t) follow-from.Post
 follow-from-same-length-5 t c = search needs
 
 follow-from-returns-7 : (t : ℕ) → follow-from-lts.Need-returns-7 (follow-from-calls t) (follow-from-at t) follow-from.Post
-follow-from-returns-7 t c = let s = c .before .before .before .before .before .before .before .before .before .before .before .before .before .before .before .before .before .before .before .before .before .before .before .before .before .before .before .before .before .before .before .before .before .before .before .before in let a = s .args in let row = c .before .before .before .before .before .before .before .before .before .before .before .before .before .before .before .before .before .before .before .before .before .before .next-row in let room = s .pre .1 .1 .1 .1 .0 in pour-then _ _ _ _ _ _ _ (c .before .before .before .before .before .before .before .follow-at2 .ensures) (c .before .before .follow-from5 .ensures) (rest-enter (a .mode) (a .letters .now) (a .decls .now) (a .high) (a .low) (a .start) (a .edges .now) (a .delta .now) (a .goal .now) (a .order .now) (a .seek .now) (a .e) (a .labels) (a .tos) (a .depth) (a .free) (a .fuel) (a .s) (a .q) (a .p) (row .result) (row .ensures) (c .before .before .before .before .before .before .before .before .before .before .before .before .before .before .before .before .before .before .before .before .before .if2 .left) (c .before .before .before .before .before .before .before .before .before .before .before .before .before .before .before .before .learn .result .cut) (c .before .before .before .before .before .before .before .before .before .before .before .before .before .before .before .before .learn .ensures .1) (c .before .before .before .before .before .before .before .before .before .before .before .before .before .before .if4 .left) (omega (arith, s .good .1 .1 .1 .1 .1 .1 .1 .1 .1 .1 .1 .1 .1 .1 .1 .1 .1 .1 .1 .0)) (a .worth .now) (c .before .before .before .before .before .before .before .before .before .before .before .before .before .before .before .before .before .before .onward .result) (c .before .before .before .before .before .before .before .before .before .before .before .before .before .before .before .before .before .before .onward .ensures) (c .before .before .before .before .before .before .before .before .before .before .before .before .before .before .before .before .before .if3 .left) (c .before .before .before .before .before .before .before .before .before .before .before .pushed3 .result) (c .before .before .before .before .before .before .before .before .before .before .pushed4 .result) (c .before .before .before .before .before .before .before .before .before .taken2 .result) (omega (arith, room, s .good .1 .1 .1 .1 .1 .1 .1 .1 .1 .1 .1 .1 .1 .1 .1 .0)) (omega (arith, room, s .good .1 .1 .1 .1 .1 .1 .1 .1 .1 .1 .1 .1 .1 .1 .1 .1 .0)) (c .before .before .before .before .before .before .before .before .before .before .before .pushed3 .ensures) (c .before .before .before .before .before .before .before .before .before .before .pushed4 .ensures) (c .before .before .before .before .before .before .before .before .before .taken2 .ensures))
+follow-from-returns-7 t c = let s = c .before .before .before .before .before .before .before .before .before .before .before .before .before .before .before .before .before .before .before .before .before .before .before .before .before .before .before .before .before .before .before .before .before .before .before .before in let a = s .args in let row = c .before .before .before .before .before .before .before .before .before .before .before .before .before .before .before .before .before .before .before .before .before .before .next-row in let room = s .pre .1 .1 .1 .0 in pour-then _ _ _ _ _ _ _ (c .before .before .before .before .before .before .before .follow-at2 .ensures) (c .before .before .follow-from5 .ensures) (rest-enter (a .mode) (a .letters .now) (a .decls .now) (a .high) (a .low) (a .start) (a .edges .now) (a .delta .now) (a .goal .now) (a .order .now) (a .seek .now) (a .e) (a .labels) (a .tos) (a .depth) (a .free) (a .fuel) (a .s) (a .q) (a .p) (row .result) (row .ensures) (c .before .before .before .before .before .before .before .before .before .before .before .before .before .before .before .before .before .before .before .before .before .if2 .left) (c .before .before .before .before .before .before .before .before .before .before .before .before .before .before .before .before .learn .result .cut) (c .before .before .before .before .before .before .before .before .before .before .before .before .before .before .before .before .learn .ensures .1) (c .before .before .before .before .before .before .before .before .before .before .before .before .before .before .if4 .left) (omega (arith, s .good .1 .1 .1 .1 .1 .1 .1 .1 .1 .1 .1 .1 .1 .1 .1 .1 .1 .1 .1 .0)) (a .worth .now) (c .before .before .before .before .before .before .before .before .before .before .before .before .before .before .before .before .before .before .onward .result) (c .before .before .before .before .before .before .before .before .before .before .before .before .before .before .before .before .before .before .onward .ensures) (c .before .before .before .before .before .before .before .before .before .before .before .before .before .before .before .before .before .if3 .left) (c .before .before .before .before .before .before .before .before .before .before .before .pushed3 .result) (c .before .before .before .before .before .before .before .before .before .before .pushed4 .result) (c .before .before .before .before .before .before .before .before .before .taken2 .result) (omega (arith, room, s .good .1 .1 .1 .1 .1 .1 .1 .1 .1 .1 .1 .1 .1 .1 .1 .0)) (omega (arith, room, s .good .1 .1 .1 .1 .1 .1 .1 .1 .1 .1 .1 .1 .1 .1 .1 .1 .0)) (c .before .before .before .before .before .before .before .before .before .before .before .pushed3 .ensures) (c .before .before .before .before .before .before .before .before .before .before .pushed4 .ensures) (c .before .before .before .before .before .before .before .before .before .taken2 .ensures))
 
 pub +follow-at+follow-from-spec : {M : Type 1} → statement M
 +follow-at+follow-from-spec = close μ-follow-at μ-follow-from (λ t. follow-at-lts.spec (follow-at-calls t) (follow-at-at t)

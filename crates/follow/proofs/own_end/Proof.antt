@@ -16,7 +16,7 @@ returns : tie.Need-returns
 returns c = (known-none _ _ _ _ _ _ (c .before .before .nothing-known .ensures), rw (sym (c .before .place .ensures) ∙ not-true (c .before .place .result) (c .if1 .taken)))
 
 learn-requires : tie.Need-learn-requires
-learn-requires c κs = (c .before .before .before .before .before .before .before .before .before .before .pre .0, (c .before .before .before .before .before .before .before .before .before .before .pre .1, known-none _ _ _ _ _ _ (c .before .before .nothing-known .ensures)))
+learn-requires c κs = (c .before .before .before .before .before .before .before .before .before .before .pre, known-none _ _ _ _ _ _ (c .before .before .nothing-known .ensures))
 
 returns-2 : tie.Need-returns-2
 returns-2 c = (c .learn .ensures .0, rw (sym (c .before .before .place .ensures) ∙ not-false (c .before .before .place .result) (c .before .if1 .left)) (c .learn .ensures .1))

@@ -14,7 +14,7 @@ start-free-requires : tie.Need-start-free-requires
 start-free-requires c κs = search needs
 
 follow-at-requires : tie.Need-follow-at-requires
-follow-at-requires c κs = let pre = c .before .before .before .before .before .before .before .before .before .before .before .before .before .before .pre in let start = c .before .start-free .ensures in (pre .0, (rw start (pre .1 .0), (rw start (pre .1 .1), omega (arith, c .before .before .if1 .left))))
+follow-at-requires c κs = let pre = c .before .before .before .before .before .before .before .before .before .before .before .before .before .before .pre in let start = c .before .start-free .ensures in (rw start (pre .0), (rw start (pre .1), omega (arith, c .before .before .if1 .left)))
 
 same-length : tie.Need-same-length
 same-length c = search needs

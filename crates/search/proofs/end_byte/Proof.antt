@@ -11,11 +11,11 @@ array-read-byte c = omega arith
 
 returns : tie.Need-returns
 unfolding verdictOf
-returns c = sym (ap verdictOf (c .before .before .before .before .before .before .pre .1 .1 .1 .leads (c .before .before .before .before .before .before .args .a) (c .before .before .before .before .before .before .pre .0) (c .if1 .taken)))
+returns c = sym (ap verdictOf (c .before .before .before .before .before .before .pre .1 .1 .leads (c .before .before .before .before .before .before .args .a) (c .before .before .before .before .before .before .pre .0) (c .if1 .taken)))
 
 returns-2 : tie.Need-returns-2
 unfolding verdictOf
-returns-2 c = sym (ap verdictOf (c .before .before .before .before .before .before .before .pre .1 .1 .1 .leads-not (c .before .before .before .before .before .before .before .args .a) (c .before .before .before .before .before .before .before .pre .0) (c .if2 .taken)))
+returns-2 c = sym (ap verdictOf (c .before .before .before .before .before .before .before .pre .1 .1 .leads-not (c .before .before .before .before .before .before .before .args .a) (c .before .before .before .before .before .before .before .pre .0) (c .if2 .taken)))
 
 end-leads-requires : tie.Need-end-leads-requires
 end-leads-requires c κs = search needs

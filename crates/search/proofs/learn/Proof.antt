@@ -29,10 +29,10 @@ returns : tie.Need-returns Inv-loop μ-loop
 returns c =
     let s = c .before .before .before .before .before .before .before .before .args in
     let b = tableBoard (s .edges .now) (s .delta .now) (s .goal .now) in
-    (c .before .before .before .before .before .before .before .before .pre .1 .1, sym (cut-known b (s .order .now) (s .fuel) (freeFlag (s .free)) (s .s) (s .q) (s .c) (s .known) (c .before .before .before .before .before .before .before .before .pre .1 .1) (c .before .known-cut .ensures (c .if1 .taken))))
+    (c .before .before .before .before .before .before .before .before .pre .1, sym (cut-known b (s .order .now) (s .fuel) (freeFlag (s .free)) (s .s) (s .q) (s .c) (s .known) (c .before .before .before .before .before .before .before .before .pre .1) (c .before .known-cut .ensures (c .if1 .taken))))
 
 loop-holds : tie.Need-loop-holds Inv-loop μ-loop
-loop-holds c = (omega arith, c .before .before .before .before .before .before .before .before .pre .1 .1, λ k h. absurd (omega arith))
+loop-holds c = (omega arith, c .before .before .before .before .before .before .before .before .pre .1, λ k h. absurd (omega arith))
 
 pair-requires : tie.Need-pair-requires Inv-loop μ-loop
 pair-requires c κs = search needs
@@ -54,7 +54,7 @@ loop-again c =
     )
 
 end-byte-requires : tie.Need-end-byte-requires Inv-loop μ-loop
-end-byte-requires c κs = (omega arith, (c .before .before .before .before .before .before .before .before .before .before .before .before .pre .0, (c .before .before .before .before .before .before .before .before .before .before .before .before .pre .1 .0, c .before .before .before .loop .inv .1)))
+end-byte-requires c κs = (omega arith, (c .before .before .before .before .before .before .before .before .before .before .before .before .pre .0, c .before .before .before .loop .inv .1))
 
 array-write-out : tie.Need-array-write-out Inv-loop μ-loop
 array-write-out c = omega arith

@@ -5,7 +5,7 @@ use native.Mathlib.Omega.{arith}
 use lib.ListN.{length}
 use borrow.Author.Needs.{needs}
 use Rattle.search.specs.Steps.{HopAt}
-use Rattle.search.proofs.Near.{Left, left-first, left-on, left-hop}
+use Rattle.search.proofs.Near.{Left, left-first, left-on, left-less, left-hop}
 use Rattle.search.proofs.nearest_row.Statement.{statement}
 use Rattle.search.proofs.nearest_row.Tie as tie
 
@@ -16,7 +16,7 @@ abbrev μ-loop : tie.MeasureT-loop
 μ-loop edges delta live free s q want n best₀ least₀ p₀ best least p = n - p
 
 next-row-requires : tie.Need-next-row-requires Inv-loop μ-loop
-next-row-requires c κs = c .before .before .before .pre
+next-row-requires c κs = search needs
 
 loop-holds : tie.Need-loop-holds Inv-loop μ-loop
 loop-holds c = (refl, left-first _ _ _ (c .next-row .ensures), λ h. absurd (omega arith), omega arith)
@@ -46,16 +46,16 @@ add-next-row : tie.Need-add-next-row Inv-loop μ-loop
 add-next-row c = omega arith
 
 next-row-requires-2 : tie.Need-next-row-requires-2 Inv-loop μ-loop
-next-row-requires-2 c κs = c .before .before .before .before .before .before .before .before .before .pre
+next-row-requires-2 c κs = search needs
 
 loop-less : tie.Need-loop-less Inv-loop μ-loop
-loop-less c = omega (arith, c .before .next-row2 .ensures .on)
+loop-less c = let inside : c .before .before .before .before .before .before .loop .p < length (c .before .before .before .before .before .before .before .before .before .before .before .args .edges .now) = omega arith in left-less _ _ _ (c .before .before .before .before .before .before .loop .inv .1) inside _ (c .before .next-row2 .ensures)
 
 loop-again : tie.Need-loop-again Inv-loop μ-loop
 loop-again c = let inside : c .before .before .before .before .before .before .loop .p < length (c .before .before .before .before .before .before .before .before .before .before .before .args .edges .now) = omega arith in (refl, left-on _ _ _ (c .before .before .before .before .before .before .loop .inv .1) inside _ (c .before .next-row2 .ensures), c .before .before .before .before .before .before .loop .inv .2, c .before .before .before .before .before .before .loop .inv .3)
 
 loop-less-2 : tie.Need-loop-less-2 Inv-loop μ-loop
-loop-less-2 c = omega (arith, c .before .next-row2 .ensures .on)
+loop-less-2 c = let inside : c .before .before .before .before .before .before .loop .p < length (c .before .before .before .before .before .before .before .before .before .before .before .args .edges .now) = omega arith in left-less _ _ _ (c .before .before .before .before .before .before .loop .inv .1) inside _ (c .before .next-row2 .ensures)
 
 loop-again-2 : tie.Need-loop-again-2 Inv-loop μ-loop
 loop-again-2 c = let inside : c .before .before .before .before .before .before .loop .p < length (c .before .before .before .before .before .before .before .before .before .before .before .args .edges .now) = omega arith in (refl, left-on _ _ _ (c .before .before .before .before .before .before .loop .inv .1) inside _ (c .before .next-row2 .ensures), λ h. left-hop _ _ _ (c .before .before .before .before .before .before .loop .inv .1) inside _ _ _ _ _ (c .before .before .hop-distance .ensures (omega arith)), omega arith)

@@ -26,7 +26,7 @@ returns : tie.Need-returns Inv-loop μ-loop
 returns c = let s = c .before .before .before .before .before .before .before .before .args in let l = c .before .before .before .loop in λ e. l .inv (exists-here (s .edges .now) (s .delta .now) (s .goal .now) (l .on) (l .left) (l .at) (l .state) (λ z. omega arith) (sym (c .before .place .ensures) ∙ c .if1 .taken))
 
 nearest-row-requires : tie.Need-nearest-row-requires Inv-loop μ-loop
-nearest-row-requires c κs = c .before .before .before .before .before .before .before .before .pre
+nearest-row-requires c κs = search needs
 
 returns-2 : tie.Need-returns-2 Inv-loop μ-loop
 returns-2 c = λ e. absurd (false≢true e)

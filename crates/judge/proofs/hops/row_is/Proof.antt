@@ -1,6 +1,5 @@
 -- `row_is` meets its contract. Assumes nothing.
-use borrow.Author.Tests.{not-true, not-false}
-use Rattle.judge.proofs.HopLaws.{row-apart, row-apart-1, row-apart-2, row-three, row-four}
+use Rattle.judge.proofs.HopLaws.{row-apart, row-apart-1, row-apart-2, row-four}
 use borrow.Author.Needs.{needs}
 use Rattle.judge.proofs.hops.row_is.Statement.{statement}
 use Rattle.judge.proofs.hops.row_is.Tie as tie
@@ -8,41 +7,29 @@ use Rattle.judge.proofs.hops.row_is.Reads as reads
 use Rattle.judge.proofs.hops.row_is.Lts as lts
 use Rattle.resolution.proofs.row_value.Reads as row-value-reads
 
--- src/hops.rt:18:8
 row-value-requires : tie.Need-row-value-requires
 row-value-requires c κs = search needs
 
--- src/hops.rt:19:9
 returns : tie.Need-returns
-returns c = row-apart _ _ _ _ _ _ _ (c .before .row-value .ensures) (c .if1 .taken)
+returns c = row-apart _ _ _ _ _ _ (c .before .row-value .ensures) (c .if1 .taken)
 
--- src/hops.rt:21:8
 row-value-requires-2 : tie.Need-row-value-requires-2
 row-value-requires-2 c κs = search needs
 
--- src/hops.rt:22:9
 returns-2 : tie.Need-returns-2
-returns-2 c = row-apart-1 _ _ _ _ _ _ _ (c .before .before .before .row-value .ensures) (c .before .before .if1 .left) _ (c .before .row-value2 .ensures) (c .if2 .taken)
+returns-2 c = row-apart-1 _ _ _ _ _ _ (c .before .before .before .row-value .ensures) (c .before .before .if1 .left) _ (c .before .row-value2 .ensures) (c .if2 .taken)
 
--- src/hops.rt:24:8
 row-value-requires-3 : tie.Need-row-value-requires-3
 row-value-requires-3 c κs = search needs
 
--- src/hops.rt:25:9
 returns-3 : tie.Need-returns-3
-returns-3 c = row-apart-2 _ _ _ _ _ _ _ (c .before .before .before .before .before .row-value .ensures) (c .before .before .before .before .if1 .left) _ (c .before .before .before .row-value2 .ensures) (c .before .before .if2 .left) _ (c .before .row-value3 .ensures) (c .if3 .taken)
+returns-3 c = row-apart-2 _ _ _ _ _ _ (c .before .before .before .before .before .row-value .ensures) (c .before .before .before .before .if1 .left) _ (c .before .before .before .row-value2 .ensures) (c .before .before .if2 .left) _ (c .before .row-value3 .ensures) (c .if3 .taken)
 
--- src/hops.rt:28:9
-returns-4 : tie.Need-returns-4
-returns-4 c = row-three _ _ _ _ _ _ _ (c .before .before .before .before .before .before .row-value .ensures) (c .before .before .before .before .before .if1 .left) _ (c .before .before .before .before .row-value2 .ensures) (c .before .before .before .if2 .left) _ (c .before .before .row-value3 .ensures) (c .before .if3 .left) (not-true _ (c .if4 .taken))
-
--- src/hops.rt:30:5
 row-value-requires-4 : tie.Need-row-value-requires-4
 row-value-requires-4 c κs = search needs
 
--- src/hops.rt:15:1
-returns-5 : tie.Need-returns-5
-returns-5 c = row-four _ _ _ _ _ _ _ (c .before .before .before .before .before .before .before .row-value .ensures) (c .before .before .before .before .before .before .if1 .left) _ (c .before .before .before .before .before .row-value2 .ensures) (c .before .before .before .before .if2 .left) _ (c .before .before .before .row-value3 .ensures) (c .before .before .if3 .left) (not-false _ (c .before .if4 .left)) _ (c .row-value4 .ensures)
+returns-4 : tie.Need-returns-4
+returns-4 c = row-four _ _ _ _ _ _ (c .before .before .before .before .before .before .row-value .ensures) (c .before .before .before .before .before .if1 .left) _ (c .before .before .before .before .row-value2 .ensures) (c .before .before .before .if2 .left) _ (c .before .before .row-value3 .ensures) (c .before .if3 .left) _ (c .row-value4 .ensures)
 
 pub row-is-spec : {M : Type 1} → statement M
 row-is-spec =
@@ -54,6 +41,5 @@ row-is-spec =
     returns-2
     row-value-requires-3
     returns-3
-    returns-4
     row-value-requires-4
-    returns-5)
+    returns-4)

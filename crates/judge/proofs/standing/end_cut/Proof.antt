@@ -15,7 +15,7 @@ sub-learn : tie.Need-sub-learn
 sub-learn c = search needs
 
 learn-requires : tie.Need-learn-requires
-learn-requires c κs = let pre = c .before .before .before .before .before .before .before .before .pre in (pre .0, (pre .1, known-none _ _ _ _ _ _ (c .nothing-known .ensures)))
+learn-requires c κs = let pre = c .before .before .before .before .before .before .before .before .pre in (pre, known-none _ _ _ _ _ _ (c .nothing-known .ensures))
 
 returns-2 : tie.Need-returns-2
 returns-2 c = c .learn .ensures .1 ∙ cut-told _ _ _ _ _ _ _ (c .before .before .if1 .left)

@@ -18,7 +18,7 @@ abbrev μ-loop : tie.MeasureT-loop
 μ-loop table edges delta hint goal order live scopes start row at left₀ i₀ fuel₀ s₀ q₀ on₀ left i fuel s q on = left
 
 loop-holds : tie.Need-loop-holds Inv-loop μ-loop
-loop-holds c = (refl, c .before .before .before .before .before .before .before .before .pre .1)
+loop-holds c = (refl, c .before .before .before .before .before .before .before .before .pre)
 
 returns : tie.Need-returns Inv-loop μ-loop
 returns c = let a = c .before .before .before .before .before .before .before .before .before .before .before .args in let l = c .before .before .loop in cuts-none (a .table .now) (a .edges .now) (a .delta .now) (a .goal .now) (a .order .now) (a .row .now) (l .on) (l .s) (l .q) (l .i) (l .left) (l .fuel) (c .if1 .taken) ∙ l .inv .0
@@ -33,7 +33,7 @@ enum-told : tie.Need-enum-told Inv-loop μ-loop
 enum-told c = search needs
 
 end-cut-requires : tie.Need-end-cut-requires Inv-loop μ-loop
-end-cut-requires c κs = (c .before .before .before .before .before .before .before .before .before .before .before .before .before .before .pre .0, c .before .before .before .before .before .loop .inv .1)
+end-cut-requires c κs = c .before .before .before .before .before .loop .inv .1
 
 returns-2 : tie.Need-returns-2 Inv-loop μ-loop
 returns-2 c = let a = c .before .before .before .before .before .before .before .before .before .before .before .before .before .before .before .args in let l = c .before .before .before .before .before .before .loop in cuts-end (a .table .now) (a .edges .now) (a .delta .now) (a .goal .now) (a .order .now) (a .row .now) (l .on) (l .s) (l .q) (l .i) (l .left) (l .fuel) (c .before .before .before .next-step .result) (c .before .before .before .next-step .ensures) (c .end-cut .result) (c .end-cut .ensures) (c .before .enum-told .given .1) ∙ l .inv .0
@@ -45,7 +45,7 @@ label-number-requires : tie.Need-label-number-requires Inv-loop μ-loop
 label-number-requires c κs = search needs
 
 label-cut-requires : tie.Need-label-cut-requires Inv-loop μ-loop
-label-cut-requires c κs = (c .before .before .before .before .before .before .before .before .before .before .before .before .before .before .before .before .pre .0, c .before .before .before .before .before .before .before .loop .inv .1)
+label-cut-requires c κs = c .before .before .before .before .before .before .before .loop .inv .1
 
 returns-3 : tie.Need-returns-3 Inv-loop μ-loop
 returns-3 c = let a = c .before .before .before .before .before .before .before .before .before .before .before .before .before .before .before .before .before .before .args in let l = c .before .before .before .before .before .before .before .before .before .loop in sym (sym (l .inv .0) ∙ cuts-here (a .table .now) (a .edges .now) (a .delta .now) (a .goal .now) (a .order .now) (a .row .now) (l .on) (l .s) (l .q) (l .i) (l .left) (l .fuel) (c .before .before .before .before .before .before .next-step .result) (c .before .before .before .before .before .before .next-step .ensures) (c .before .before .before .before .x .given .0 .0) (c .before .before .before .before .x .given .0 .1 .0) (c .before .before .before .before .x .given .0 .1 .1 .0) (c .before .before .before .before .x .given .1) (c .before .before .before .before .before .before .before .before .loop-test .taken) (c .before .before .before .before .before .before .before .if1 .left) (c .before .before .label-number .result) (c .before .before .label-number .ensures) (c .before .label-cut .result) (c .before .label-cut .ensures) (c .if2 .taken))
@@ -72,7 +72,7 @@ loop-again : tie.Need-loop-again Inv-loop μ-loop
 loop-again c = let a = c .before .before .before .before .before .before .before .before .before .before .before .before .before .before .before .before .before .before .before .before .before .args in let l = c .before .before .before .before .before .before .before .before .before .before .before .before .loop in (sym (cuts-on (a .table .now) (a .edges .now) (a .delta .now) (a .goal .now) (a .order .now) (a .row .now) (l .on) (l .s) (l .q) (l .i) (l .left) (l .fuel) (c .before .before .before .before .before .before .before .before .before .next-step .result) (c .before .before .before .before .before .before .before .before .before .next-step .ensures) (c .before .before .before .before .before .before .before .x .given .0 .0) (c .before .before .before .before .before .before .before .x .given .0 .1 .0) (c .before .before .before .before .before .before .before .x .given .0 .1 .1 .0) (c .before .before .before .before .before .before .before .x .given .1) (c .before .before .before .before .before .before .before .before .before .before .before .loop-test .taken) (c .before .before .before .before .before .before .before .before .before .before .if1 .left) (c .before .before .before .before .before .label-number .result) (c .before .before .before .before .before .label-number .ensures) (c .before .before .before .before .label-cut .result) (c .before .before .before .before .label-cut .ensures) (c .before .before .before .if2 .left) (c .before .before .state-on .result) (c .before .before .state-on .ensures) (c .before .if3 .left) (c .taken .result) (c .taken .ensures)) ∙ l .inv .0, rw (c .taken .ensures) (taken-closed (a .edges .now) (a .delta .now) (a .goal .now) (l .on) (a .live .now) _ (l .inv .1)))
 
 end-cut-requires-2 : tie.Need-end-cut-requires-2 Inv-loop μ-loop
-end-cut-requires-2 c κs = (c .before .before .before .before .before .before .before .before .before .before .pre .0, c .before .loop .inv .1)
+end-cut-requires-2 c κs = c .before .loop .inv .1
 
 returns-5 : tie.Need-returns-5 Inv-loop μ-loop
 returns-5 c = let a = c .before .before .before .before .before .before .before .before .before .before .before .args in let l = c .before .before .loop in cuts-full (a .table .now) (a .edges .now) (a .delta .now) (a .goal .now) (a .order .now) (a .row .now) (l .on) (l .s) (l .q) (l .i) (l .left) (l .fuel) (c .end-cut2 .result) (c .end-cut2 .ensures) (c .before .loop-test .left) ∙ l .inv .0

@@ -3,7 +3,6 @@ use Rattle.path_row.proofs.CompareSteps.{steps-first}
 use native.Mathlib.Omega.{arith}
 use borrow.Author.Tests.{not-true, not-false}
 use Rattle.judge.proofs.Tied.{starts-apart, not-reached, is-cut, not-cut}
-use Rattle.resolution.proofs.Unfollowed.{read-sorted}
 use borrow.Author.Needs.{needs}
 use Rattle.judge.proofs.standing.standing.Statement.{statement}
 use Rattle.judge.proofs.standing.standing.Tie as tie
@@ -93,7 +92,7 @@ slice-aggregate-is-cut-5 : tie.Need-slice-aggregate-is-cut-5
 slice-aggregate-is-cut-5 c = search needs
 
 is-cut-requires : tie.Need-is-cut-requires
-is-cut-requires c κs = (rw (c .before .before .before .before .before .before .before .before .before .before .before .before .before .before .before .before .before .before .before .before .before .before .before .before .before .before .before .section .ensures) (read-sorted (c .before .before .before .before .before .before .before .before .before .before .before .before .before .before .before .before .before .before .before .before .before .before .before .before .before .before .before .before .before .before .before .args .table .now) (c .before .before .before .before .before .before .before .before .before .before .before .before .before .before .before .before .before .before .before .before .before .before .before .before .before .before .before .before .before .before .before .pre .read)), c .before .before .before .before .before .goal-table .ensures)
+is-cut-requires c κs = c .before .before .before .before .before .goal-table .ensures
 
 returns-3 : tie.Need-returns-3
 returns-3 c = let a = c .before .before .before .before .before .before .before .before .before .before .before .before .before .before .before .before .before .before .before .before .before .before .before .before .before .before .before .before .before .before .before .before .before .args in is-cut (a .table .now) (a .start) (a .high) (a .low) (a .mark) (a .from) (a .row .now) (c .before .before .before .before .before .before .before .before .before .before .before .before .before .before .before .before .before .before .before .before .before .before .before .before .before .before .before .before .before .before .before .before .before .pre) (c .before .before .before .before .before .before .before .before .before .before .before .before .before .before .before .before .before .before .before .before .before .before .before .before .before .before .before .before .before .before .if1 .left) _ _ _ _ _ _ (c .before .before .before .before .before .before .before .before .before .before .before .before .before .before .before .before .before .before .before .before .before .before .first-step .result) (c .before .before .before .before .before .before .before .before .before .before .before .before .before .before .before .before .before .before .before .before .before .before .before .before .before .before .before .before .before .section .ensures) (c .before .before .before .before .before .before .before .before .before .before .before .before .before .before .before .before .before .before .before .before .before .before .before .before .before .before .before .before .section2 .ensures) (c .before .before .before .before .before .before .before .before .before .before .before .before .before .before .before .before .before .before .before .before .before .before .before .before .before .before .before .transitions .ensures) (c .before .before .before .before .before .before .before .before .before .before .before .before .before .before .before .before .before .before .before .before .before .before .before .before .before .before .accepting .ensures) (c .before .before .before .before .before .before .before .before .before .before .before .before .before .before .before .before .before .before .before .before .before .before .before .before .goal .ensures) (c .before .before .before .before .before .before .before .before .before .before .before .before .before .before .before .before .before .before .before .before .before .before .before .free-from .ensures) (steps-first _ _ (c .before .before .before .before .before .before .before .before .before .before .before .before .before .before .before .before .before .before .before .before .before .before .first-step .ensures)) _ (c .before .before .before .before .before .before .before .before .before .before .before .before .before .before .before .before .before .before .before .is-reached .ensures) (not-false _ (c .before .before .before .before .before .before .before .before .before .before .before .before .before .before .before .before .before .before .if2 .left)) _ _ _ (c .before .before .before .before .before .before .before .before .before .before .before .before .before .before .before .before .before .section3 .ensures) (c .before .before .before .before .before .before .before .before .before .before .before .before .before .before .before .before .row-value .ensures) (c .before .before .before .before .before .before .before .before .before .before .before .before .before .before .before .order .ensures) _ (c .before .is-cut .ensures) (c .if3 .taken)

@@ -1,7 +1,6 @@
 -- `awaits_of` meets its contract. Assumes nothing.
 use mathlib.Core.Path.{refl}
 use Rattle.resolution.proofs.Answers.{awaits-asked}
-use Rattle.resolution.proofs.Unfollowed.{read-sorted}
 use borrow.Author.Needs.{needs}
 use Rattle.resolution.proofs.walks.awaits_of.Statement.{statement}
 use Rattle.resolution.proofs.walks.awaits_of.Tie as tie
@@ -31,7 +30,7 @@ slice-aggregate-first-open-6 : tie.Need-slice-aggregate-first-open-6
 slice-aggregate-first-open-6 c = search needs
 
 first-open-requires : tie.Need-first-open-requires
-first-open-requires c κs = let a = c .before .before .before .before .before .before .before .before .before .before .before .before .before .before .before .args in let p = c .before .before .before .before .before .before .before .before .before .before .before .before .before .before .before .pre in (read-sorted (a .table .now) (p .asked .read), p .ready .live)
+first-open-requires c κs = let p = c .before .before .before .before .before .before .before .before .before .before .before .before .before .before .before .pre in p .ready .live
 
 returns : tie.Need-returns
 returns c = let a = c .before .before .before .before .before .before .before .before .before .before .before .before .before .before .before .before .args in let p = c .before .before .before .before .before .before .before .before .before .before .before .before .before .before .before .before .pre in awaits-asked (a .table .now) (a .start) (a .high) (a .low) (p .asked) _ _ _ _ _ _ _ _ (p .ready .letters) (p .ready .delta) (c .before .before .before .before .before .before .before .before .before .before .before .before .before .accepting .ensures) refl (p .ready .goal) (p .ready .order) (c .before .before .before .before .before .before .before .before .before .before .before .before .section .ensures) (c .first-open .ensures)

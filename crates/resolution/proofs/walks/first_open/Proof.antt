@@ -26,7 +26,7 @@ slice-aggregate-first-followed-2 : tie.Need-slice-aggregate-first-followed-2
 slice-aggregate-first-followed-2 c = search needs
 
 first-followed-requires : tie.Need-first-followed-requires
-first-followed-requires c κs = let a = c .before .before .before .before .before .before .before .before .before .before .before .before .before .before .before .args in let pre = c .before .before .before .before .before .before .before .before .before .before .before .before .before .before .before .pre in (pre .0, (pre .1, away-at (a .table .now) _ _ _ _ _ (c .before .before .before .section .ensures) (c .before .before .away-table .ensures)))
+first-followed-requires c κs = let a = c .before .before .before .before .before .before .before .before .before .before .before .before .before .before .before .args in let pre = c .before .before .before .before .before .before .before .before .before .before .before .before .before .before .before .pre in (pre, away-at (a .table .now) _ _ _ _ _ (c .before .before .before .section .ensures) (c .before .before .away-table .ensures))
 
 returns-2 : tie.Need-returns-2
 returns-2 c = rw (c .before .before .before .before .before .hopeful .ensures) at (c .first-followed .ensures)

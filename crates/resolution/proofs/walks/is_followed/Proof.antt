@@ -10,7 +10,7 @@ is-away-requires : tie.Need-is-away-requires
 is-away-requires c κs = search needs
 
 returns : tie.Need-returns
-returns c = let a = c .before .before .before .before .before .before .before .before .before .before .before .before .args in sym (unfollowed (a .table .now) (a .letters .now) (a .delta .now) (a .accepts .now) (a .hopes .now) (a .goal .now) (a .order .now) (a .start) (a .high) (a .low) (a .at) (a .end) (a .away .now) (c .before .before .before .before .before .before .before .before .before .before .before .before .pre .1 .1) (c .before .is-away .ensures (c .if1 .taken)))
+returns c = let a = c .before .before .before .before .before .before .before .before .before .before .before .before .args in sym (unfollowed (a .table .now) (a .letters .now) (a .delta .now) (a .accepts .now) (a .hopes .now) (a .goal .now) (a .order .now) (a .start) (a .high) (a .low) (a .at) (a .end) (a .away .now) (c .before .before .before .before .before .before .before .before .before .before .before .before .pre .1) (c .before .is-away .ensures (c .if1 .taken)))
 
 open-goal-requires : tie.Need-open-goal-requires
 open-goal-requires c κs = search needs
@@ -37,7 +37,7 @@ slice-aggregate-walk-with-3 : tie.Need-slice-aggregate-walk-with-3
 slice-aggregate-walk-with-3 c = search needs
 
 walk-with-requires : tie.Need-walk-with-requires
-walk-with-requires c κs = let a = c .before .before .before .before .before .before .before .before .before .before .before .before .before .before .before .before .before .before .before .before .args in let pre = c .before .before .before .before .before .before .before .before .before .before .before .before .before .before .before .before .before .before .before .before .pre in (pre .0, (pre .1 .0, worth-at (a .table .now) _ _ _ _ _ _ (a .start) (c .before .before .before .before .before .before .section .ensures) (c .before .before .before .before .before .start-free .ensures) _ (c .before .before .before .live-table .ensures)))
+walk-with-requires c κs = let a = c .before .before .before .before .before .before .before .before .before .before .before .before .before .before .before .before .before .before .before .before .args in let pre = c .before .before .before .before .before .before .before .before .before .before .before .before .before .before .before .before .before .before .before .before .pre in (pre .0, worth-at (a .table .now) _ _ _ _ _ _ (a .start) (c .before .before .before .before .before .before .section .ensures) (c .before .before .before .before .before .start-free .ensures) _ (c .before .before .before .live-table .ensures))
 
 is-over-requires : tie.Need-is-over-requires
 is-over-requires c κs = search needs

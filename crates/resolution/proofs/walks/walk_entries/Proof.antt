@@ -1,5 +1,5 @@
 -- `walk_entries` meets its contract. Assumes nothing.
-use Rattle.resolution.proofs.Unfollowed.{read-sorted, live-worth, walk-ready}
+use Rattle.resolution.proofs.Unfollowed.{live-worth, walk-ready}
 use borrow.Author.Needs.{needs}
 use Rattle.resolution.proofs.walks.walk_entries.Statement.{statement}
 use Rattle.resolution.proofs.walks.walk_entries.Tie as tie
@@ -26,7 +26,7 @@ slice-aggregate-walk-with-7 : tie.Need-slice-aggregate-walk-with-7
 slice-aggregate-walk-with-7 c = search needs
 
 walk-with-requires : tie.Need-walk-with-requires
-walk-with-requires c κs = let a = c .before .before .before .before .before .before .before .before .before .before .before .before .before .before .before .before .args in let p = c .before .before .before .before .before .before .before .before .before .before .before .before .before .before .before .before .pre in (read-sorted (a .table .now) (p .asked .read), (p .ready .live, live-worth (a .table .now) (a .t .delta) (a .t .goal) (a .t .order) (a .start) (a .t .live) (p .ready .live)))
+walk-with-requires c κs = let a = c .before .before .before .before .before .before .before .before .before .before .before .before .before .before .before .before .args in let p = c .before .before .before .before .before .before .before .before .before .before .before .before .before .before .before .before .pre in (p .ready .live, live-worth (a .table .now) (a .t .delta) (a .t .goal) (a .t .order) (a .start) (a .t .live) (p .ready .live))
 
 same-length : tie.Need-same-length
 same-length c = search needs

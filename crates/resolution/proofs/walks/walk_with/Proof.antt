@@ -26,7 +26,7 @@ section-requires-3 c κs = search needs
 
 -- src/walks.rt:40:5
 walk-requires : tie.Need-walk-requires
-walk-requires c κs = let pre = c .before .before .before .before .before .before .before .before .before .before .before .before .before .before .before .pre in let e = c .before .before .section2 .ensures in (rw e (pre .0), (rw e (pre .1 .0), rw e (pre .1 .1)))
+walk-requires c κs = let pre = c .before .before .before .before .before .before .before .before .before .before .before .before .before .before .before .pre in let e = c .before .before .section2 .ensures in (rw e (pre .0), rw e (pre .1))
 
 -- src/walks.rt:20:1
 same-length : tie.Need-same-length
