@@ -68,11 +68,11 @@ extern "C" {
 /* What the program lends for a listing. No size serves every listing. */
 #define TEWHORANU_LISTING 65536
 
-/* Stack that serves every call, in bytes. The walk is at most 64 + 512 calls deep, of about 2,000 bytes each, and a search
- * that it asks for at some row goes once more through the rows of that row's scope, 512 at most, of about 1,200 bytes each,
- * above some 250,000 bytes of tables: counted from the library as it is built, not proved. The host test runs the file that
- * goes deepest on a thread with this much. */
-#define TEWHORANU_STACK (3 * 1024 * 1024)
+/* Stack that serves every call, in bytes. A walk has at most a frame for each edge and each scope, of about 1,400 and 900
+ * bytes, and a search that it asks for as many again, of about 750 bytes, above some 220,000 bytes of tables: counted from the
+ * library as it is built, not proved. The host test runs the files that go deepest on a thread with this much; 640 KiB
+ * served them too. */
+#define TEWHORANU_STACK (3 * 512 * 1024)
 
 /* A step of a path: the label's letter (A to Z) and the scope that it comes to (0 to 63). */
 typedef struct {

@@ -1,39 +1,100 @@
--- Laws of the path stack, of a row's text and of the marks in declaration cells. Assumes nothing.
+-- Laws of the path that the walk holds, and of a row's text and size. Assumes nothing.
 use mathlib.Core.Path.{_≡_, refl, sym, ap, _∙_}
-use mathlib.Core.Bool.{true, false, and-false}
-use mathlib.Core.List.{List, [], _∷_, _++_, flatMap, append-assoc, append-nil}
-use Prim.Native.Nat.{ℕ, zero, suc, _+_, _%_, _≤_, _<_}
+use mathlib.Core.List.{List, [], _∷_, _++_, map, append-assoc, append-nil}
+use Prim.Native.Nat.{ℕ, suc, _+_, _*_, _/_, _%_, _≤_, _<_}
 use native.Mathlib.Omega.{arith}
 use native.Mathlib.Numerals.{add-one}
-use lib.Dec.{eqb}
-use lib.ListN.{length, getD, set, drop, length-drop}
-use lib.Seq.{getD-set-same, getD-set-other}
-use borrow.Author.Tests.{eq-eqb, ne-eqb}
+use lib.ListN.{length, getD, set, take, drop, length-append, length-take, List·getD-map}
+use lib.Seq.{getD-take, getD-drop, take-suc, take-suc-set, take-all}
 use Rattle.scope_graph.specs.Path.{HopOf}
-use Rattle.edge_rows.specs.Rows.{hopTo}
-use Rattle.edge_rows.proofs.Laws.{six}
 use Rattle.text_field.specs.Number.{numberText}
+use Rattle.text_field.specs.Buffer.{Buf, puts}
+use Rattle.text_field.proofs.BufferLaws.{puts-then}
+use Rattle.text_field.proofs.NumberLaws.{length-below}
+use Rattle.block.specs.Layout.{LETTER}
+use Rattle.block.specs.Block.{hopOf, letterCell}
 use Rattle.follow.specs.Text.{letterOf, hopsText, rowText}
-use Rattle.follow.specs.Walk.{declaredHere, matches, marksIn, entryBytes, entriesBytes}
-use Rattle.follow.specs.Steps.{stackHops}
+use Rattle.follow.specs.declared.Path.{Path}
+use Rattle.follow.specs.Walk.{pathHops, letterBytes}
+use Rattle.follow.specs.Steps.{hopsSize, pathSize}
 
--- what is put at the depth or above it changes nothing below
-stack-below : (labels tos : List ℕ) (at l t depth : ℕ) → depth ≤ at → stackHops (set labels at l) (set tos at t) depth ≡ stackHops labels tos depth
-unfolding stackHops
-stack-below labels tos at l t zero h = refl
-stack-below labels tos at l t (suc depth) h =
-    let other : depth ≡ at → ⊥ = λ e. omega arith in
-    rw (stack-below labels tos at l t depth (omega arith), getD-set-other labels at depth l 0 other, getD-set-other tos at depth t 0 other)
+-- a text that was written, by another name
+pub puts-as : (b c : Buf) (xs ys : List ℕ) → c ≡ puts b xs → ys ≡ xs → c ≡ puts b ys
+puts-as b c xs ys e f = e ∙ ap (puts b) (sym f)
 
--- one hop more
-pub stack-more : (labels tos labels′ tos′ : List ℕ) (depth l t : ℕ) → depth < length labels → depth < length tos → l < 256 → t < 256
-    → labels′ ≡ set labels depth (l % 256) → tos′ ≡ set tos depth (t % 256)
-    → stackHops labels′ tos′ (depth + 1) ≡ stackHops labels tos depth ++ (hopTo l t ∷ [])
-unfolding stackHops
-stack-more labels tos labels′ tos′ depth l t h k f g d e =
-    let x : l % 256 ≡ l = omega arith in
-    let y : t % 256 ≡ t = omega arith in
-    rw (d, e, x, y, add-one depth, stack-below labels tos depth l t depth (omega arith), getD-set-same labels depth l 0 h, getD-set-same tos depth t 0 k)
+-- what is written by one call and then by another
+pub puts-both : (b c d : Buf) (xs ys zs : List ℕ) → c ≡ puts b xs → d ≡ puts c ys → zs ≡ xs ++ ys → d ≡ puts b zs
+puts-both b c d xs ys zs e f g = puts-as b d (xs ++ ys) zs (puts-then b c d xs ys e f) g
+
+map-append : {A B : Type 0} (f : A → B) (xs ys : List A) → map f (xs ++ ys) ≡ map f xs ++ map f ys
+map-append f [] ys = refl
+map-append {A} {B} f (x ∷ xs) ys = ap (λ (z : List B). f x ∷ z) (map-append f xs ys)
+
+-- how many cells a path has, from what is known of an array in a struct
+pub cells-size : (l : List ℕ) (n : ℕ) → length (map {A = ℕ} {B = ℕ} (λ v. v) l) ≡ n → length l ≡ n
+cells-size l n h = sym (same l) ∙ h
+  where
+    same : (k : List ℕ) → length (map {A = ℕ} {B = ℕ} (λ v. v) k) ≡ length k
+    same [] = refl
+    same (x ∷ k) = ap suc (same k)
+
+-- the first hops of a path's cells
+unfoldable pub firstHops : List ℕ → ℕ → List (HopOf ℕ)
+firstHops hops i = map hopOf (take i hops)
+
+pub path-is : (p : Path) → pathHops p ≡ firstHops (p .hops) (p .depth)
+unfolding pathHops firstHops
+path-is p = refl
+
+module _ (hops : List ℕ) where
+  pub first-none : firstHops hops 0 ≡ []
+  unfolding firstHops
+  first-none = refl
+
+  -- the hops up to i + 1
+  pub first-step : (i x : ℕ) → i < length hops → x ≡ getD hops i 0 → firstHops hops (i + 1) ≡ firstHops hops i ++ (hopOf x ∷ [])
+  unfolding firstHops
+  first-step i x h e = rw (add-one i, take-suc hops i 0 h, e) (map-append hopOf (take i hops) (getD hops i 0 ∷ []))
+
+  -- behind the last place there are no more
+  pub first-end : (i depth : ℕ) → length hops ≤ i → i ≤ depth → firstHops hops i ≡ firstHops hops depth
+  unfolding firstHops
+  first-end i depth h g = rw (take-all i hops h, take-all depth hops (omega arith))
+
+  first-more : (depth x : ℕ) → depth < length hops → firstHops (set hops depth x) (suc depth) ≡ firstHops hops depth ++ (hopOf x ∷ [])
+  unfolding firstHops
+  first-more depth x h = rw (take-suc-set hops depth x h) (map-append hopOf (take depth hops) (x ∷ []))
+
+hop-narrow : (x : ℕ) → hopOf (x % 512) ≡ hopOf x
+unfolding hopOf
+hop-narrow x =
+    let to : x % 512 % 64 ≡ x % 64 = omega arith in
+    let whole : x / 64 ≡ 8 * (x / 512) + x % 512 / 64 = omega arith in
+    let step : x % 512 / 64 % 8 ≡ x / 64 % 8 = eight (x / 64) (x / 512) (x % 512 / 64) whole (omega arith) in
+    rw (to, step)
+  where
+    eight : (a q m : ℕ) → a ≡ 8 * q + m → m < 8 → m % 8 ≡ a % 8
+    eight a q m e h = omega arith
+
+-- one hop more is put on the path
+pub path-more : (p : Path) (x y depth : ℕ) → p .depth < length (p .hops) → y ≡ x % 512 → depth ≡ suc (p .depth)
+    → pathHops (record { hops = set (p .hops) (p .depth) y; depth = depth }) ≡ pathHops p ++ (hopOf x ∷ [])
+unfolding pathHops firstHops
+path-more p x y depth h e d =
+    rw (d, e) (first-more (p .hops) (p .depth) (x % 512) h ∙ ap (λ (k : HopOf ℕ). pathHops p ++ (k ∷ [])) (hop-narrow x))
+
+size-append : (hs ks : List (HopOf ℕ)) → hopsSize (hs ++ ks) ≡ hopsSize hs + hopsSize ks
+unfolding hopsSize
+size-append [] ks = omega arith
+size-append (h ∷ hs) ks = omega (arith, size-append hs ks)
+
+-- a label's letter, as it is read of the block
+pub letter-is : (block : List ℕ) (l x : ℕ) → l < 8 → x ≡ letterCell block l % 256 → x ≡ letterOf (letterBytes block) l
+unfolding letterOf letterBytes letterCell
+letter-is block l x h e =
+    e
+    ∙ sym (List·getD-map (λ x. x % 256) (take 8 (drop LETTER block)) l 0
+    ∙ ap (λ (z : ℕ). z % 256) (getD-take 8 (drop LETTER block) l 0 h ∙ getD-drop LETTER block l 0))
 
 module _ (letters : List ℕ) where
   hops-append : (hs ks : List (HopOf ℕ)) → hopsText letters (hs ++ ks) ≡ hopsText letters hs ++ hopsText letters ks
@@ -43,20 +104,21 @@ module _ (letters : List ℕ) where
       ap (λ (z : List ℕ). letterOf letters (h .step) ∷ z)
       (ap (λ (z : List ℕ). numberText (h .to) ++ z) (hops-append hs ks) ∙ sym (append-assoc (numberText (h .to)) (hopsText letters hs) (hopsText letters ks)))
 
-  pub hops-one : (l t x : ℕ) → x ≡ getD letters l 0 → hopsText letters (hopTo l t ∷ []) ≡ (x ∷ []) ++ numberText t
-  unfolding hopsText letterOf
-  hops-one l t x e = rw (e, append-nil)
+  pub hops-one : (x l : ℕ) → l ≡ letterOf letters (x / 64 % 8) → hopsText letters (hopOf x ∷ []) ≡ (l ∷ []) ++ numberText (x % 64)
+  unfolding hopsText hopOf
+  hops-one x l e = rw (e, append-nil)
 
-  module _ (labels tos : List ℕ) where
-    pub stack-none : hopsText letters (stackHops labels tos 0) ≡ []
-    unfolding hopsText stackHops
-    stack-none = refl
+  pub hops-none : (hops : List ℕ) → hopsText letters (firstHops hops 0) ≡ []
+  unfolding hopsText
+  hops-none hops = ap (hopsText letters) (first-none hops)
 
-    -- the hops up to i + 1
-    pub stack-step : (i l t : ℕ) → l ≡ getD labels i 0 → t ≡ getD tos i 0
-        → hopsText letters (stackHops labels tos (i + 1)) ≡ hopsText letters (stackHops labels tos i) ++ hopsText letters (hopTo l t ∷ [])
-    unfolding stackHops
-    stack-step i l t d e = rw (add-one i, d, e) (hops-append (stackHops labels tos i) (hopTo (getD labels i 0) (getD tos i 0) ∷ []))
+  pub hops-step : (hops : List ℕ) (i x : ℕ) → i < length hops → x ≡ getD hops i 0
+      → hopsText letters (firstHops hops (i + 1)) ≡ hopsText letters (firstHops hops i) ++ hopsText letters (hopOf x ∷ [])
+  hops-step hops i x h e = ap (hopsText letters) (first-step hops i x h e) ∙ hops-append (firstHops hops i) (hopOf x ∷ [])
+
+  pub hops-end : (p : Path) (i : ℕ) → length (p .hops) ≤ i → i ≤ p .depth
+      → hopsText letters (pathHops p) ≡ hopsText letters (firstHops (p .hops) i)
+  hops-end p i h g = ap (hopsText letters) (path-is p ∙ sym (first-end (p .hops) i (p .depth) h g))
 
   -- a row, in its five parts
   pub row-parts : (mark start : ℕ) (hops : List (HopOf ℕ))
@@ -64,73 +126,51 @@ module _ (letters : List ℕ) where
   unfolding rowText
   row-parts mark start hops = sym (simp append-assoc)
 
-module _ (s high low at h l : ℕ) where
-  pub matches-low : at ≡ s → h ≡ high → matches s high low at h l ≡ eqb l low
-  unfolding matches
-  matches-low d e = rw (eq-eqb at s d, eq-eqb h high e, matches)
+  hops-size : (hs : List (HopOf ℕ)) → length (hopsText letters hs) ≡ hopsSize hs
+  unfolding hopsText hopsSize
+  hops-size [] = refl
+  hops-size (h ∷ hs) = omega (arith, length-append (numberText (h .to)) (hopsText letters hs), hops-size hs)
 
-  pub matches-scope : (at ≡ s → ⊥) → matches s high low at h l ≡ false
-  unfolding matches
-  matches-scope d = rw (ne-eqb at s d, matches)
+  row-size : (mark start : ℕ) (hops : List (HopOf ℕ)) → length (numberText mark) + pathSize start hops ≡ length (rowText letters mark start hops)
+  unfolding pathSize
+  row-size mark start hops =
+      sym (ap length (row-parts mark start hops)
+      ∙ simp length-append (omega (arith, hops-size hops)))
 
-  pub matches-high : (h ≡ high → ⊥) → matches s high low at h l ≡ false
-  unfolding matches
-  matches-high d = rw (ne-eqb h high d, matches) (and-false (eqb at s))
+  -- the mark's digits, and the rest
+  pub row-sum : (mark start : ℕ) (hops : List (HopOf ℕ)) (a k : ℕ) → a ≡ length (numberText mark) → k ≡ pathSize start hops → a + k ≡ length (rowText letters mark start hops)
+  row-sum mark start hops a k d e = rw (d, e) (row-size mark start hops)
 
-module _ (cells : List ℕ) (s high low p : ℕ) where
-  -- no row is left
-  pub marks-none : length cells < p + 6 → marksIn (drop p cells) s high low ≡ []
-  unfolding marksIn
-  marks-none h = short (drop p cells) (simp length-drop (omega arith))
+-- a number that a cell holds has twenty digits at most
+pub number-most : (v : ℕ) → v < 18446744073709551616 → length (numberText v) ≤ 20
+number-most v h = length-below 19 v (omega arith)
+
+-- the size, hop by hop
+module _ (hops : List ℕ) where
+  pub size-none : hopsSize (firstHops hops 0) ≡ 0
+  unfolding hopsSize
+  size-none = ap hopsSize (first-none hops)
+
+  pub size-step : (i x k : ℕ) → i < length hops → x ≡ getD hops i 0 → k ≡ 1 + length (numberText (x % 64)) → hopsSize (firstHops hops (i + 1)) ≡ hopsSize (firstHops hops i) + k
+  unfolding hopsSize hopOf
+  size-step i x k h e f = ap hopsSize (first-step hops i x h e) ∙ size-append (firstHops hops i) (hopOf x ∷ []) ∙ omega arith
+
+  -- a scope has two digits at most
+  pub size-most : (depth : ℕ) → hopsSize (firstHops hops depth) ≤ 3 * length hops
+  unfolding firstHops hopsSize hopOf
+  size-most depth = omega (arith, each (take depth hops), length-take depth hops)
     where
-      short : (x : List ℕ) → length x < 6 → marksIn x s high low ≡ []
-      short [] k = refl
-      short (a ∷ []) k = refl
-      short (a ∷ b ∷ []) k = refl
-      short (a ∷ b ∷ c ∷ []) k = refl
-      short (a ∷ b ∷ c ∷ d ∷ []) k = refl
-      short (a ∷ b ∷ c ∷ d ∷ e ∷ []) k = refl
-      short (a ∷ b ∷ c ∷ d ∷ e ∷ f ∷ x) k = absurd (omega arith)
+      each : (xs : List ℕ) → hopsSize (map hopOf xs) ≤ 3 * length xs
+      each [] = omega arith
+      each (x ∷ xs) = omega (arith, each xs, length-below 1 (x % 64) (omega arith))
 
-  -- the row at p, and those after it
-  module _ (h : p + 6 ≤ length cells) where
-    marks-row : marksIn (drop p cells) s high low
-        ≡ declaredHere (matches s high low (getD cells (p + 1) 0) (getD cells (p + 2) 0) (getD cells (p + 3) 0)) (getD cells (p + 4) 0) (marksIn (drop (p + 6) cells) s high low)
-    unfolding marksIn
-    marks-row = ap (λ (x : List ℕ). marksIn x s high low) (six cells s p h)
+module _ (p : Path) where
+  pub size-end : (i : ℕ) → length (p .hops) ≤ i → i ≤ p .depth → hopsSize (firstHops (p .hops) i) ≡ hopsSize (pathHops p)
+  size-end i h g = ap hopsSize (first-end (p .hops) i (p .depth) h g ∙ sym (path-is p))
 
-    pub marks-here : matches s high low (getD cells (p + 1) 0) (getD cells (p + 2) 0) (getD cells (p + 3) 0) ≡ true
-        → marksIn (drop p cells) s high low ≡ getD cells (p + 4) 0 ∷ marksIn (drop (p + 6) cells) s high low
-    unfolding declaredHere
-    marks-here e = marks-row ∙ rw (e, declaredHere)
+  pub path-most : hopsSize (pathHops p) ≤ 3 * length (p .hops)
+  path-most = rw (path-is p) (size-most (p .hops) (p .depth))
 
-    pub marks-pass : matches s high low (getD cells (p + 1) 0) (getD cells (p + 2) 0) (getD cells (p + 3) 0) ≡ false
-        → marksIn (drop p cells) s high low ≡ marksIn (drop (p + 6) cells) s high low
-    unfolding declaredHere
-    marks-pass e = marks-row ∙ rw (e, declaredHere)
-
-module _ (mode : ℕ) (letters : List ℕ) (start : ℕ) (hops : List (HopOf ℕ)) where
-  pub entry-count : (mark : ℕ) → mode ≡ 2 → entryBytes mode letters start hops mark ≡ 0 ∷ []
-  unfolding entryBytes
-  entry-count mark e = rw (eq-eqb mode 2 e, entryBytes)
-
-  pub entry-row : (mark : ℕ) → (mode ≡ 2 → ⊥) → entryBytes mode letters start hops mark ≡ rowText letters mark start hops
-  unfolding entryBytes
-  entry-row mark e = rw (ne-eqb mode 2 e, entryBytes)
-
-  -- the entries of the rows from p on
-  module _ (cells : List ℕ) (s high low p : ℕ) where
-    pub entries-none : length cells < p + 6 → entriesBytes mode letters start hops (marksIn (drop p cells) s high low) ≡ []
-    unfolding entriesBytes flatMap
-    entries-none h = rw (marks-none cells s high low p h)
-
-    pub entries-here : p + 6 ≤ length cells → matches s high low (getD cells (p + 1) 0) (getD cells (p + 2) 0) (getD cells (p + 3) 0) ≡ true
-        → entriesBytes mode letters start hops (marksIn (drop p cells) s high low)
-        ≡ entryBytes mode letters start hops (getD cells (p + 4) 0) ++ entriesBytes mode letters start hops (marksIn (drop (p + 6) cells) s high low)
-    unfolding entriesBytes flatMap
-    entries-here h e = ap (flatMap (entryBytes mode letters start hops)) (marks-here cells s high low p h e)
-
-    pub entries-pass : p + 6 ≤ length cells → matches s high low (getD cells (p + 1) 0) (getD cells (p + 2) 0) (getD cells (p + 3) 0) ≡ false
-        → entriesBytes mode letters start hops (marksIn (drop p cells) s high low)
-        ≡ entriesBytes mode letters start hops (marksIn (drop (p + 6) cells) s high low)
-    entries-pass h e = ap (entriesBytes mode letters start hops) (marks-pass cells s high low p h e)
+  pub row-most : (start : ℕ) → start < 18446744073709551616 → pathSize start (pathHops p) ≤ 22 + 3 * length (p .hops)
+  unfolding pathSize
+  row-most start h = omega (arith, path-most, number-most start h)

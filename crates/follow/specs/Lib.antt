@@ -1,6 +1,7 @@
--- What the walk over followed places writes or counts, in reading order: the text of rows, how bytes are poured, what each place gives, and what the
--- code's steps answer. Assumes nothing.
+-- The walk over followed places, in reading order: the text of rows, how rows are taken, what
+-- each place gives, and what the steps of the code answer.
+-- Assumes nothing.
 pub mod Text
-pub mod Pour
+pub mod Tally
 pub mod Walk
 pub mod Steps

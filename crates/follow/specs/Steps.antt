@@ -1,39 +1,78 @@
--- What the steps of the walk's code answer: the path stack, a scope's own share, a hop's share, which hops are entered. Assumes nothing: these are definitions.
-use Prim.Native.Nat.{ℕ, zero, suc, _+_}
-use mathlib.Core.Bool.{Bool, true, false, _&&_}
+-- What the steps of the walk's code answer: a row's size, a node's own rows, a hop's rows, and
+-- which hops are passed over. Assumes nothing: these are definitions.
+use Prim.Native.Nat.{ℕ, suc, _+_, _≤_, _<_}
+use mathlib.Core.Path.{_≡_}
+use mathlib.Core.Logic.{_⊎_}
+use mathlib.Core.Bool.{Bool, true, false}
 use mathlib.Core.List.{List, [], _∷_, _++_, flatMap}
-use lib.ListN.{getD}
+use lib.ListN.{length}
+use Rattle.scope_graph.specs.Language.{_∈_, by}
 use Rattle.scope_graph.specs.Order.{endOf}
 use Rattle.scope_graph.specs.Path.{HopOf}
-use Rattle.search.specs.Board.{without, hopHits, hitsFrom}
-use Rattle.search.specs.Tables.{nextCell, placeFlag, freeFlag, tableOrder, tableBoard}
-use Rattle.follow.specs.Walk.{placeBytes}
+use Rattle.text_field.specs.Number.{numberText}
+use Rattle.block.specs.Sets.{hasScope, placesOf}
+use Rattle.block.specs.Block.{firstEdge, edgeCell, hopOf, hopsOn}
+use Rattle.block.specs.Ask.{askGoal}
+use Rattle.search.specs.Board.{without, cutHere, hopHits}
+use Rattle.search.specs.Tables.{tableOrder, tableBoard}
+use Rattle.search.specs.Steps.{worthState}
+use Rattle.search.specs.declared.Node.{Node}
+use Rattle.follow.specs.declared.Aim.{Aim}
+use Rattle.follow.specs.declared.Task.the-variants.{Place}
+use Rattle.follow.specs.Walk.{placeRows, placesFrom}
 
--- the hops of a path stack: labels and scopes, `depth` of each
-unfoldable pub stackHops : List ℕ → List ℕ → ℕ → List (HopOf ℕ)
-stackHops labels tos zero = []
-stackHops labels tos (suc depth) =
-    stackHops labels tos depth ++ (record { step = getD labels depth 0; to = getD tos depth 0 } ∷ [])
+-- how long the hops of a row are, whatever the letters, and a row without its mark
+unfoldable pub hopsSize : List (HopOf ℕ) → ℕ
+hopsSize [] = 0
+hopsSize (h ∷ hs) = 1 + length (numberText (h .to)) + hopsSize hs
 
--- the state after a hop to a free scope, at a place that the table holds; else 16
-unfoldable pub onwardState : List ℕ → List ℕ → List ℕ → ℕ → HopOf ℕ → ℕ
-onwardState delta worth free q h =
-    elim (freeFlag free (h .to) && placeFlag worth (h .to) (nextCell delta q (h .step))) [
-      | true ↦ nextCell delta q (h .step)
-      | false ↦ 16
-    ]
+unfoldable pub pathSize : ℕ → List (HopOf ℕ) → ℕ
+pathSize start hops = length (numberText start) + hopsSize hops + 2
 
-module _ (mode : ℕ) (letters decls : List ℕ) (high low start : ℕ) where
-  -- a scope's own share, unless it is passed over
-  unfoldable pub ownBytes : Bool → List (HopOf ℕ) → ℕ → ℕ → List ℕ
-  ownBytes passed hops s q =
-      elim passed [ true ↦ [] | false ↦ placeBytes mode letters decls high low start hops (record { hops = []; at = s; state = q }) ]
+-- where places are sought there is no room for rows: each is only counted
+abbrev pub NoRoom : Aim → Type 0
+NoRoom aim = aim .task ≡ Place → aim .bounds .limit ≡ 0
 
-  -- what lies behind one hop
-  module _ (edges delta goal order seek : List ℕ) (e : ℕ) where
-    unfoldable pub hopBytes : List (HopOf ℕ) → ℕ → (ℕ → Bool) → ℕ → ℕ → HopOf ℕ → List ℕ
-    hopBytes hops fuel free s q h =
-        flatMap (placeBytes mode letters decls high low start hops)
-        (hopHits (tableBoard edges delta goal) (tableOrder order) (placeFlag seek) (endOf e)
-        (λ t r. hitsFrom (tableBoard edges delta goal) (tableOrder order) (placeFlag seek) (endOf e) fuel (without free t) t r)
-        fuel free s q h)
+-- with the board's block, the graph table and the ask
+module _ (block table ask : List ℕ) (aim : Aim) (hops : List (HopOf ℕ)) (n : Node) where
+  -- a node's own rows, unless it is passed over
+  unfoldable pub ownRows : Bool → List (List ℕ)
+  ownRows passed =
+      elim passed [
+        | true ↦ []
+        | false ↦ placeRows block table ask (aim .task) hops (record { hops = []; at = n .scope; state = n .state })
+      ]
+
+  -- what lies behind one of its hops
+  unfoldable pub hopRows : HopOf ℕ → List (List ℕ)
+  hopRows h =
+      flatMap (placeRows block table ask (aim .task) hops)
+      (hopHits (tableBoard block (askGoal ask)) (tableOrder block) (placesOf (aim .scopes) (aim .states)) (endOf (aim .end))
+      (λ t r. placesFrom block table ask (aim .scopes) (aim .states) (aim .end) (n .left) (without (hasScope (n .free)) t) t r)
+      (n .left) (hasScope (n .free)) (n .scope) (n .state) h)
+
+-- a node's end is cut
+abbrev pub endCut : List ℕ → List ℕ → Node → ℕ → Bool
+endCut block ask n l =
+    cutHere (tableBoard block (askGoal ask)) (tableOrder block) (n .left) (hasScope (n .free)) (n .scope) (n .state) (by l)
+
+-- From edge p of the node's scope on up to edge r, each hop is worth nothing or its label is cut.
+pub record Skipped (block ask onward : List ℕ) (n : Node) (p r : ℕ) : Type 0 where
+  pub on : p ≤ r
+  pub skipped : List (HopOf ℕ)
+  pub split : hopsOn block (n .scope) p ≡ skipped ++ hopsOn block (n .scope) r
+  pub idle : (h : HopOf ℕ) → h ∈ skipped
+      → (16 ≤ worthState block onward (n .free) (n .state) 8 h) ⊎ (endCut block ask n (h .step) ≡ true)
+
+-- Edge number p is followed: it stands before the end of the node's edges, its hop is worth
+-- entering, and its label is not cut.
+pub record FollowedEdge (block ask onward : List ℕ) (n : Node) (p : ℕ) : Type 0 where
+  pub inside : p < firstEdge block (suc (n .scope))
+  pub worth : worthState block onward (n .free) (n .state) 8 (hopOf (edgeCell block p)) < 16
+  pub uncut : endCut block ask n (hopOf (edgeCell block p) .step) ≡ false
+
+-- Edge number r is the next that is followed, or none is left.
+pub record NextFollowed (block ask onward : List ℕ) (n : Node) (p r : ℕ) : Type 0 where
+  pub past : Skipped block ask onward n p r
+  pub found : r < firstEdge block (suc (n .scope)) → FollowedEdge block ask onward n r
+  pub none : firstEdge block (suc (n .scope)) ≤ r → hopsOn block (n .scope) r ≡ []

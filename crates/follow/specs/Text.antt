@@ -1,4 +1,5 @@
--- The text of a listing (01, "The listing"), from what the rules say. Assumes nothing: these are definitions.
+-- The text of a listing (01, "The listing"), from what the rules say. Assumes nothing: these are
+-- definitions.
 use Prim.Native.Nat.{ℕ}
 use mathlib.Core.List.{List, [], _∷_, _++_}
 use lib.ListN.{getD}

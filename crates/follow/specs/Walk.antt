@@ -1,65 +1,80 @@
--- What the walk pours: for each followed place that is asked for, its rows or one byte, in the listing's order (01, "Paths" and "The listing"). Assumes
--- nothing: these are definitions.
-use Prim.Native.Nat.{ℕ}
-use mathlib.Core.Bool.{Bool, true, false, _&&_}
-use mathlib.Core.List.{List, [], _∷_, _++_, flatMap}
-use lib.Dec.{eqb, leb}
-use lib.ListN.{replicate}
+-- What the walk takes: for each followed place that is asked for, the rows of its entries, or one
+-- row of a byte where places are sought, in the listing's order (01, "Paths" and "The listing").
+-- Assumes nothing: these are definitions.
+use Prim.Native.Nat.{ℕ, _%_}
+use mathlib.Core.Bool.{Bool, true, false}
+use mathlib.Core.List.{List, [], _∷_, _++_, map, flatMap}
+use lib.Dec.{leb}
+use lib.ListN.{take, drop}
 use Rattle.scope_graph.specs.Order.{endOf}
 use Rattle.scope_graph.specs.Path.{HopOf}
+use Rattle.scope_graph.specs.Rows.{anyOf}
 use Rattle.scope_graph.specs.Computed.{NodeOf}
-use Rattle.search.specs.Board.{without, hitsFrom}
-use Rattle.search.specs.Tables.{placeFlag, freeFlag, tableOrder, tableBoard}
+use Rattle.block.specs.Sets.{placesOf}
+use Rattle.block.specs.Layout.{LETTER}
+use Rattle.block.specs.Block.{hopOf, scopesCell, declaredPart}
+use Rattle.block.specs.Ask.{askStart, askHigh, askLow, askGoal}
+use Rattle.search.specs.Board.{hitsFrom}
+use Rattle.search.specs.Tables.{tableOrder, tableBoard}
+use Rattle.search.specs.Conditions.{freeAt}
+use Rattle.board.specs.Marks.{marksIn}
+use Rattle.follow.specs.declared.Task.{Task}
+use Rattle.follow.specs.declared.Task.the-variants.{Entries, Place}
+use Rattle.follow.specs.declared.Path.{Path}
+use Rattle.follow.specs.declared.Aim.{Aim}
 use Rattle.follow.specs.Text.{rowText}
-use Rattle.follow.specs.Pour.{State, pour}
+use Rattle.follow.specs.Tally.{State, takeRows}
 
--- a declaration row's mark, if it declares the name at the scope, before those of the rows after it
-unfoldable pub declaredHere : Bool → ℕ → List ℕ → List ℕ
-declaredHere here mark rest = elim here [ true ↦ mark ∷ rest | false ↦ rest ]
+-- the hops of the path that a walk holds, `depth` of them and no more than it has places
+unfoldable pub pathHops : Path → List (HopOf ℕ)
+pathHops p = map hopOf (take (p .depth) (p .hops))
 
--- does a row with this scope and name declare the name sought at the scope s?
-unfoldable pub matches : ℕ → ℕ → ℕ → ℕ → ℕ → ℕ → Bool
-matches s high low at h l = eqb at s && (eqb h high && eqb l low)
+-- the labels' letters as bytes
+unfoldable pub letterBytes : List ℕ → List ℕ
+letterBytes block = map (λ x. x % 256) (take 8 (drop LETTER block))
 
--- The marks of the declarations of a name at a scope, in row sequence. A row has six cells: section, scope, the name's two, mark and one unused. Cells
--- that do not fill a row are none.
-unfoldable pub marksIn : List ℕ → ℕ → ℕ → ℕ → List ℕ
-marksIn [] s high low = []
-marksIn (a ∷ []) s high low = []
-marksIn (a ∷ at ∷ []) s high low = []
-marksIn (a ∷ at ∷ h ∷ []) s high low = []
-marksIn (a ∷ at ∷ h ∷ l ∷ []) s high low = []
-marksIn (a ∷ at ∷ h ∷ l ∷ mark ∷ []) s high low = []
-marksIn (a ∷ at ∷ h ∷ l ∷ mark ∷ x ∷ cells) s high low = declaredHere (matches s high low at h l) mark (marksIn cells s high low)
+-- the rows of the entries with these marks, by one path
+unfoldable pub entryRows : List ℕ → ℕ → List (HopOf ℕ) → List ℕ → List (List ℕ)
+entryRows letters start hops marks = map (λ mark. rowText letters mark start hops) marks
 
--- with what does not change on the way: the mode, the labels' letters and the query's start
-module _ (mode : ℕ) (letters : List ℕ) (start : ℕ) where
-  -- an entry's share: its row if the mode is to write or to measure, and one byte if it is to count (2)
-  unfoldable pub entryBytes : List (HopOf ℕ) → ℕ → List ℕ
-  entryBytes hops mark = elim (eqb mode 2) [ true ↦ 0 ∷ [] | false ↦ rowText letters mark start hops ]
+-- with the board's block, the graph table and the ask
+module _ (block table ask : List ℕ) where
+  -- the marks of the declarations of the name sought at a scope
+  unfoldable pub marksAt : ℕ → List ℕ
+  marksAt s = marksIn (declaredPart block table s) s (askHigh ask) (askLow ask)
 
-  -- the entries' shares for these marks
-  unfoldable pub entriesBytes : List (HopOf ℕ) → List ℕ → List ℕ
-  entriesBytes hops marks = flatMap (entryBytes hops) marks
+  -- a place's rows, `hops` being the path up to where it was sought from
+  unfoldable pub placeRows : Task → List (HopOf ℕ) → NodeOf ℕ → List (List ℕ)
+  placeRows Entries hops n = entryRows (letterBytes block) (askStart ask) (hops ++ n .hops) (marksAt (n .at))
+  placeRows Place hops n = (0 ∷ []) ∷ []
 
--- with the declaration cells and the name too
-module _ (mode : ℕ) (letters decls : List ℕ) (high low start : ℕ) where
-  -- a place's share, `hops` being the path up to where it was sought from: one byte if the mode is to find places (3), else its entries' shares
-  unfoldable pub placeBytes : List (HopOf ℕ) → NodeOf ℕ → List ℕ
-  placeBytes hops n =
-      elim (eqb mode 3) [ true ↦ 0 ∷ [] | false ↦ entriesBytes mode letters start (hops ++ n .hops) (marksIn decls (n .at) high low) ]
+  -- the followed places of a set of scopes and a set of states where the end is not cut, from a
+  -- scope and state on
+  unfoldable pub placesFrom : ℕ → ℕ → ℕ → ℕ → (ℕ → Bool) → ℕ → ℕ → List (NodeOf ℕ)
+  placesFrom scopes states e fuel free s q =
+      hitsFrom (tableBoard block (askGoal ask)) (tableOrder block) (placesOf scopes states) (endOf e) fuel free s q
 
-  -- with the tables of the query, what is asked for, and an end's number
-  module _ (edges delta goal order seek : List ℕ) (e : ℕ) where
-    -- what the followed places behind a path give, from a scope and state on, with fewer than `fuel` hops
-    unfoldable pub bytesFrom : List (HopOf ℕ) → ℕ → (ℕ → Bool) → ℕ → ℕ → List ℕ
-    bytesFrom hops fuel free s q =
-        flatMap (placeBytes hops) (hitsFrom (tableBoard edges delta goal) (tableOrder order) (placeFlag seek) (endOf e) fuel free s q)
+  module _ (aim : Aim) where
+    -- what the followed places behind a path give, from a scope and state on, with fewer than
+    -- `fuel` hops
+    unfoldable pub rowsFrom : List (HopOf ℕ) → ℕ → (ℕ → Bool) → ℕ → ℕ → List (List ℕ)
+    rowsFrom hops fuel free s q =
+        flatMap (placeRows (aim .task) hops) (placesFrom (aim .scopes) (aim .states) (aim .end) fuel free s q)
 
-    -- what the whole walk from the start pours, with as many scopes as the graph has: 64 at most; with more it pours nothing
-    unfoldable pub walked : ℕ → State → State
-    walked scopes st =
-        elim (leb scopes 64) [
-          | true ↦ pour mode st (bytesFrom [] scopes (without (freeFlag (replicate 64 1)) start) start 0)
+    -- what the whole walk from the query's start takes; nothing where there are more scopes than a
+    -- file may have
+    unfoldable pub walked : State → State
+    walked st =
+        elim (leb (scopesCell block) 64) [
+          | true ↦ takeRows (aim .bounds) st (rowsFrom [] (scopesCell block) (freeAt (askStart ask)) (askStart ask) 0)
           | false ↦ st
         ]
+
+  -- The question: is some place of these scopes and states followed from the query's start, and the
+  -- end not cut there?
+  unfoldable pub followedIn : ℕ → ℕ → ℕ → Bool
+  followedIn scopes states e =
+      elim (leb (scopesCell block) 64) [
+        | true ↦ anyOf (λ n. true) (placesFrom scopes states e (scopesCell block) (freeAt (askStart ask)) (askStart ask) 0)
+        | false ↦ false
+      ]

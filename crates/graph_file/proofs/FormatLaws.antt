@@ -1,16 +1,16 @@
 -- The fixed string holds the nine sections' names lines, rows and keys, at the places given.
 -- Assumes nothing.
 use Prim.Native.Nat.{ℕ, zero, suc, _+_, _-_, _/_, _%_, _≤_, _<_}
-use mathlib.Core.Path.{_≡_, refl, sym, ap, _∙_}
-use mathlib.Core.List.{List, [], _∷_, _++_, map}
+use mathlib.Core.Path.{_≡_, refl, sym, _∙_}
+use mathlib.Core.List.{List, [], _∷_, map}
 use mathlib.Core.Bool.{Bool, true, false, _&&_}
 use native.Mathlib.Omega.{arith}
 use native.Mathlib.Numerals.{add-one}
-use lib.Dec.{eqb, ltb, leb}
-use borrow.Author.Tests.{eq-eqb, ne-eqb, lt-ltb, le-ltb}
-use lib.ListN.{length, getD, drop, List·getD-eq-default, List·getD-map, drop-of-length-le}
-use lib.Seq.{drop-cons}
-use Rattle.graph_file.specs.Format.{Kind, name, Item, byte, field, everyItem, Section, labels, pairs, transitions, accepts, scopeCount, edges, declarations, openPairs, queries, pastLast, sections, sectionAt}
+use lib.Dec.{leb}
+use borrow.Author.Tests.{ne-eqb, lt-ltb, le-ltb, le-leb}
+use lib.ListN.{length, getD, drop, List·getD-map}
+use Rattle.graph_file.specs.Format.{name, Item, byte, field, valuesOf, everyItem, Section, labels, pairs, transitions, accepts, scopeCount, edges, declarations, openPairs, queries, pastLast, sections, sectionAt}
+use Rattle.graph_file.specs.Line.{sparesPlace}
 use Rattle.graph_file.specs.Table.{kindNumber, code, kindOf, itemOf, layout, layouts, formatBytes, lineStep, lineOf, itemsAt, keyStep, keyOf, keyAt, namesPlace, rowPlace, keyPlace, sequenceNumber}
 
 -- the line at each section's places is its names line, its row, and the key there its key
@@ -78,6 +78,48 @@ sequences = 1 ∷ 0 ∷ 0 ∷ 0 ∷ 2 ∷ 0 ∷ 0 ∷ 0 ∷ 2 ∷ []
 pub sequence-at : (k : ℕ) → getD sequences k 2 ≡ sequenceNumber (sectionAt k .sequence)
 unfolding labels pairs transitions accepts scopeCount edges declarations openPairs queries pastLast sections sequenceNumber
 sequence-at k = field-at (λ s. sequenceNumber (s .sequence)) k
+
+-- a number listed for each section, by the section's number; a number that is none of them
+pub number-of : (ns : List ℕ) (k i d : ℕ) → k ≡ i → getD ns i d ≡ getD ns k d
+number-of ns k i d e = rw e
+
+pub past-last : (k : ℕ) → (k ≡ 0 → ⊥) → (k ≡ 1 → ⊥) → (k ≡ 2 → ⊥) → (k ≡ 3 → ⊥) → (k ≡ 4 → ⊥) → (k ≡ 5 → ⊥) → (k ≡ 6 → ⊥) → (k ≡ 7 → ⊥) → (k ≡ 8 → ⊥) → 9 ≤ k
+past-last zero a b c d e f g h i = absurd (a refl)
+past-last (suc zero) a b c d e f g h i = absurd (b refl)
+past-last (suc (suc zero)) a b c d e f g h i = absurd (c refl)
+past-last (suc (suc (suc zero))) a b c d e f g h i = absurd (d refl)
+past-last (suc (suc (suc (suc zero)))) a b c d e f g h i = absurd (e refl)
+past-last (suc (suc (suc (suc (suc zero))))) a b c d e f g h i = absurd (f refl)
+past-last (suc (suc (suc (suc (suc (suc zero)))))) a b c d e f g h i = absurd (g refl)
+past-last (suc (suc (suc (suc (suc (suc (suc zero))))))) a b c d e f g h i = absurd (h refl)
+past-last (suc (suc (suc (suc (suc (suc (suc (suc zero)))))))) a b c d e f g h i = absurd (i refl)
+past-last (suc (suc (suc (suc (suc (suc (suc (suc (suc k))))))))) a b c d e f g h i = omega arith
+
+-- the five places of a row, and those past them
+by-place : (A : ℕ → Type 0) → A 0 → A 1 → A 2 → A 3 → A 4 → ((d : ℕ) → 5 ≤ d → A d) → (d : ℕ) → A d
+by-place A a b c e f g zero = a
+by-place A a b c e f g (suc zero) = b
+by-place A a b c e f g (suc (suc zero)) = c
+by-place A a b c e f g (suc (suc (suc zero))) = e
+by-place A a b c e f g (suc (suc (suc (suc zero)))) = f
+by-place A a b c e f g (suc (suc (suc (suc (suc n))))) = g (suc (suc (suc (suc (suc n))))) (omega arith)
+
+-- a section's items leave alone the places from this one on
+abbrev pub useds : List ℕ
+useds = 1 ∷ 2 ∷ 3 ∷ 1 ∷ 1 ∷ 3 ∷ 4 ∷ 2 ∷ 3 ∷ []
+
+pub used-at : (k d : ℕ) → everyItem (sparesPlace d) (sectionAt k .row) ≡ leb (getD useds k 0) d
+unfolding labels pairs transitions accepts scopeCount edges declarations openPairs queries pastLast sections sectionAt everyItem sparesPlace valuesOf
+used-at zero = by-place (λ d. everyItem (sparesPlace d) (sectionAt 0 .row) ≡ leb 1 d) refl refl refl refl refl (λ d h. simp (le-ltb d 0 (omega arith), le-ltb d 1 (omega arith), le-ltb d 2 (omega arith), le-ltb d 3 (omega arith), le-leb 1 d (omega arith), le-leb 2 d (omega arith), le-leb 3 d (omega arith), le-leb 4 d (omega arith)))
+used-at (suc zero) = by-place (λ d. everyItem (sparesPlace d) (sectionAt 1 .row) ≡ leb 2 d) refl refl refl refl refl (λ d h. simp (le-ltb d 0 (omega arith), le-ltb d 1 (omega arith), le-ltb d 2 (omega arith), le-ltb d 3 (omega arith), le-leb 1 d (omega arith), le-leb 2 d (omega arith), le-leb 3 d (omega arith), le-leb 4 d (omega arith)))
+used-at (suc (suc zero)) = by-place (λ d. everyItem (sparesPlace d) (sectionAt 2 .row) ≡ leb 3 d) refl refl refl refl refl (λ d h. simp (le-ltb d 0 (omega arith), le-ltb d 1 (omega arith), le-ltb d 2 (omega arith), le-ltb d 3 (omega arith), le-leb 1 d (omega arith), le-leb 2 d (omega arith), le-leb 3 d (omega arith), le-leb 4 d (omega arith)))
+used-at (suc (suc (suc zero))) = by-place (λ d. everyItem (sparesPlace d) (sectionAt 3 .row) ≡ leb 1 d) refl refl refl refl refl (λ d h. simp (le-ltb d 0 (omega arith), le-ltb d 1 (omega arith), le-ltb d 2 (omega arith), le-ltb d 3 (omega arith), le-leb 1 d (omega arith), le-leb 2 d (omega arith), le-leb 3 d (omega arith), le-leb 4 d (omega arith)))
+used-at (suc (suc (suc (suc zero)))) = by-place (λ d. everyItem (sparesPlace d) (sectionAt 4 .row) ≡ leb 1 d) refl refl refl refl refl (λ d h. simp (le-ltb d 0 (omega arith), le-ltb d 1 (omega arith), le-ltb d 2 (omega arith), le-ltb d 3 (omega arith), le-leb 1 d (omega arith), le-leb 2 d (omega arith), le-leb 3 d (omega arith), le-leb 4 d (omega arith)))
+used-at (suc (suc (suc (suc (suc zero))))) = by-place (λ d. everyItem (sparesPlace d) (sectionAt 5 .row) ≡ leb 3 d) refl refl refl refl refl (λ d h. simp (le-ltb d 0 (omega arith), le-ltb d 1 (omega arith), le-ltb d 2 (omega arith), le-ltb d 3 (omega arith), le-leb 1 d (omega arith), le-leb 2 d (omega arith), le-leb 3 d (omega arith), le-leb 4 d (omega arith)))
+used-at (suc (suc (suc (suc (suc (suc zero)))))) = by-place (λ d. everyItem (sparesPlace d) (sectionAt 6 .row) ≡ leb 4 d) refl refl refl refl refl (λ d h. simp (le-ltb d 0 (omega arith), le-ltb d 1 (omega arith), le-ltb d 2 (omega arith), le-ltb d 3 (omega arith), le-leb 1 d (omega arith), le-leb 2 d (omega arith), le-leb 3 d (omega arith), le-leb 4 d (omega arith)))
+used-at (suc (suc (suc (suc (suc (suc (suc zero))))))) = by-place (λ d. everyItem (sparesPlace d) (sectionAt 7 .row) ≡ leb 2 d) refl refl refl refl refl (λ d h. simp (le-ltb d 0 (omega arith), le-ltb d 1 (omega arith), le-ltb d 2 (omega arith), le-ltb d 3 (omega arith), le-leb 1 d (omega arith), le-leb 2 d (omega arith), le-leb 3 d (omega arith), le-leb 4 d (omega arith)))
+used-at (suc (suc (suc (suc (suc (suc (suc (suc zero)))))))) = by-place (λ d. everyItem (sparesPlace d) (sectionAt 8 .row) ≡ leb 3 d) refl refl refl refl refl (λ d h. simp (le-ltb d 0 (omega arith), le-ltb d 1 (omega arith), le-ltb d 2 (omega arith), le-ltb d 3 (omega arith), le-leb 1 d (omega arith), le-leb 2 d (omega arith), le-leb 3 d (omega arith), le-leb 4 d (omega arith)))
+used-at (suc (suc (suc (suc (suc (suc (suc (suc (suc k))))))))) = λ d. sym (le-leb 0 d (omega arith))
 
 -- the fixed string has 152 bytes
 pub format-length : length formatBytes ≡ 152

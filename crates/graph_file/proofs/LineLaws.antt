@@ -1,32 +1,30 @@
 -- Laws of reading a line. Assumes nothing.
-use Prim.Native.Nat.{ℕ, zero, suc, _+_, _-_, _*_, _/_, _%_, _≤_, _<_}
+use Prim.Native.Nat.{ℕ, zero, suc, _+_, _-_, _/_, _%_, _≤_, _<_}
 use mathlib.Core.Path.{_≡_, refl, sym, ap, _∙_}
-use mathlib.Core.List.{List, [], _∷_, _++_}
-use mathlib.Core.Bool.{Bool, true, false, not, _&&_, _||_}
+use mathlib.Core.List.{List, [], _∷_}
+use mathlib.Core.Bool.{Bool, true, false}
 use native.Mathlib.Omega.{arith}
 use lib.Dec.{eqb, ltb}
 use lib.ListN.{length, getD, drop, set, drop-of-length-le}
-use lib.Seq.{drop-drop, drop-nil, sets, length-sets}
+use lib.Seq.{drop-drop, sets, length-sets, getD-drop, drop-cons}
 use Rattle.text_field.specs.declared.NumberRead.{NumberRead}
 use Rattle.text_field.specs.declared.NumberRead.the-variants.{Number, NoNumber}
 use Rattle.text_field.specs.declared.NameRead.{NameRead}
 use Rattle.text_field.specs.declared.NameRead.the-variants.{Name, NoName}
-use Rattle.text_field.specs.Number.{numberPlaced, numberMeaning}
+use Rattle.text_field.specs.Number.{numberPlaced, numberMeaning, numberHere}
 use Rattle.text_field.specs.Name.{namePlaced, nameMeaning}
 use Rattle.graph_file.specs.declared.line.Took.{Took}
 use Rattle.graph_file.specs.declared.line.Took.the-variants.{Nothing, Bare, One, Two}
 use Rattle.graph_file.specs.declared.line.Line.{Line}
-use Rattle.graph_file.specs.Format.{Kind, Item, byte, field}
+use Rattle.graph_file.specs.Format.{Item, byte}
 use Rattle.text_field.specs.Outcome.{Outcome, refused, done, andThen}
 use native.Mathlib.Nat.{add-zero}
 use native.Mathlib.Numerals.{add-one}
-use lib.Seq.{getD-drop, drop-cons}
 use borrow.Author.Tests.{eq-eqb, ne-eqb, ltb-true, ltb-false}
 use Rattle.text_field.specs.Bytes.{isCapital}
-use Rattle.text_field.specs.Number.{numberHere}
 use Rattle.graph_file.specs.Admission.{Row}
-use Rattle.graph_file.specs.Line.{Reading, numberTaken, nameTaken, byteTaken, place, endTaken, first, readField, startsWith, readItem, placeOf, readItems}
-use Rattle.graph_file.specs.Table.{kindOf, itemOf, formatBytes, lineStep, itemsAt}
+use Rattle.graph_file.specs.Line.{Reading, numberTaken, nameTaken, byteTaken, place, endTaken, readField, startsWith, readItem, placeOf, readItems}
+use Rattle.graph_file.specs.Table.{kindOf, itemOf, formatBytes, itemsAt}
 use Rattle.graph_file.proofs.FormatLaws.{item-byte, item-field, items-step, line-more, line-last}
 use Rattle.graph_file.specs.Reader.{took, lineOutcome, itemPut, itemLine}
 
@@ -181,16 +179,16 @@ module _ (letters : List ℕ) (o x : ℕ) (row : Row) (s text : List ℕ) (l : L
   unfolding readItems itemPut
   items-here n = rw (items-step o, ← c, line-more x (itemsAt (o + 1)) n)
 
-  pub line-refused : (x ≡ 10 → ⊥) → l .ok ≡ false → lineOutcome l text ≡ readItems letters (itemsAt o) row s
+  pub line-refused : (x ≡ 10 → ⊥) → l .ok ≡ false → refused 2 ≡ readItems letters (itemsAt o) row s
   unfolding itemLine
-  line-refused n p = outcome-not l text p ∙ sym (items-here n ∙ then-refused (readItem letters (itemOf x) s) (itemPut (itemOf x) row) (λ y. readItems letters (itemsAt (o + 1)) (y .values) (y .rest)) 2 (sym e ∙ outcome-not l text p))
+  line-refused n p = sym (items-here n ∙ then-refused (readItem letters (itemOf x) s) (itemPut (itemOf x) row) (λ y. readItems letters (itemsAt (o + 1)) (y .values) (y .rest)) 2 (sym e ∙ outcome-not l text p))
 
   pub line-on : (x ≡ 10 → ⊥) → l .ok ≡ true → readItems letters (itemsAt (o + 1)) (l .row) (drop (l .next) text) ≡ readItems letters (itemsAt o) row s
   unfolding itemLine
   line-on n p = sym (items-here n ∙ then-done (readItem letters (itemOf x) s) (itemPut (itemOf x) row) (λ y. readItems letters (itemsAt (o + 1)) (y .values) (y .rest)) (record { values = l .row; rest = drop (l .next) text }) (sym e ∙ outcome-ok l text p))
 
-pub line-done : (letters : List ℕ) (o x : ℕ) (row : Row) (s text : List ℕ) (l : Line) → x ≡ getD formatBytes o 10 → x ≡ 10 → lineOutcome l text ≡ itemLine letters (itemOf 10) row s → lineOutcome l text ≡ readItems letters (itemsAt o) row s
-unfolding itemLine readItems itemPut itemOf
+pub line-done : (letters : List ℕ) (o x : ℕ) (row : Row) (s text : List ℕ) (l : Line) → x ≡ getD formatBytes o 10 → x ≡ 10 → lineOutcome l text ≡ itemLine [] (byte 10) row s → lineOutcome l text ≡ readItems letters (itemsAt o) row s
+unfolding itemLine readItems readItem itemPut
 line-done letters o x row s text l c n e = e ∙ sym (rw (items-step o, ← c, line-last x (itemsAt (o + 1)) n))
 
 -- what comes after a step comes after its gain

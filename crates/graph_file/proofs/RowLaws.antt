@@ -1,12 +1,11 @@
 -- Laws of the rows of a table. Assumes nothing.
 use Prim.Native.Nat.{ℕ, zero, suc, _+_, _-_, _*_, _≤_, _<_}
-use mathlib.Core.Path.{_≡_, refl, sym, ap, _∙_}
-use mathlib.Core.List.{List, [], _∷_, _++_, map}
+use mathlib.Core.Path.{_≡_, refl, sym, ap}
+use mathlib.Core.List.{List, [], _∷_}
 use mathlib.Core.Bool.{Bool, true, false}
 use native.Mathlib.Omega.{arith}
-use lib.ListN.{length, getD, drop, drop-of-length-le}
+use lib.ListN.{length, getD, drop, drop-of-length-le, List·getD-eq-default}
 use lib.Seq.{getD-drop, drop-drop}
-use lib.Dec.{eqb}
 use native.Mathlib.Nat.{sub-zero, zero-add, add-zero}
 use borrow.Author.Tests.{eq-eqb, ne-eqb}
 use Rattle.graph_file.specs.Admission.{Row, value, rowOf}
@@ -18,6 +17,21 @@ use Rattle.graph_file.specs.Table.{rowsAt, lettersAt}
 pub row-cells : (t : List ℕ) (p : ℕ) → rowOf (drop p t) ≡ getD t (p + 1) 0 ∷ getD t (p + 2) 0 ∷ getD t (p + 3) 0 ∷ getD t (p + 4) 0 ∷ getD t (p + 5) 0 ∷ []
 unfolding rowOf
 row-cells t p = rw (getD-drop p t 1 0, getD-drop p t 2 0, getD-drop p t 3 0, getD-drop p t 4 0, getD-drop p t 5 0)
+
+-- one value of it, and none past the fifth
+pub value-cell : (t : List ℕ) (p c : ℕ) → c < 5 → value (rowOf (drop p t)) c ≡ getD t (p + 1 + c) 0
+value-cell t p c h = rw (row-cells t p) (inner c h)
+  where
+    inner : (c : ℕ) → c < 5 → getD (getD t (p + 1) 0 ∷ getD t (p + 2) 0 ∷ getD t (p + 3) 0 ∷ getD t (p + 4) 0 ∷ getD t (p + 5) 0 ∷ []) c 0 ≡ getD t (p + 1 + c) 0
+    inner zero l = rw (add-zero (p + 1))
+    inner (suc zero) l = ap (λ (j : ℕ). getD t j 0) (omega arith)
+    inner (suc (suc zero)) l = ap (λ (j : ℕ). getD t j 0) (omega arith)
+    inner (suc (suc (suc zero))) l = ap (λ (j : ℕ). getD t j 0) (omega arith)
+    inner (suc (suc (suc (suc zero)))) l = ap (λ (j : ℕ). getD t j 0) (omega arith)
+    inner (suc (suc (suc (suc (suc n))))) l = absurd (omega arith)
+
+pub value-none : (t : List ℕ) (p c : ℕ) → 5 ≤ c → value (rowOf (drop p t)) c ≡ 0
+value-none t p c h = rw (row-cells t p) (List·getD-eq-default (getD t (p + 1) 0 ∷ getD t (p + 2) 0 ∷ getD t (p + 3) 0 ∷ getD t (p + 4) 0 ∷ getD t (p + 5) 0 ∷ []) 0 {n = c} (omega arith))
 
 -- past the table's end a row has no value
 pub row-none : (t : List ℕ) (p : ℕ) → length t ≤ p → rowOf (drop p t) ≡ 0 ∷ 0 ∷ 0 ∷ 0 ∷ 0 ∷ []

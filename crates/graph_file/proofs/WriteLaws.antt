@@ -3,19 +3,19 @@ use Prim.Native.Nat.{ℕ, zero, suc, _+_, _-_, _*_, _/_, _%_, _≤_, _<_}
 use mathlib.Core.Path.{_≡_, refl, sym, ap, _∙_}
 use mathlib.Core.List.{List, [], _∷_, _++_, map}
 use native.Mathlib.Omega.{arith}
-use borrow.Author.Tests.{lt-ltb, le-ltb}
-use lib.Dec.{ltb, leb}
+use borrow.Author.Tests.{lt-ltb, lt-leb, le-leb}
+use lib.Dec.{eqb, ltb, leb}
 use lib.ListN.{length, getD, drop, List·getD-eq-default}
 use lib.Seq.{getD-drop, drop-drop}
 use Rattle.text_field.specs.Number.{numberText}
 use Rattle.text_field.specs.Name.{nameText}
 use Rattle.text_field.specs.Buffer.{Buf, put, puts}
 use Rattle.text_field.proofs.BufferLaws.{puts-one}
-use Rattle.graph_file.specs.Format.{Kind, state, scope, mark, count, letter, label, end, name, byte, valuesOf}
+use Rattle.graph_file.specs.Format.{name, Item, byte, everyItem}
 use Rattle.graph_file.specs.Admission.{Row, value, rowOf}
-use Rattle.graph_file.specs.Line.{endByte, fieldText, itemText, lineText, fieldFormed, sparesPlace}
+use Rattle.graph_file.specs.Line.{endByte, fieldText, itemText, lineText, fieldFormed, sparesPlace, idleZero}
 use Rattle.graph_file.specs.Table.{kindOf, itemOf, formatBytes, itemsAt, rowsAt, lettersAt}
-use Rattle.graph_file.proofs.FormatLaws.{item-byte, item-field, items-step, line-more, line-last, kind-name}
+use Rattle.graph_file.proofs.FormatLaws.{item-byte, item-field, items-step, line-more, line-last}
 use Rattle.graph_file.proofs.RowLaws.{letters-length}
 
 -- the first four kinds are numbers
@@ -58,32 +58,15 @@ module _ (letters : List ℕ) (n v w : ℕ) where
   unfolding fieldText
   text-name e = sym (rw e)
 
--- a name has two values, any other field one
-pub values-one : (n : ℕ) → n < 7 → 1 ≡ valuesOf (kindOf n)
-unfolding valuesOf kindOf
-values-one zero h = refl
-values-one (suc zero) h = refl
-values-one (suc (suc zero)) h = refl
-values-one (suc (suc (suc zero))) h = refl
-values-one (suc (suc (suc (suc zero)))) h = refl
-values-one (suc (suc (suc (suc (suc zero))))) h = refl
-values-one (suc (suc (suc (suc (suc (suc zero)))))) h = refl
-values-one (suc (suc (suc (suc (suc (suc (suc n))))))) h = absurd (omega arith)
+-- a place that the items fill, and one that they leave alone, where they fill the first u places
+module _ (items : List Item) (row : Row) (d u : ℕ) (e : (d : ℕ) → everyItem (sparesPlace d) items ≡ leb u d) where
+  pub idle-used : d < u → ltb d u ≡ idleZero items row d
+  unfolding idleZero
+  idle-used h = rw (e d, lt-leb u d h, lt-ltb d u h)
 
-pub values-two : (n : ℕ) → 7 ≤ n → 2 ≡ valuesOf (kindOf n)
-unfolding valuesOf
-values-two n h = sym (rw (kind-name n (omega arith) (omega arith) (omega arith) (omega arith) (omega arith) (omega arith) (omega arith)))
-
-pub values-small : (k : Kind) → valuesOf k ≤ 2
-unfolding valuesOf
-values-small state = omega arith
-values-small scope = omega arith
-values-small mark = omega arith
-values-small count = omega arith
-values-small letter = omega arith
-values-small label = omega arith
-values-small end = omega arith
-values-small name = omega arith
+  pub idle-past : u ≤ d → (v : ℕ) → v ≡ value row d → eqb v 0 ≡ idleZero items row d
+  unfolding idleZero
+  idle-past h v f = rw (e d, le-leb u d h, f)
 
 -- the letter of label i, and none past the last
 pub letter-at : (n f i : ℕ) (t : List ℕ) → i < n → getD t (f + 6 * i + 1) 0 ≡ getD (lettersAt n (drop f t)) i 0
@@ -107,16 +90,6 @@ module _ (letters : List ℕ) where
   unfolding endByte
   end-letter zero n = absurd (n refl)
   end-letter (suc v) n = let e : suc v - 1 ≡ v = omega arith in rw e
-
--- Does an item leave a place alone?
-module _ (d x : ℕ) (h : 128 ≤ x) where
-  pub spares-before : d < x % 8 → ltb d (x % 8) ≡ sparesPlace d (itemOf x)
-  unfolding sparesPlace
-  spares-before l = sym (rw (item-field x h, lt-ltb d (x % 8) l))
-
-  pub spares-after : (v : ℕ) → x % 8 ≤ d → v ≡ valuesOf (kindOf ((x - 128) / 8)) → leb (x % 8 + v) d ≡ sparesPlace d (itemOf x)
-  unfolding sparesPlace
-  spares-after v l e = sym (rw (item-field x h, le-ltb d (x % 8) l, ← e))
 
 -- an item's text
 module _ (letters : List ℕ) (row : Row) (x : ℕ) where

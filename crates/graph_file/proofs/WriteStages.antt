@@ -83,9 +83,11 @@ pub row-short : (o : ℕ) (t : List ℕ) (p : ℕ) → length t < p + 6 → fals
 unfolding rowFormed
 row-short o t p h = let e : length (drop p t) ≡ length t - p = length-drop p t in sym (rw (lt-ltb (length (drop p t)) 6 (omega arith)))
 
-pub row-long : (o : ℕ) (t : List ℕ) (p : ℕ) → p + 6 ≤ length t → formed (itemsAt o) (rowOf (drop p t)) ≡ rowFormed (itemsAt o) (drop p t)
+pub row-long : (k : ℕ) (t : List ℕ) (p : ℕ) → p + 6 ≤ length t → (b : Bool) → b ≡ formed (sectionAt k .row) (rowOf (drop p t)) → b ≡ rowFormed (itemsAt (rowPlace k)) (drop p t)
 unfolding rowFormed
-row-long o t p h = let e : length (drop p t) ≡ length t - p = length-drop p t in sym (rw (le-ltb (length (drop p t)) 6 (omega arith)))
+row-long k t p h b f =
+    let e : length (drop p t) ≡ length t - p = length-drop p t in
+    f ∙ sym (rw (le-ltb (length (drop p t)) 6 (omega arith), row-items k))
 
 -- a row's piece, where it can be written and where it cannot
 module _ (k : ℕ) (letters cells : List ℕ) where

@@ -8,16 +8,15 @@ use crate::format::row_place;
 use crate::format::sequence;
 use crate::rows::Counts;
 use crate::rows::label_place;
-use crate::rows::row_at;
-use crate::rows::value;
+use crate::rows::value_at;
 ghost use mathlib.Core.Path.{_≡_};
 ghost use mathlib.Core.Bool.{Bool, not, _||_};
-ghost use Prim.Native.Nat.{ℕ, _-_};
+ghost use Prim.Native.Nat.{ℕ, _+_, _-_, _≤_};
 ghost use lib.Dec.{eqb};
-ghost use lib.ListN.{drop};
+ghost use lib.ListN.{length, drop};
 ghost use Rattle.graph_file.specs.Format.{sectionAt};
 ghost use Rattle.graph_file.specs.Admission.{rowOf, value, kindInRange, itemInRange, inRange, keyLess, listed, follows, admission};
-ghost use Rattle.graph_file.specs.Table.{kindOf, itemOf, itemsAt, keyAt, lettersAt, lastAt, sofarAt};
+ghost use Rattle.graph_file.specs.Table.{kindOf, itemOf, formatBytes, itemsAt, keyAt, lettersAt, lastAt, sofarAt};
 
 // Is the value in the range of its kind?
 fn kind_in_range(labels: u32, scopes: u64, kind: u8, v: u64) -> bool
@@ -36,42 +35,47 @@ fn kind_in_range(labels: u32, scopes: u64, kind: u8, v: u64) -> bool
 }
 
 // Is the value that the row holds for the item of a code in its kind's range?
-fn item_in_range(labels: u32, scopes: u64, x: u8, row: [u64; 5]) -> bool
-    ensures answer { λ r. ⌜ r ≡ itemInRange labels scopes row (itemOf x) ⌝ }
+fn item_in_range(labels: u32, scopes: u64, x: u8, table: &[u64], p: usize) -> bool
+    requires room { ⌜ p + 6 ≤ length (now table) ⌝ }
+    ensures answer { λ r. ⌜ r ≡ itemInRange labels scopes (rowOf (drop p (now (table .entry)))) (itemOf x) ⌝ }
 {
     if x < 128 {
         return true;
     }
     let c = (x % 8) as usize;
-    kind_in_range(labels, scopes, (x - 128) / 8, value(row, c))
+    kind_in_range(labels, scopes, (x - 128) / 8, value_at(table, p, c))
 }
 
 // Is every value of the row in its range, by the items at a place of the format?
-fn in_range(o: usize, labels: u32, scopes: u64, row: [u64; 5]) -> bool
-    ensures answer { λ r. ⌜ r ≡ inRange labels scopes (itemsAt o) row ⌝ }
+fn in_range(format: &[u8], o: usize, labels: u32, scopes: u64, table: &[u64], p: usize) -> bool
+    requires format { ⌜ now format ≡ formatBytes ⌝ }
+    requires room { ⌜ p + 6 ≤ length (now table) ⌝ }
+    ensures answer { λ r. ⌜ r ≡ inRange labels scopes (itemsAt o) (rowOf (drop p (now (table .entry)))) ⌝ }
 {
     let mut i = o;
-    let mut x = item(i);
+    let mut x = item(format, i);
     while x != 10 {
-        if !item_in_range(labels, scopes, x, row) {
+        if !item_in_range(labels, scopes, x, table, p) {
             return false;
         }
         i += 1;
-        x = item(i);
+        x = item(format, i);
     }
     true
 }
 
-// Does row a stand before row b by the key at a place of the format?
-fn key_less(o: usize, a: [u64; 5], b: [u64; 5]) -> bool
-    ensures answer { λ r. ⌜ r ≡ keyLess (keyAt o) a b ⌝ }
+// Does the row at place q stand before the one at place p by the key at a place of the format?
+fn key_less(format: &[u8], o: usize, table: &[u64], q: usize, p: usize) -> bool
+    requires format { ⌜ now format ≡ formatBytes ⌝ }
+    requires room { ⌜ (q + 6 ≤ length (now table)) × (p + 6 ≤ length (now table)) ⌝ }
+    ensures answer { λ r. ⌜ r ≡ keyLess (keyAt o) (rowOf (drop q (now (table .entry)))) (rowOf (drop p (now (table .entry)))) ⌝ }
 {
     let mut i = o;
-    let mut x = item(i);
+    let mut x = item(format, i);
     while x != 10 {
         let c = (x % 8) as usize;
-        let v = value(a, c);
-        let w = value(b, c);
+        let v = value_at(table, q, c);
+        let w = value_at(table, p, c);
         if v < w {
             return true;
         }
@@ -79,7 +83,7 @@ fn key_less(o: usize, a: [u64; 5], b: [u64; 5]) -> bool
             return false;
         }
         i += 1;
-        x = item(i);
+        x = item(format, i);
     }
     false
 }
@@ -92,7 +96,9 @@ fn row_before(p: usize) -> usize
 }
 
 // Does the row at place p ascend from the one before it, if the section has any?
-fn ascends(k: usize, table: &[u64], p: usize, rows: u32) -> bool
+fn ascends(format: &[u8], k: usize, table: &[u64], p: usize, rows: u32) -> bool
+    requires format { ⌜ now format ≡ formatBytes ⌝ }
+    requires room { ⌜ p + 6 ≤ length (now table) ⌝ }
     ensures answer { λ r. ⌜ r ≡
         (eqb rows 0 || keyLess (sectionAt k .key) (lastAt rows p (now (table .entry)))
         (rowOf (drop p (now (table .entry))))) ⌝ }
@@ -100,7 +106,7 @@ fn ascends(k: usize, table: &[u64], p: usize, rows: u32) -> bool
     if rows == 0 {
         return true;
     }
-    key_less(key_place(k), row_at(table, row_before(p)), row_at(table, p))
+    key_less(format, key_place(k), table, row_before(p), p)
 }
 
 // Is x no label's letter?
@@ -111,21 +117,25 @@ fn unlisted(table: &[u64], labels: u32, x: u64) -> bool
 }
 
 // Does the row at place p follow those above as its section asks?
-fn row_follows(k: usize, table: &[u64], p: usize, labels: u32, rows: u32) -> bool
+fn row_follows(format: &[u8], k: usize, table: &[u64], p: usize, labels: u32, rows: u32) -> bool
+    requires format { ⌜ now format ≡ formatBytes ⌝ }
+    requires room { ⌜ p + 6 ≤ length (now table) ⌝ }
     ensures answer { λ r. ⌜ r ≡ follows (sectionAt k .sequence) (sectionAt k .key)
         (lettersAt labels (drop 1 (now (table .entry)))) rows (lastAt rows p (now (table .entry)))
         (rowOf (drop p (now (table .entry)))) ⌝ }
 {
     match sequence(k) {
-        0 => ascends(k, table, p, rows),
-        1 => unlisted(table, labels, value(row_at(table, p), 0)),
+        0 => ascends(format, k, table, p, rows),
+        1 => unlisted(table, labels, value_at(table, p, 0)),
         _ => true,
     }
 }
 
 // The row at place p after the rows above: 5, 3 or 4 where it is refused, 0 where it is admitted.
 // The section's limit comes from its reader or writer.
-pub fn admitted(k: usize, limit: usize, table: &[u64], p: usize, c: Counts) -> u64
+pub fn admitted(format: &[u8], k: usize, limit: usize, table: &[u64], p: usize, c: Counts) -> u64
+    requires format { ⌜ now format ≡ formatBytes ⌝ }
+    requires room { ⌜ p + 6 ≤ length (now table) ⌝ }
     requires limit { ⌜ limit ≡ sectionAt k .most ⌝ }
     ensures answer { λ r. ⌜ r ≡ admission (sectionAt k) (sofarAt (now (table .entry)) p c)
         (rowOf (drop p (now (table .entry)))) ⌝ }
@@ -135,10 +145,10 @@ pub fn admitted(k: usize, limit: usize, table: &[u64], p: usize, c: Counts) -> u
     if limit <= rows as usize {
         return 5;
     }
-    if !in_range(row_place(k), labels, c.scopes, row_at(table, p)) {
+    if !in_range(format, row_place(k), labels, c.scopes, table, p) {
         return 3;
     }
-    if !row_follows(k, table, p, labels, rows) {
+    if !row_follows(format, k, table, p, labels, rows) {
         return 4;
     }
     0

@@ -1,48 +1,45 @@
-// Cells put into a table.
-use crate::rows::value;
-use text_field::cell;
+// Cells put into a table, and what was made copied to the memory that the caller lends.
 ghost use mathlib.Core.Path.{_≡_};
-ghost use mathlib.Core.List.{List, [], _∷_};
-ghost use lib.ListN.{take};
-ghost use Rattle.text_field.specs.Buffer.{Buf, put, puts};
+ghost use mathlib.Core.List.{_∷_};
+ghost use Prim.Native.Nat.{_+_, _≤_};
+ghost use lib.ListN.{length, take};
+ghost use Rattle.text_field.specs.Buffer.{Buf, puts};
 
-// One cell where there is room, and the next place.
-fn put_cell(table: &mut [u64], n: usize, x: u64) -> usize
-    ensures written { λ r. ⌜ _≡_ {A = Buf} (now (table .exit), r) (put (now (table .entry), n) x) ⌝ }
+// A row's six cells, for which there is room.
+pub fn put_row(table: &mut [u64], n: usize, k: u64, row: [u64; 5])
+    requires room { ⌜ n + 6 ≤ length (now table) ⌝ }
+    ensures written { λ _. ⌜ _≡_ {A = Buf} (now (table .exit), n + 6) (puts (now (table .entry), n) (k ∷ row)) ⌝ }
 {
-    if n < table.len() {
-        table[n] = x;
-        n + 1
-    } else {
-        n
-    }
+    table[n] = k;
+    table[n + 1] = row[0];
+    table[n + 2] = row[1];
+    table[n + 3] = row[2];
+    table[n + 4] = row[3];
+    table[n + 5] = row[4];
 }
 
-// A row's six cells.
-pub fn put_row(table: &mut [u64], n: usize, k: u64, row: [u64; 5]) -> usize
-    ensures written { λ r. ⌜ _≡_ {A = Buf} (now (table .exit), r) (puts (now (table .entry), n) (k ∷ row)) ⌝ }
-{
-    let a = put_cell(table, n, k);
-    let b = put_cell(table, a, value(row, 0));
-    let c = put_cell(table, b, value(row, 1));
-    let d = put_cell(table, c, value(row, 2));
-    let e = put_cell(table, d, value(row, 3));
-    put_cell(table, e, value(row, 4))
-}
-
-// The first n cells copied to the front of the lent table, as far as there is room.
-pub fn copy_cells(own: &[u64], n: usize, table: &mut [u64]) -> usize
-    ensures written { λ r. ⌜ _≡_ {A = Buf} (now (table .exit), r)
+// The first n cells copied to the front of the lent table, which has room.
+pub fn copy_cells(own: &[u64], n: usize, table: &mut [u64])
+    requires room { ⌜ (n ≤ length (now own)) × (n ≤ length (now table)) ⌝ }
+    ensures written { λ _. ⌜ _≡_ {A = Buf} (now (table .exit), n)
         (puts (now (table .entry), 0) (take n (now (own .entry)))) ⌝ }
 {
     let mut i: usize = 0;
-    let mut p: usize = 0;
     while i < n {
-        if own.len() <= i {
-            return p;
-        }
-        p = put_cell(table, p, cell(own, i, 0));
+        table[i] = own[i];
         i += 1;
     }
-    p
+}
+
+// The first n bytes copied to the front of the lent buffer, which has room.
+pub fn copy_bytes(own: &[u8], n: usize, out: &mut [u8])
+    requires room { ⌜ (n ≤ length (now own)) × (n ≤ length (now out)) ⌝ }
+    ensures written { λ _. ⌜ _≡_ {A = Buf} (now (out .exit), n)
+        (puts (now (out .entry), 0) (take n (now (own .entry)))) ⌝ }
+{
+    let mut i: usize = 0;
+    while i < n {
+        out[i] = own[i];
+        i += 1;
+    }
 }

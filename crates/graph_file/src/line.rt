@@ -17,7 +17,7 @@ ghost use Rattle.text_field.specs.Name.{nameHere};
 ghost use Rattle.graph_file.specs.Format.{byte};
 ghost use Rattle.graph_file.specs.Admission.{blank};
 ghost use Rattle.graph_file.specs.Line.{numberTaken, nameTaken, byteTaken, endTaken, readField, readItem, placeOf, readItems};
-ghost use Rattle.graph_file.specs.Table.{kindOf, itemOf, itemsAt, lettersAt};
+ghost use Rattle.graph_file.specs.Table.{kindOf, itemOf, formatBytes, itemsAt, lettersAt};
 ghost use Rattle.graph_file.specs.Reader.{took, lineOutcome, itemLine};
 
 // What an item at the front of a text gives: the place after it and its values, or nothing where it
@@ -29,7 +29,13 @@ pub enum Took {
     Two(usize, u64, u64),
 }
 
-// What a line gives so far: whether its items stand there, the place after them, the row's values.
+// Whether an item stands where it must, and the place after it.
+struct Step {
+    ok: bool,
+    next: usize,
+}
+
+// What a line gives: whether its items stand there, the place after them, the row's values.
 pub struct Line {
     pub ok: bool,
     pub next: usize,
@@ -139,51 +145,83 @@ fn place_of(x: u8) -> usize
     if x < 128 { 0 } else { (x % 8) as usize }
 }
 
-// The row with a value at a place.
-fn with_value(row: [u64; 5], c: usize, v: u64) -> [u64; 5]
-    ensures answer { λ r. ⌜ r ≡ set row c v ⌝ }
+// A value put at a place of the row.
+fn put_value(row: &mut [u64], c: usize, v: u64)
+    ensures written { λ _. ⌜ now (row .exit) ≡ set (now (row .entry)) c v ⌝ }
 {
-    let mut out = row;
-    if c < 5 {
-        out[c] = v;
+    if c < row.len() {
+        row[c] = v;
     }
-    out
 }
 
-// One item of a line read on from a row.
-fn line_item(table: &[u64], labels: u32, x: u8, row: [u64; 5], text: &[u8], at: usize) -> Line
-    ensures answer { λ r. ⌜ lineOutcome r (now (text .entry))
-        ≡ itemLine (lettersAt labels (drop 1 (now (table .entry)))) (itemOf x) row (drop at (now (text .entry))) ⌝ }
+// One item of a line, its values put into the row.
+fn line_item(table: &[u64], labels: u32, x: u8, row: &mut [u64], text: &[u8], at: usize) -> Step
+    ensures answer { λ r. ⌜ lineOutcome (record { ok = r .ok; next = r .next; row = now (row .exit) }) (now (text .entry))
+        ≡ itemLine (lettersAt labels (drop 1 (now (table .entry)))) (itemOf x) (now (row .entry))
+        (drop at (now (text .entry))) ⌝ }
 {
     let c = place_of(x);
     let t = take_item(table, labels, x, text, at);
     match t {
-        Took::Nothing => Line {
+        Took::Nothing => Step { ok: false, next: 0 },
+        Took::Bare(next) => Step {
+            ok: true,
+            next: next,
+        },
+        Took::One(next, v) => {
+            put_value(row, c, v);
+            Step {
+                ok: true,
+                next: next,
+            }
+        },
+        Took::Two(next, v, w) => {
+            put_value(row, c, v);
+            put_value(row, c + 1, w);
+            Step {
+                ok: true,
+                next: next,
+            }
+        },
+    }
+}
+
+// The end of a line whose values are in the row.
+fn end_line(row: [u64; 5], text: &[u8], at: usize) -> Line
+    ensures answer { λ r. ⌜ lineOutcome r (now (text .entry)) ≡ itemLine [] (byte 10) row (drop at (now (text .entry))) ⌝ }
+{
+    if text.len() <= at {
+        return Line {
             ok: false,
-            next: 0,
+            next: at,
             row: row,
-        },
-        Took::Bare(next) => Line {
-            ok: true,
-            next: next,
+        };
+    }
+    if byte_at(text, at, 0) != b'\n' {
+        return Line {
+            ok: false,
+            next: at,
             row: row,
-        },
-        Took::One(next, v) => Line {
-            ok: true,
-            next: next,
-            row: with_value(row, c, v),
-        },
-        Took::Two(next, v, w) => Line {
-            ok: true,
-            next: next,
-            row: with_value(with_value(row, c, v), c + 1, w),
-        },
+        };
+    }
+    Line {
+        ok: true,
+        next: at + 1,
+        row: row,
     }
 }
 
 // The line at a place of the text against the items at a place of the format, read into an empty
 // row.
-pub fn read_line(table: &[u64], labels: u32, o: usize, text: &[u8], at: usize) -> Line
+pub fn read_line(
+    format: &[u8],
+    table: &[u64],
+    labels: u32,
+    o: usize,
+    text: &[u8],
+    at: usize,
+) -> Line
+    requires format { ⌜ now format ≡ formatBytes ⌝ }
     ensures answer { λ r. ⌜ lineOutcome r (now (text .entry))
         ≡ readItems (lettersAt labels (drop 1 (now (table .entry)))) (itemsAt o) blank
         (drop at (now (text .entry))) ⌝ }
@@ -191,16 +229,19 @@ pub fn read_line(table: &[u64], labels: u32, o: usize, text: &[u8], at: usize) -
     let mut row = [0u64; 5];
     let mut place = at;
     let mut i = o;
-    let mut x = item(i);
+    let mut x = item(format, i);
     while x != 10 {
-        let l = line_item(table, labels, x, row, text, place);
+        let l = line_item(table, labels, x, &mut row, text, place);
         if !l.ok {
-            return l;
+            return Line {
+                ok: false,
+                next: place,
+                row: row,
+            };
         }
-        row = l.row;
         place = l.next;
         i += 1;
-        x = item(i);
+        x = item(format, i);
     }
-    line_item(table, labels, 10, row, text, place)
+    end_line(row, text, place)
 }

@@ -1,6 +1,5 @@
 // The text of one line, by the items at a place of the format.
 use crate::format::item;
-use crate::rows::value;
 use text_field::cell;
 use text_field::put_byte;
 use text_field::put_name;
@@ -10,7 +9,7 @@ ghost use Prim.Native.Nat.{_%_};
 ghost use lib.ListN.{getD, drop};
 ghost use Rattle.text_field.specs.Buffer.{Buf, puts};
 ghost use Rattle.graph_file.specs.Line.{endByte, fieldText, itemText, lineText};
-ghost use Rattle.graph_file.specs.Table.{kindOf, itemOf, itemsAt, lettersAt};
+ghost use Rattle.graph_file.specs.Table.{kindOf, itemOf, formatBytes, itemsAt, lettersAt};
 
 // The letter of a label's number; 0 where there is no such label.
 fn letter_of(table: &[u64], labels: u32, v: u64) -> u64
@@ -65,9 +64,9 @@ fn put_field(
 }
 
 // The text of the item of a code in a row's line.
-fn put_item(table: &[u64], labels: u32, x: u8, row: [u64; 5], out: &mut [u8], n: usize) -> usize
+fn put_item(table: &[u64], labels: u32, x: u8, row: &[u64], out: &mut [u8], n: usize) -> usize
     ensures written { λ r. ⌜ _≡_ {A = Buf} (now (out .exit), r)
-        (puts (now (out .entry), n) (itemText (lettersAt labels (drop 1 (now (table .entry)))) row (itemOf x))) ⌝ }
+        (puts (now (out .entry), n) (itemText (lettersAt labels (drop 1 (now (table .entry)))) (now (row .entry)) (itemOf x))) ⌝ }
 {
     if x < 128 {
         return put_byte(out, n, x);
@@ -77,8 +76,8 @@ fn put_item(table: &[u64], labels: u32, x: u8, row: [u64; 5], out: &mut [u8], n:
         table,
         labels,
         (x - 128) / 8,
-        value(row, c),
-        value(row, c + 1),
+        cell(row, c, 0),
+        cell(row, c + 1, 0),
         out,
         n,
     )
@@ -86,23 +85,25 @@ fn put_item(table: &[u64], labels: u32, x: u8, row: [u64; 5], out: &mut [u8], n:
 
 // The line of the items at a place of the format: a names line, or a row's line.
 pub fn put_line(
+    format: &[u8],
     table: &[u64],
     labels: u32,
     o: usize,
-    row: [u64; 5],
+    row: &[u64],
     out: &mut [u8],
     n: usize,
 ) -> usize
+    requires format { ⌜ now format ≡ formatBytes ⌝ }
     ensures written { λ r. ⌜ _≡_ {A = Buf} (now (out .exit), r)
-        (puts (now (out .entry), n) (lineText (lettersAt labels (drop 1 (now (table .entry)))) (itemsAt o) row)) ⌝ }
+        (puts (now (out .entry), n) (lineText (lettersAt labels (drop 1 (now (table .entry)))) (itemsAt o) (now (row .entry)))) ⌝ }
 {
     let mut i = o;
     let mut k = n;
-    let mut x = item(i);
+    let mut x = item(format, i);
     while x != 10 {
         k = put_item(table, labels, x, row, out, k);
         i += 1;
-        x = item(i);
+        x = item(format, i);
     }
     put_byte(out, k, 10)
 }

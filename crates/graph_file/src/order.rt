@@ -1,6 +1,5 @@
 // Refusal 6: the order pairs of a graph table, which follow its labels.
 use crate::rows::row_at;
-use crate::rows::value;
 ghost use mathlib.Core.Path.{_≡_};
 ghost use Prim.Native.Nat.{ℕ, _+_, _*_};
 ghost use lib.ListN.{drop};
@@ -19,7 +18,7 @@ fn pair_at(table: &[u64], labels: u32, i: u32) -> [u64; 5]
 fn same_ends(a: u64, b: u64, pair: [u64; 5]) -> bool
     ensures answer { λ r. ⌜ r ≡ sameEnds a b pair ⌝ }
 {
-    value(pair, 0) == a && value(pair, 1) == b
+    pair[0] == a && pair[1] == b
 }
 
 // Is there a pair with these ends?
@@ -40,7 +39,7 @@ fn has_pair(table: &[u64], labels: u32, pairs: u32, a: u64, b: u64) -> bool
 fn is_gap(table: &[u64], labels: u32, pairs: u32, a: u64, b: u64, pair: [u64; 5]) -> bool
     ensures answer { λ r. ⌜ r ≡ gap (pairsAt labels pairs (now (table .entry))) a b pair ⌝ }
 {
-    value(pair, 0) == b && !has_pair(table, labels, pairs, a, value(pair, 1))
+    pair[0] == b && !has_pair(table, labels, pairs, a, pair[1])
 }
 
 // Does a gap follow the pair a, b?
@@ -62,8 +61,8 @@ fn has_gap(table: &[u64], labels: u32, pairs: u32, a: u64, b: u64) -> bool
 fn is_fault(table: &[u64], labels: u32, pairs: u32, pair: [u64; 5]) -> bool
     ensures answer { λ r. ⌜ r ≡ pairFault (pairsAt labels pairs (now (table .entry))) pair ⌝ }
 {
-    let a = value(pair, 0);
-    let b = value(pair, 1);
+    let a = pair[0];
+    let b = pair[1];
     a == b || has_gap(table, labels, pairs, a, b)
 }
 

@@ -2,6 +2,7 @@
 use crate::admission::admitted;
 use crate::cells::copy_cells;
 use crate::cells::put_row;
+use crate::format::FORMAT;
 use crate::format::TEXT_BYTES;
 use crate::format::least;
 use crate::format::most;
@@ -11,7 +12,6 @@ use crate::line::read_line;
 use crate::order::order_fault;
 use crate::rows::Counts;
 use crate::rows::OWN_CELLS;
-use crate::rows::value;
 use text_field::Answer;
 use text_field::byte_at;
 use text_field::is_lower;
@@ -20,6 +20,7 @@ ghost use mathlib.Core.List.{List, [], _∷_};
 ghost use Prim.Native.Nat.{ℕ, suc, _+_, _*_, _<_, _≤_};
 ghost use lib.ListN.{length, drop};
 ghost use Rattle.graph_file.specs.Format.{sectionAt, form, tableCells, ownCells};
+ghost use Rattle.graph_file.specs.Table.{formatBytes};
 ghost use Rattle.graph_file.specs.File.{oneRow, throughRows, throughSection, throughSections, atStart, rowFollows, reading, readStage, readCells};
 ghost use Rattle.text_field.specs.Answer.{answer, leaves, answerOf};
 ghost use Rattle.graph_file.specs.Reader.{stageAt, partOutcome, Placed, RowTaken, RowsTaken, SectionTaken, countsAfter};
@@ -74,6 +75,7 @@ pub fn counts_after(k: usize, c: Counts, v: u64) -> Counts
 // One row of section k at a place of the section's part of the text, written after the table's
 // first n cells.
 fn read_row(
+    format: &[u8],
     k: usize,
     limit: usize,
     part: &[u8],
@@ -82,13 +84,14 @@ fn read_row(
     n: usize,
     c: Counts,
 ) -> Part
+    requires format { ⌜ now format ≡ formatBytes ⌝ }
     requires room { ⌜ (n + 6 ≤ length (now table)) × (n ≤ tableCells) × Placed k n c
         × (limit ≡ sectionAt k .most) ⌝ }
     ensures answer { λ r. ⌜ partOutcome r (now (table .exit)) (now (part .entry))
         ≡ oneRow reading k (stageAt (now (table .entry)) n c (drop at (now (part .entry)))) ⌝ }
     ensures taken { λ r. ⌜ (r .refusal ≡ 0 → RowTaken k n c (r .cells) (r .counts)) ⌝ }
 {
-    let l = read_line(table, c.labels, row_place(k), part, at);
+    let l = read_line(format, table, c.labels, row_place(k), part, at);
     if !l.ok {
         return Part {
             refusal: 2,
@@ -100,7 +103,7 @@ fn read_row(
     let row = l.row;
     let next = l.next;
     put_row(table, n, k as u64, row);
-    let a = admitted(k, limit, table, n, c);
+    let a = admitted(format, k, limit, table, n, c);
     if a != 0 {
         return Part {
             refusal: a,
@@ -109,7 +112,7 @@ fn read_row(
             counts: c,
         };
     }
-    let after = counts_after(k, c, value(row, 0));
+    let after = counts_after(k, c, row[0]);
     Part {
         refusal: 0,
         next: next,
@@ -130,6 +133,7 @@ fn row_comes(part: &[u8], at: usize) -> bool
 
 // The rows of section k from a place of the section's part of the text on.
 fn read_rows(
+    format: &[u8],
     k: usize,
     limit: usize,
     part: &[u8],
@@ -138,6 +142,7 @@ fn read_rows(
     n: usize,
     c: Counts,
 ) -> Part
+    requires format { ⌜ now format ≡ formatBytes ⌝ }
     requires room { ⌜ (n + 6 * suc (sectionAt k .most) ≤ length (now table))
         × (n + 6 * sectionAt k .most ≤ tableCells) × Placed k n c × (c .rows ≡ 0) × (limit ≡ sectionAt k .most) ⌝ }
     ensures answer { λ r. ⌜ partOutcome r (now (table .exit)) (now (part .entry))
@@ -150,7 +155,7 @@ fn read_rows(
     let mut d = c;
     let mut more = row_comes(part, place);
     while more {
-        let r = read_row(k, limit, part, place, table, m, d);
+        let r = read_row(format, k, limit, part, place, table, m, d);
         if r.refusal != 0 {
             return r;
         }
@@ -177,7 +182,15 @@ fn clipped(part: &[u8], at: usize) -> usize
 
 // Section k, of which the part of the text begins at the names line. Its limit is read from the
 // table of nine, once.
-fn read_section(k: usize, part: &[u8], table: &mut [u64], n: usize, c: Counts) -> Part
+fn read_section(
+    format: &[u8],
+    k: usize,
+    part: &[u8],
+    table: &mut [u64],
+    n: usize,
+    c: Counts,
+) -> Part
+    requires format { ⌜ now format ≡ formatBytes ⌝ }
     requires room { ⌜ (n + 6 * suc (sectionAt k .most) ≤ length (now table))
         × (n + 6 * sectionAt k .most ≤ tableCells) × Placed k n c ⌝ }
     ensures answer { λ r. ⌜ partOutcome r (now (table .exit)) (now (part .entry))
@@ -185,7 +198,7 @@ fn read_section(k: usize, part: &[u8], table: &mut [u64], n: usize, c: Counts) -
     ensures taken { λ r. ⌜ (r .refusal ≡ 0 → SectionTaken k n (length (now (part .entry))) r) ⌝ }
 {
     let limit = most(k);
-    let l = read_line(table, 0, names_place(k), part, 0);
+    let l = read_line(format, table, 0, names_place(k), part, 0);
     if !l.ok {
         return Part {
             refusal: 2,
@@ -200,7 +213,7 @@ fn read_section(k: usize, part: &[u8], table: &mut [u64], n: usize, c: Counts) -
         scopes: c.scopes,
         rows: 0,
     };
-    let r = read_rows(k, limit, part, l.next, table, n, begun);
+    let r = read_rows(format, k, limit, part, l.next, table, n, begun);
     if r.refusal != 0 {
         return r;
     }
@@ -222,7 +235,8 @@ fn read_section(k: usize, part: &[u8], table: &mut [u64], n: usize, c: Counts) -
 }
 
 // The nine sections, each handed the rest of the text from its start.
-fn read_sections(text: &[u8], table: &mut [u64]) -> Part
+fn read_sections(format: &[u8], text: &[u8], table: &mut [u64]) -> Part
+    requires format { ⌜ now format ≡ formatBytes ⌝ }
     requires room { ⌜ length (now table) ≡ ownCells ⌝ }
     ensures answer { λ r. ⌜ partOutcome r (now (table .exit)) (now (text .entry))
         ≡ throughSections reading 9 0 (atStart (form ∷ []) (now (text .entry))) ⌝ }
@@ -239,7 +253,7 @@ fn read_sections(text: &[u8], table: &mut [u64]) -> Part
         rows: 0,
     };
     while k < 9 {
-        let r = read_section(k, &text[at..], table, n, c);
+        let r = read_section(format, k, &text[at..], table, n, c);
         if r.refusal != 0 {
             return r;
         }
@@ -285,7 +299,8 @@ pub fn read_whole(text: &[u8], table: &mut [u64]) -> Part
             counts: none,
         };
     }
-    let r = read_sections(text, table);
+    let format = FORMAT;
+    let r = read_sections(&format, text, table);
     if r.refusal != 0 {
         return r;
     }

@@ -1,9 +1,9 @@
 // The rows of a graph table.
 use text_field::cell;
 ghost use mathlib.Core.Path.{_≡_};
-ghost use Prim.Native.Nat.{ℕ, _+_};
-ghost use lib.ListN.{getD, drop};
-ghost use Rattle.graph_file.specs.Admission.{rowOf};
+ghost use Prim.Native.Nat.{ℕ, _+_, _≤_};
+ghost use lib.ListN.{length, drop};
+ghost use Rattle.graph_file.specs.Admission.{rowOf, value};
 ghost use Rattle.graph_file.specs.Line.{place};
 ghost use Rattle.graph_file.specs.Table.{lettersAt};
 
@@ -14,6 +14,9 @@ pub const TABLE_CELLS: usize = 12271;
 // The reader's own table: the row past a limit needs six cells more while it is tested.
 pub const OWN_CELLS: usize = 12277;
 
+// The values of a row, which follow its section's number.
+const VALUES: usize = 5;
+
 // What has been counted of the rows so far: the labels, the order pairs, the scopes that the file
 // says it has, the rows of this section.
 pub struct Counts {
@@ -23,11 +26,13 @@ pub struct Counts {
     pub rows: u32,
 }
 
-// A row's value at a place.
-pub fn value(row: [u64; 5], c: usize) -> u64
-    ensures answer { λ r. ⌜ r ≡ getD row c 0 ⌝ }
+// The value at a place of the row whose section number stands at place p of the table, which holds
+// all of it.
+pub fn value_at(table: &[u64], p: usize, c: usize) -> u64
+    requires room { ⌜ p + 6 ≤ length (now table) ⌝ }
+    ensures answer { λ r. ⌜ r ≡ value (rowOf (drop p (now (table .entry)))) c ⌝ }
 {
-    if c < 5 { row[c] } else { 0 }
+    if c < VALUES { table[p + 1 + c] } else { 0 }
 }
 
 // The row whose section number stands at place p of the table.

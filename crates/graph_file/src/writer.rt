@@ -1,5 +1,7 @@
 // A graph table written as the file's text, section by section.
 use crate::admission::admitted;
+use crate::cells::copy_bytes;
+use crate::format::FORMAT;
 use crate::format::TEXT_BYTES;
 use crate::format::least;
 use crate::format::most;
@@ -12,21 +14,19 @@ use crate::reader::Part;
 use crate::reader::counts_after;
 use crate::rows::Counts;
 use crate::rows::row_at;
-use crate::rows::value;
 use text_field::Answer;
 use text_field::cell;
-use text_field::put_bytes;
 ghost use mathlib.Core.Path.{_≡_};
 ghost use mathlib.Core.List.{[]};
 ghost use Prim.Native.Nat.{suc, _+_, _*_, _≤_};
 ghost use lib.ListN.{length, drop};
 ghost use Rattle.graph_file.specs.Format.{sectionAt, tableCells, textBytes};
 ghost use Rattle.graph_file.specs.Admission.{nothing};
-ghost use Rattle.graph_file.specs.Table.{itemsAt, sofarAt};
+ghost use Rattle.graph_file.specs.Table.{formatBytes, sofarAt};
 ghost use Rattle.graph_file.specs.File.{oneRow, throughRows, throughSection, throughSections, whole, cellsFollow, hasForm, writing, writeText};
 ghost use Rattle.text_field.specs.Answer.{answer, leaves, answerOf};
 ghost use Rattle.graph_file.specs.Reader.{Placed, RowTaken, RowsTaken};
-ghost use Rattle.graph_file.specs.Writer.{rowFormed, stageFrom, pour, partWritten, countsBegun};
+ghost use Rattle.graph_file.specs.Writer.{stageFrom, pour, partWritten, countsBegun};
 
 // Does a row of section k stand at place p?
 fn row_comes(k: usize, table: &[u64], p: usize) -> bool
@@ -38,19 +38,9 @@ fn row_comes(k: usize, table: &[u64], p: usize) -> bool
     cell(table, p, 0) == k as u64
 }
 
-// Do six cells stand at place p, and can they be written by the items at a place of the format?
-fn row_formed(o: usize, table: &[u64], p: usize) -> bool
-    requires room { ⌜ p ≤ tableCells ⌝ }
-    ensures answer { λ r. ⌜ r ≡ rowFormed (itemsAt o) (drop p (now (table .entry))) ⌝ }
-{
-    if table.len() < p + 6 {
-        return false;
-    }
-    is_formed(o, row_at(table, p))
-}
-
 // The row at place p as a row of section k, its line put into the text at place n.
 fn write_row(
+    format: &[u8],
     k: usize,
     limit: usize,
     table: &[u64],
@@ -59,14 +49,14 @@ fn write_row(
     out: &mut [u8],
     n: usize,
 ) -> Part
+    requires format { ⌜ now format ≡ formatBytes ⌝ }
     requires room { ⌜ (p ≤ tableCells) × Placed k p c × (limit ≡ sectionAt k .most) ⌝ }
     ensures answer { λ r. ⌜ partWritten r (now (table .entry)) (now (out .exit))
         ≡ pour (now (out .entry), n)
         (oneRow writing k (stageFrom (sofarAt (now (table .entry)) p c) (drop p (now (table .entry))))) ⌝ }
     ensures taken { λ r. ⌜ (r .refusal ≡ 0 → RowTaken k p c (r .cells) (r .counts)) ⌝ }
 {
-    let o = row_place(k);
-    if !row_formed(o, table, p) {
+    if table.len() < p + 6 {
         return Part {
             refusal: 2,
             next: n,
@@ -74,7 +64,16 @@ fn write_row(
             counts: c,
         };
     }
-    let a = admitted(k, limit, table, p, c);
+    let row = row_at(table, p);
+    if !is_formed(format, k, &row) {
+        return Part {
+            refusal: 2,
+            next: n,
+            cells: p,
+            counts: c,
+        };
+    }
+    let a = admitted(format, k, limit, table, p, c);
     if a != 0 {
         return Part {
             refusal: a,
@@ -83,9 +82,8 @@ fn write_row(
             counts: c,
         };
     }
-    let row = row_at(table, p);
-    let next = put_line(table, c.labels, o, row, out, n);
-    let after = counts_after(k, c, value(row, 0));
+    let next = put_line(format, table, c.labels, row_place(k), &row, out, n);
+    let after = counts_after(k, c, row[0]);
     Part {
         refusal: 0,
         next: next,
@@ -96,6 +94,7 @@ fn write_row(
 
 // The rows of section k from place p on.
 fn write_rows(
+    format: &[u8],
     k: usize,
     limit: usize,
     table: &[u64],
@@ -104,6 +103,7 @@ fn write_rows(
     out: &mut [u8],
     n: usize,
 ) -> Part
+    requires format { ⌜ now format ≡ formatBytes ⌝ }
     requires room { ⌜ (p + 6 * sectionAt k .most ≤ tableCells) × Placed k p c × (c .rows ≡ 0)
         × (limit ≡ sectionAt k .most) ⌝ }
     ensures answer { λ r. ⌜ partWritten r (now (table .entry)) (now (out .exit))
@@ -117,7 +117,7 @@ fn write_rows(
     let mut d = c;
     let mut more = row_comes(k, table, m);
     while more {
-        let r = write_row(k, limit, table, m, d, out, next);
+        let r = write_row(format, k, limit, table, m, d, out, next);
         if r.refusal != 0 {
             return r;
         }
@@ -147,7 +147,16 @@ fn counts_begun(c: Counts) -> Counts
 }
 
 // Section k from place p on: its names line, its rows, and that they are enough.
-fn write_section(k: usize, table: &[u64], p: usize, c: Counts, out: &mut [u8], n: usize) -> Part
+fn write_section(
+    format: &[u8],
+    k: usize,
+    table: &[u64],
+    p: usize,
+    c: Counts,
+    out: &mut [u8],
+    n: usize,
+) -> Part
+    requires format { ⌜ now format ≡ formatBytes ⌝ }
     requires room { ⌜ (p + 6 * sectionAt k .most ≤ tableCells) × Placed k p c ⌝ }
     ensures answer { λ r. ⌜ partWritten r (now (table .entry)) (now (out .exit))
         ≡ pour (now (out .entry), n)
@@ -155,9 +164,10 @@ fn write_section(k: usize, table: &[u64], p: usize, c: Counts, out: &mut [u8], n
     ensures taken { λ r. ⌜ (r .refusal ≡ 0 → RowsTaken k p (r .cells) (r .counts)) ⌝ }
 {
     let limit = most(k);
-    let at = put_line(table, 0, names_place(k), [0; 5], out, n);
+    let none = [0u64; 5];
+    let at = put_line(format, table, 0, names_place(k), &none, out, n);
     let d = counts_begun(c);
-    let r = write_rows(k, limit, table, p, d, out, at);
+    let r = write_rows(format, k, limit, table, p, d, out, at);
     if r.refusal != 0 {
         return r;
     }
@@ -174,7 +184,8 @@ fn write_section(k: usize, table: &[u64], p: usize, c: Counts, out: &mut [u8], n
 }
 
 // The nine sections in turn, after which nothing may be left.
-fn write_sections(table: &[u64], out: &mut [u8]) -> Part
+fn write_sections(format: &[u8], table: &[u64], out: &mut [u8]) -> Part
+    requires format { ⌜ now format ≡ formatBytes ⌝ }
     ensures answer { λ r. ⌜ partWritten r (now (table .entry)) (now (out .exit))
         ≡ pour (now (out .entry), 0)
         (throughSections writing 9 0 (stageFrom nothing (drop 1 (now (table .entry))))) ⌝ }
@@ -189,7 +200,7 @@ fn write_sections(table: &[u64], out: &mut [u8]) -> Part
         rows: 0,
     };
     while k < 9 {
-        let r = write_section(k, table, p, c, out, n);
+        let r = write_section(format, k, table, p, c, out, n);
         if r.refusal != 0 {
             return r;
         }
@@ -219,7 +230,8 @@ fn write_graph(table: &[u64], out: &mut [u8]) -> Part
     ensures answer { λ r. ⌜ partWritten r (now (table .entry)) (now (out .exit))
         ≡ pour (now (out .entry), 0) (whole writing [] (drop 1 (now (table .entry)))) ⌝ }
 {
-    let r = write_sections(table, out);
+    let format = FORMAT;
+    let r = write_sections(&format, table, out);
     if r.refusal != 0 {
         return r;
     }
@@ -262,7 +274,7 @@ fn write_by(table: &[u64], text: &mut [u8], out: &mut [u8]) -> Answer
     if out.len() < n {
         return Answer::Refused(9);
     }
-    put_bytes(out, 0, &text[..n]);
+    copy_bytes(text, n, out);
     Answer::Written(n)
 }
 

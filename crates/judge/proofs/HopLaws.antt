@@ -1,144 +1,141 @@
--- Laws of one step of a path row: rows looked through one by one, edges that leave a scope, the state after a hop, the ends that are cut. Assumes nothing.
+-- Laws of one step of a path row: edges that leave a scope, the state after a hop, the node behind
+-- it. Assumes nothing.
 use mathlib.Core.Path.{_≡_, refl, sym, ap, _∙_}
-use mathlib.Core.Bool.{Bool, true, false, not, _&&_, _||_, and-false, and-true}
-use mathlib.Core.List.{List, [], _∷_, map}
-use Prim.Native.Nat.{ℕ, zero, suc, _+_, _-_, _≤_, _<_}
+use mathlib.Core.Bool.{Bool, true, false, not, _&&_}
+use mathlib.Core.Logic.{_⊎_, inl, inr}
+use mathlib.Core.List.{List}
+use Prim.Native.Nat.{ℕ, suc, _+_, _-_, _/_, _%_, _≤_, _<_}
 use native.Mathlib.Omega.{arith}
 use native.Mathlib.Numerals.{add-one}
-use borrow.Author.Tests.{eq-eqb, ne-eqb}
-use lib.Dec.{eqb}
-use lib.ListN.{length, getD, drop, replicate, drop-of-length-le}
-use lib.Seq.{drop-cons}
-use Rattle.scope_graph.specs.Language.{End, stop, by}
-use Rattle.scope_graph.specs.Order.{endOf}
+use borrow.Author.Tests.{eq-eqb, ne-eqb, ltb-true, ltb-false}
+use lib.Dec.{eqb, ltb}
 use Rattle.scope_graph.specs.Path.{HopOf}
 use Rattle.scope_graph.specs.Rows.{anyOf}
-use Rattle.graph_file.specs.Admission.{Row, value, blank}
-use Rattle.search.specs.Board.{Board, cutHere, cutAlong}
-use Rattle.search.specs.Tables.{nextCell, freeFlag, endNumber, tableOrder}
-use Rattle.edge_rows.specs.Rows.{hopTo, rowHops, nextRow}
-use Rattle.edge_rows.proofs.Laws.{next-row}
-use Rattle.search.specs.Steps.{Known}
-use Rattle.search.proofs.RulesLists.{anyOf-no}
-use Rattle.search.proofs.Cells.{pair-no-second}
-use Rattle.search.proofs.CutEnds.{known-nothing}
-use Rattle.judge.specs.Steps.{rowIs, hasRow, hasHop, stateOn, stateAlong}
+use Rattle.scope_graph.proofs.Lists.{Two}
+use Rattle.block.specs.Sets.{hasScope}
+use Rattle.block.specs.Block.{nextCell, scopesCell, firstEdge, edgeCell, hopOf, hopsOn, blockHops}
+use Rattle.block.proofs.SetLaws.{scope-past, scope-below, scopes-all}
+use Rattle.block.proofs.BlockLaws.{next-no-label, on-none, on-more, blockHops-in}
+use Rattle.search.specs.declared.Node.{Node}
+use Rattle.search.specs.Board.{without}
+use Rattle.search.specs.Conditions.{Inside, freeAt}
+use Rattle.search.proofs.Leads.{taken-is, live-taken}
+use Rattle.judge.specs.Steps.{hopTo, sameHop, hasHop, stateOn, stateAlong, Begins, Behind, Ready}
 
--- nothing is known of ends whose bytes are all 0
-pub known-none : (b : Board ℕ) (fuel : ℕ) (free : ℕ → Bool) (s q : ℕ) (known : List ℕ) → known ≡ replicate 9 0 → Known b fuel free s q known
-known-none b fuel free s q known is = rw is (known-nothing b fuel free s q)
+-- an edge's hop
+module _ (x l t : ℕ) where
+  pub same-not : (x / 64 % 8 ≡ l → ⊥) → false ≡ sameHop (hopTo l t) (hopOf x)
+  unfolding sameHop hopOf
+  same-not h = rw (ne-eqb (x / 64 % 8) l h)
 
--- a row's values one by one
-module _ (a b c d : ℕ) (row : Row) (v0 : ℕ) (e0 : v0 ≡ value row 0) where
-  pub row-apart : (v0 ≡ a → ⊥) → false ≡ rowIs a b c d row
-  unfolding rowIs
-  row-apart h = rw (← e0, ne-eqb v0 a h)
+  pub same-rest : x / 64 % 8 ≡ l → eqb (x % 64) t ≡ sameHop (hopTo l t) (hopOf x)
+  unfolding sameHop hopOf
+  same-rest h = rw (eq-eqb (x / 64 % 8) l h)
 
-  module _ (h : v0 ≡ a) (v1 : ℕ) (e1 : v1 ≡ value row 1) where
-    pub row-apart-1 : (v1 ≡ b → ⊥) → false ≡ rowIs a b c d row
-    unfolding rowIs
-    row-apart-1 k = rw (← e0, eq-eqb v0 a h, ← e1, ne-eqb v1 b k)
+-- the edges of a scope from number p on
+module _ (block : List ℕ) (s : ℕ) (h : HopOf ℕ) where
+  abbrev pub hopLeft : ℕ → Bool
+  hopLeft p = hasHop h (hopsOn block s p)
 
-    module _ (k : v1 ≡ b) (v2 : ℕ) (e2 : v2 ≡ value row 2) where
-      pub row-apart-2 : (v2 ≡ c → ⊥) → false ≡ rowIs a b c d row
-      unfolding rowIs
-      row-apart-2 m = rw (← e0, eq-eqb v0 a h, ← e1, eq-eqb v1 b k, ← e2, ne-eqb v2 c m)
+  pub hop-all : s < 64 → hasHop h (blockHops block s) ≡ hopLeft (firstEdge block s)
+  hop-all k = ap (hasHop h) (blockHops-in block s k)
 
-      module _ (m : v2 ≡ c) where
-        pub row-four : (v3 : ℕ) → v3 ≡ value row 3 → eqb d v3 ≡ rowIs a b c d row
-        unfolding rowIs
-        row-four v3 e3 = rw (← e0, eq-eqb v0 a h, ← e1, eq-eqb v1 b k, ← e2, eq-eqb v2 c m, ← e3)
-
--- rows from place i on
-module _ (a b c d : ℕ) (rows : List Row) (i : ℕ) where
-  abbrev pub has : ℕ → Bool
-  has k = hasRow a b c d (drop k rows)
-
-  pub has-none : length rows ≤ i → has i ≡ false
-  unfolding hasRow anyOf
-  has-none h = rw (drop-of-length-le rows {i = i} h)
-
-  module _ (h : i < length rows) (t : Bool) (e : t ≡ rowIs a b c d (getD rows i blank)) where
-    pub has-here : t ≡ true → has i ≡ true
-    unfolding hasRow anyOf
-    has-here f = rw (drop-cons rows i blank h, ← e, f, anyOf)
-
-    pub has-on : t ≡ false → has i ≡ has (i + 1)
-    unfolding hasRow anyOf
-    has-on f = rw (drop-cons rows i blank h, ← e, f, anyOf, add-one i)
-
--- two hops
-pub same-not : (label l to t : ℕ) → (label ≡ l → ⊥) → false ≡ (eqb label l && eqb to t)
-same-not label l to t h = rw (ne-eqb label l h)
-
-pub same-rest : (label l to t : ℕ) → label ≡ l → eqb to t ≡ (eqb label l && eqb to t)
-same-rest label l to t h = rw (eq-eqb label l h)
-
--- the edges from cell p on, of which the next one stands at `at`
-module _ (edges : List ℕ) (s : ℕ) (h : HopOf ℕ) (p at : ℕ) (next : at ≡ nextRow edges s p) where
-  abbrev left : ℕ → Bool
-  left k = hasHop h (rowHops (drop k edges) s)
-
-  pub hop-none : length edges ≤ at → left p ≡ false
-  unfolding hasHop anyOf
-  hop-none k = ap (hasHop h) (next-row next .none k)
-
-  module _ (inside : at < length edges) (u : Bool) (e : u ≡ (eqb (getD edges (at + 2) 0) (h .step) && eqb (getD edges (at + 3) 0) (h .to))) where
-    pub hop-here : u ≡ true → left p ≡ true
+  module _ (p : ℕ) where
+    pub hop-none : firstEdge block (suc s) ≤ p → hopLeft p ≡ false
     unfolding hasHop anyOf
-    hop-here k = ap (hasHop h) (next-row next .hops inside) ∙ rw (sym e ∙ k, anyOf)
+    hop-none k = ap (hasHop h) (on-none block s p k)
 
-    pub hop-on : u ≡ false → left p ≡ left (at + 6)
-    unfolding hasHop anyOf
-    hop-on k = ap (hasHop h) (next-row next .hops inside) ∙ rw (sym e ∙ k, anyOf)
+    module _ (inside : p < firstEdge block (suc s)) (x : ℕ) (is : x ≡ edgeCell block p) (u : Bool)
+        (e : u ≡ sameHop h (hopOf x)) where
+      split : hopLeft p ≡ (elim u as (λ _. Bool) [ true ↦ true | false ↦ hopLeft (suc p) ])
+      unfolding hasHop anyOf
+      split = ap (hasHop h) (on-more block s p inside) ∙ rw (e, is)
+
+      pub hop-here : u ≡ true → hopLeft p ≡ true
+      hop-here k = split ∙ rw k
+
+      pub hop-on : u ≡ false → hopLeft p ≡ hopLeft (p + 1)
+      hop-on k = split ∙ rw (k, add-one p)
 
 -- the state after a hop
-module _ (delta free : List ℕ) (q l t : ℕ) where
-  pub on-taken : freeFlag free t ≡ false → stateOn delta free q (hopTo l t) ≡ 16
+module _ (block : List ℕ) (n : Node) (l t : ℕ) where
+  pub on-taken : hasScope (n .free) t ≡ false → stateOn block n (hopTo l t) ≡ 16
   unfolding stateOn
   on-taken h = rw (h, stateOn)
 
-  pub on-free : freeFlag free t ≡ true → stateOn delta free q (hopTo l t) ≡ nextCell delta q l
+  pub on-past : 64 ≤ t → stateOn block n (hopTo l t) ≡ 16
+  on-past h = on-taken (scope-past (n .free) t h)
+
+  pub on-free : hasScope (n .free) t ≡ true → stateOn block n (hopTo l t) ≡ nextCell block (n .state) l
   unfolding stateOn
   on-free h = rw (h, stateOn)
 
-  module _ (edges : List ℕ) (s : ℕ) (u : Bool) (e : u ≡ hasHop (hopTo l t) (rowHops edges s)) where
-    pub along-none : u ≡ false → stateAlong edges delta free s q (hopTo l t) ≡ 16
+  pub on-no-label : hasScope (n .free) t ≡ true → 8 ≤ l → stateOn block n (hopTo l t) ≡ 16
+  on-no-label h k = on-free h ∙ next-no-label block (n .state) l k
+
+  -- a hop is entered to a scope of the tables only
+  pub on-inside : stateOn block n (hopTo l t) < 16 → t < 64
+  on-inside h = at (Two (hasScope (n .free) t))
+    where
+      at : (hasScope (n .free) t ≡ true) ⊎ (hasScope (n .free) t ≡ false) → t < 64
+      at (inl e) = scope-below (n .free) t e
+      at (inr e) = absurd (omega (arith, on-taken e))
+
+  pub on-small : (r : ℕ) → r ≡ stateOn block n (hopTo l t) → r < 16 → t < 64
+  on-small r e h = on-inside (omega arith)
+
+  module _ (u : Bool) (e : u ≡ hasHop (hopTo l t) (blockHops block (n .scope))) where
+    pub along-none : u ≡ false → stateAlong block n (hopTo l t) ≡ 16
     unfolding stateAlong
     along-none h = rw (sym e ∙ h, stateAlong)
 
-    pub along-edge : u ≡ true → stateAlong edges delta free s q (hopTo l t) ≡ stateOn delta free q (hopTo l t)
+    pub along-edge : u ≡ true → stateAlong block n (hopTo l t) ≡ stateOn block n (hopTo l t)
     unfolding stateAlong
     along-edge h = rw (sym e ∙ h, stateAlong)
 
--- an end that is cut here
-module _ (b : Board ℕ) (order : List ℕ) (free : ℕ → Bool) (s q : ℕ) where
-  end-never : (c : ℕ) → 9 ≤ c → (x : End ℕ) → tableOrder order x (endOf c) ≡ false
-  unfolding tableOrder endNumber endOf
-  end-never zero h x = absurd (omega arith)
-  end-never (suc c) h x = pair-no-second order (endNumber x) (suc c) h
+  pub along-small : (r : ℕ) → r ≡ stateAlong block n (hopTo l t) → r < 16 → t < 64
+  along-small r k h = at (Two (hasHop (hopTo l t) (blockHops block (n .scope))))
+    where
+      at : (hasHop (hopTo l t) (blockHops block (n .scope)) ≡ true) ⊎ (hasHop (hopTo l t) (blockHops block (n .scope)) ≡ false) → t < 64
+      at (inl e) = on-inside (omega (arith, along-edge _ refl e))
+      at (inr e) = absurd (omega (arith, along-none _ refl e))
 
-  pub cut-no-fuel : (fuel : ℕ) (hs : List (HopOf ℕ)) (e : End ℕ) → fuel ≡ 0 → cutAlong b (tableOrder order) fuel free s q hs e ≡ false
-  unfolding cutAlong
-  cut-no-fuel fuel hs e h = rw h
+-- where a query's paths begin: all scopes but the start are free
+all-scopes : (t : ℕ) → hasScope 18446744073709551615 t ≡ ltb t 64
+all-scopes t = at (Two (ltb t 64))
+  where
+    at : (ltb t 64 ≡ true) ⊎ (ltb t 64 ≡ false) → hasScope 18446744073709551615 t ≡ ltb t 64
+    at (inl e) = scopes-all t (ltb-true t 64 e) ∙ sym e
+    at (inr e) = scope-past 18446744073709551615 t (ltb-false t 64 e) ∙ sym e
 
-  pub cut-no-end : (fuel c : ℕ) → 9 ≤ c → cutAlong b (tableOrder order) fuel free s q [] (endOf c) ≡ false
-  unfolding cutAlong cutHere
-  cut-no-end zero c h = refl
-  cut-no-end (suc fuel) c h = rw (end-never c h stop, and-false (b .here s q)) (anyOf-no _ (b .hops s) (λ y m. rw (end-never c h (by (y .step)))))
+pub begins-is : (block : List ℕ) (start scopes : ℕ) (n : Node) → scopes ≡ scopesCell block → start < scopesCell block
+    → ((t : ℕ) → hasScope (n .free) t ≡ (hasScope 18446744073709551615 t && not (eqb t start)))
+    → n .left ≡ scopes - 1 → n .scope ≡ start → n .state ≡ 0 → Begins block start n
+unfolding freeAt without
+begins-is block start scopes n is h f l s q = record {
+  free = λ t. f t ∙ rw (all-scopes t);
+  left-is = omega arith;
+  scope = s;
+  state = q;
+}
 
-  pub cut-no-label : (fuel l : ℕ) → 8 ≤ l → cutAlong b (tableOrder order) fuel free s q [] (by l) ≡ false
-  unfolding endOf
-  cut-no-label fuel l h = cut-no-end fuel (suc l) (omega arith)
+pub begins-inside : (block : List ℕ) (start : ℕ) (n : Node) → Begins block start n → start < 64 → Inside n
+begins-inside block start n b h = record { scope = omega (arith, b .scope); state = omega (arith, b .state) }
 
-  pub cut-label : (fuel l : ℕ) → cutAlong b (tableOrder order) fuel free s q [] (endOf (l + 1)) ≡ cutAlong b (tableOrder order) fuel free s q [] (by l)
-  unfolding endOf
-  cut-label fuel l = rw (add-one l)
+-- the node behind a hop
+module _ (n m : Node) (to r left : ℕ) (b : Behind n to r left m) where
+  pub free-is : hasScope (m .free) ≡ without (hasScope (n .free)) to
+  free-is = taken-is (n .free) to (m .free) (b .free)
 
-  -- what is learnt of an end with the fuel of its hops
-  pub cut-told : (fuel c : ℕ) → (fuel ≡ 0 → ⊥)
-      → cutHere b (tableOrder order) (fuel - 1) free s q (endOf c) ≡ cutAlong b (tableOrder order) fuel free s q [] (endOf c)
-  unfolding cutAlong
-  cut-told fuel c h =
-      let one : fuel ≡ suc (fuel - 1) = omega arith in
-      ap (λ (n : ℕ). cutAlong b (tableOrder order) n free s q [] (endOf c)) (sym one)
+  pub behind-inside : to < 64 → r < 16 → Inside m
+  behind-inside h k = record { scope = omega (arith, b .scope); state = omega (arith, b .state) }
+
+  -- a closed table stays closed with fewer free scopes
+  pub behind-ready : (block : List ℕ) (goal : ℕ) (live : List ℕ) → Ready block goal live n → to < 64 → r < 16 → Ready block goal live m
+  behind-ready block goal live y h k = record {
+    size = y .size;
+    still = y .still;
+    table = y .table;
+    inside = behind-inside h k;
+    closed = live-taken block goal (n .free) to (m .free) (b .free) live (y .closed);
+  }

@@ -17,7 +17,7 @@ use Rattle.path_row.specs.Form.{PathRow, rowHere, stepsIn}
 use Rattle.path_row.specs.Compare.{stepsLeft}
 use Rattle.path_row.specs.Lent.{filled, stepsDue}
 use Rattle.path_row.proofs.LentLaws.{Fills, fills-none, fills-all}
-use Rattle.resolution.specs.Listing.{queryAt}
+use Rattle.board.specs.Queries.{queryAt}
 use Rattle.judge.specs.declared.standing.Judged.{Judged}
 use Rattle.judge.specs.declared.standing.Judged.the-variants.{Visible, Shadowed, Unreached, Refused}
 use Rattle.judge.specs.Judge.{meaning, ruled, judgeOf, judgeAnswer}

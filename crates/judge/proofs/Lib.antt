@@ -1,6 +1,8 @@
--- What the proofs of several functions use, and the theorem that ties the judge to the rules. Assumes nothing.
+-- What the proofs of several functions use, and the theorems of this crate. Assumes nothing.
 pub mod HopLaws
+pub mod MarkLaws
 pub mod WalkLaws
+pub mod CutLaws
 pub mod Tied
 pub mod Calls
 pub mod Right

@@ -9,7 +9,7 @@ use borrow.Author.Tests.{le-leb}
 use lib.Dec.{leb}
 use lib.ListN.{length, getD, length-map}
 use Rattle.scope_graph.specs.Language.{_∈_, Language}
-use Rattle.scope_graph.specs.Graph.{Graph, InRange, Query}
+use Rattle.scope_graph.specs.Graph.{Graph, InRange}
 use Rattle.scope_graph.specs.Path.{Distinct, HopOf, Hop, Along, tos, Entry}
 use Rattle.scope_graph.specs.Path.{PathRow as RulesRow}
 use Rattle.scope_graph.specs.Rows.{language}
@@ -23,19 +23,19 @@ use Rattle.graph_file.specs.Format.{labelSection}
 use Rattle.text_field.specs.Outcome.{done}
 use Rattle.graph_file.specs.Admission.{Row, value}
 use Rattle.graph_file.specs.File.{readCells}
-use Rattle.graph_file.specs.Decode.{rowsIn, rulesOf, graphOf, queriesOf, lettersOf, scopesOf}
+use Rattle.graph_file.specs.Decode.{rowsIn, rulesOf, graphOf, queriesOf, lettersOf}
 use Rattle.graph_file.specs.Accepted.{AcceptedTable}
 use Rattle.graph_file.proofs.DecodeAccepted.{read-accepted}
 use Rattle.path_row.specs.declared.form.Step.{Step}
-use Rattle.path_row.specs.Form.{PathRow, mostMark, mostScope, mostSteps, rowHere, stepsText, rowText, areSteps, isRow}
+use Rattle.path_row.specs.Form.{PathRow, mostMark, mostScope, mostSteps, stepsText, rowText, areSteps, isRow}
 use Rattle.path_row.specs.Compare.{labelNumber, hopOf, pathOf}
 use Rattle.path_row.proofs.FormLaws.{written-then-read}
 use Rattle.path_row.proofs.NumberingLaws.{number-within}
 use Rattle.follow.specs.Text.{letterOf, hopsText}
 use Rattle.follow.specs.Text.{rowText as shownRow}
-use Rattle.resolution.specs.Listing.{queryAt}
-use Rattle.resolution.proofs.Demand.{getD-in}
-use Rattle.resolution.proofs.Capitals.{capitals}
+use Rattle.board.specs.Queries.{queryAt}
+use Rattle.board.proofs.Queries.{getD-in}
+use Rattle.board.proofs.Capitals.{capitals}
 use Rattle.judge.specs.Judge.{ruled, judgeAnswer}
 use Rattle.judge.specs.Listed.{ListedVisible}
 use Rattle.judge.proofs.Right.{judged-right}

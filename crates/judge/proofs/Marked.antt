@@ -1,17 +1,22 @@
--- Document 01's M10 by the judge (specs/Marked): computed on what the example's text is read as. Assumes nothing.
+-- Document 01's M10 by the judge (specs/Marked): computed on what the example's text is read as.
+-- Assumes nothing.
 use mathlib.Core.Path.{_≡_, refl, ap, _∙_}
-use mathlib.Core.List.{List, [], _∷_}
+use mathlib.Core.List.{List, [], _∷_, flatMap}
 use Prim.Native.Nat.{ℕ}
-use Rattle.scope_graph.specs.Computed.{Standing, is-visible, is-shadowed, is-unreached, judged}
+use Rattle.scope_graph.specs.Rows.{sameEnd, sameName, anyOf, preferredBy, nextBy}
+use Rattle.scope_graph.specs.Order.{endOf}
+use Rattle.scope_graph.specs.Computed.{Standing, is-visible, is-shadowed, is-unreached, keep, hopsAt, marksAt, declaresAny, behind, hopOn, nodesFrom, leadsOn, sameHop, sameHops, preferredTo, nodes, reachedNodes, cut, isReached, standing, judged}
 use Rattle.text_field.specs.Bytes.{within, isDigit, isCapital}
 use Rattle.text_field.specs.Number.{growing, digitsFrom, numberHere, numberPlaced, numberMeaning}
 use Rattle.text_field.specs.Outcome.{Outcome, done, andThen, refuseIf}
 use Rattle.graph_file.specs.File.{isEmpty}
+use Rattle.graph_file.specs.Decode.{keptIf, rowsAmong, rowsIn, lettersOf, orderPairOf, transitionOf, rulesOf, nameAt, edgeOf, declarationOf, queryOf, scopesOf, graphOf, queriesOf}
 use Rattle.graph_file.specs.Line.{startsWith}
 use Rattle.path_row.specs.Form.{atMost, numberUpTo, stepBy, stepHere, stepsOf, afterSteps, startBy, spaceBy, markBy, headHere, rowBy, rowHere}
 use Rattle.path_row.specs.Compare.{numberFrom, labelNumber, hopOf, pathOf}
-use Rattle.resolution.specs.Marked.{exampleText}
-use Rattle.resolution.proofs.Marked.{answers, exampleCells, example-read}
+use Rattle.board.specs.Queries.{queryAt}
+use Rattle.board.specs.Example.{exampleText}
+use Rattle.board.proofs.Example.{exampleCells, example-read}
 use Rattle.judge.specs.Judge.{ruled, judgeOf, judgeAnswer}
 use Rattle.judge.specs.Marked.{M10}
 
@@ -19,6 +24,11 @@ use Rattle.judge.specs.Marked.{M10}
 of-table : (row : List ℕ) (s : Standing) → judgeOf exampleCells 0 row 63 ≡ done s → judgeAnswer exampleText 0 row 63 ≡ done s
 unfolding judgeAnswer andThen
 of-table row s e = ap (λ (o : Outcome (List ℕ)). andThen o (λ cells. judgeOf cells 0 row 63)) example-read ∙ e
+
+-- what a standing computes with
+answers : Unit {0}
+unfolding flatMap sameEnd sameName anyOf preferredBy nextBy keep hopsAt marksAt declaresAny behind hopOn nodesFrom leadsOn sameHop sameHops preferredTo nodes reachedNodes cut isReached standing judged endOf keptIf rowsAmong rowsIn lettersOf orderPairOf transitionOf rulesOf nameAt edgeOf declarationOf queryOf scopesOf graphOf queriesOf queryAt
+answers = tt
 
 pub m10 : M10
 unfolding answers within isDigit isCapital growing digitsFrom numberHere numberPlaced numberMeaning andThen refuseIf isEmpty startsWith atMost numberUpTo stepBy stepHere stepsOf afterSteps startBy spaceBy markBy headHere rowBy rowHere numberFrom labelNumber hopOf pathOf judged ruled judgeOf

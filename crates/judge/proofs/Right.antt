@@ -1,4 +1,5 @@
--- The judge's answer is the row's standing by the rules, and the only one (specs/Standing). Assumes nothing.
+-- The judge's answer is the row's standing by the rules, and the only one (specs/Standing). Assumes
+-- nothing.
 use mathlib.Core.Path.{_≡_, refl, sym, ap, _∙_}
 use mathlib.Core.Logic.{_↔_}
 use mathlib.Core.List.{List}
@@ -7,18 +8,16 @@ use borrow.Author.Tests.{lt-leb, le-ltb}
 use lib.ListN.{length}
 use Rattle.scope_graph.specs.Language.{Language}
 use Rattle.scope_graph.specs.Graph.{Graph, Query}
-use Rattle.scope_graph.specs.Path.{PathRow as RulesRow}
 use Rattle.scope_graph.specs.Rows.{language}
 use Rattle.scope_graph.specs.Computed.{Standing, is-visible, is-shadowed, is-unreached, judged}
 use Rattle.scope_graph.specs.Promises.{QueryPromises}
 use Rattle.scope_graph.proofs.Promises.{promises}
-use Rattle.text_field.specs.Outcome.{Outcome, refused, done, andThen, refuseIf}
+use Rattle.text_field.specs.Outcome.{Outcome, done, andThen, refuseIf}
 use Rattle.graph_file.specs.File.{readCells}
 use Rattle.graph_file.specs.Decode.{rulesOf, graphOf, opensOf, queriesOf, scopesOf}
 use Rattle.path_row.specs.Form.{PathRow, rowHere}
-use Rattle.resolution.specs.Listing.{queryAt}
-use Rattle.resolution.proofs.Demand.{getD-in}
-use Rattle.resolution.proofs.Given.{accepted}
+use Rattle.board.specs.Queries.{queryAt}
+use Rattle.board.proofs.Queries.{getD-in, accepted}
 use Rattle.judge.specs.Judge.{ruled, judgeOf, judgeAnswer}
 use Rattle.judge.specs.Standing.{Stands, JudgedRight}
 

@@ -1,12 +1,13 @@
--- What the search's tables say of a path row is what the rules say: its standing for a query of a table that was read. Assumes nothing.
-use mathlib.Core.Path.{_≡_, refl, sym, ap, _∙_}
-use mathlib.Core.Bool.{Bool, true, false, not, _&&_, _||_}
+-- What the board says of a path row is what the rules say: its standing for a query of a table that
+-- was read. Assumes nothing.
+use mathlib.Core.Path.{_≡_, refl, sym, ap, _∙_, fun-ext, subst}
+use mathlib.Core.Bool.{Bool, true, false, _&&_}
 use mathlib.Core.List.{List, [], _∷_, map}
 use Prim.Native.Nat.{ℕ, _<_}
 use native.Mathlib.Omega.{arith}
-use borrow.Author.Tests.{eq-eqb, ne-eqb}
-use lib.Dec.{eqb}
-use lib.ListN.{getD, set, drop, replicate}
+use borrow.Author.Tests.{eq-eqb, ne-eqb, lt-ltb}
+use lib.Dec.{eqb, ltb}
+use lib.ListN.{getD, drop}
 use Rattle.scope_graph.specs.Language.{stop, Language, Laws}
 use Rattle.scope_graph.specs.Graph.{Declaration, Graph, InRange, Query}
 use Rattle.scope_graph.specs.Path.{HopOf, lastFrom}
@@ -16,49 +17,53 @@ use Rattle.scope_graph.specs.Computed.{Standing, is-visible, is-shadowed, is-un
 use Rattle.graph_file.specs.Format.{countSection, declarationSection}
 use Rattle.text_field.specs.Outcome.{Outcome, done}
 use Rattle.graph_file.specs.Admission.{Row, value, blank}
-use Rattle.graph_file.specs.Accepted.{AcceptedTable}
 use Rattle.graph_file.specs.Decode.{rowsIn, lettersOf, rulesOf, nameAt, declarationOf, graphOf, scopesOf}
-use Rattle.search.specs.Board.{boardOf, without, reachedBy, cutAlong}
-use Rattle.search.specs.Tables.{freeFlag, tableOrder, tableBoard}
-use Rattle.search.proofs.Cells.{free-taken}
+use Rattle.block.specs.Sets.{hasScope}
+use Rattle.block.specs.Block.{scopesCell}
+use Rattle.search.specs.declared.Node.{Node}
+use Rattle.search.specs.Board.{boardOf, reachedBy, cutAlong}
+use Rattle.search.specs.Tables.{tableBoard}
+use Rattle.search.specs.Conditions.{freeAt}
 use Rattle.search.proofs.Rules.{standing-is}
-use Rattle.prepared.specs.Sections.{partOf, rowsOf}
-use Rattle.prepared.specs.Tables.{transitionCells, acceptingFlags, orderFlags, declaringFlags, goalSets}
+use Rattle.graph_table.specs.declared.rows.QueryRow.{QueryRow}
+use Rattle.graph_table.specs.Sections.{partOf, rowsOf}
+use Rattle.board.specs.Marks.{DeclaringIs}
+use Rattle.board.specs.Made.{Made}
+use Rattle.board.specs.Queries.{Asked, queryFrom}
+use Rattle.board.proofs.Queries.{accepted, sound, rows-are}
+use Rattle.board.proofs.Board.{scopes-are, board-is, order-is}
 use Rattle.path_row.specs.declared.form.Step.{Step}
 use Rattle.path_row.specs.Form.{mostSteps, stepsOf, stepsIn}
 use Rattle.path_row.specs.Compare.{hopOf, pathOf}
 use Rattle.path_row.specs.Scan.{scannedLetters}
 use Rattle.path_row.proofs.ScanLaws.{letters-scanned}
-use Rattle.resolution.specs.Asked.{Asked, queryFrom}
-use Rattle.resolution.proofs.Walked.{full-free}
-use Rattle.resolution.proofs.Given.{accepted, rows-are, tables-are}
-use Rattle.judge.specs.declared.standing.Judged.{Judged}
-use Rattle.judge.specs.declared.standing.Judged.the-variants.{Visible, Shadowed, Unreached, Refused}
+use Rattle.judge.specs.declared.standing.Judged.the-variants.{Visible, Shadowed, Unreached}
 use Rattle.judge.specs.Judge.{meaning, ruled}
-use Rattle.judge.specs.Steps.{rowIs, hasRow, hopsBy, lastOf, rowReached}
+use Rattle.judge.specs.Steps.{isMarked, hasMark, hopsBy, stepHops, Begins, lastOf, rowReached, rowCut, judgedRow}
 
 -- The marks of a name at a scope, row by row.
-module _ (r : Rules) (s high low mark : ℕ) where
-  abbrev x : PackedName
-  x = record { high = high; low = low }
+module _ (r : Rules) (x : QueryRow) (mark s : ℕ) where
+  abbrev name : PackedName
+  name = record { high = x .high; low = x .low }
 
   abbrev declared : Declaration (language r) → Bool
-  declared d = eqb (d .at) s && sameName (d .name) x
+  declared d = eqb (d .at) s && sameName (d .name) name
 
   abbrev markOf : Declaration (language r) → ℕ
   markOf d = d .mark
 
-  marked : (rows : List Row) → hasRow s high low mark rows ≡ anyOf (eqb mark) (marksAt (language r) (map (declarationOf r) rows) s x)
-  unfolding hasRow rowIs anyOf marksAt keep declarationOf nameAt sameName
+  marked : (rows : List Row) → hasMark x mark s rows ≡ anyOf (eqb mark) (marksAt (language r) (map (declarationOf r) rows) s name)
+  unfolding hasMark isMarked anyOf marksAt keep declarationOf nameAt sameName
   marked [] = refl
-  marked (row ∷ rows) = at (eqb (value row 0) s) (eqb (value row 1) high) (eqb (value row 2) low) (marked rows)
+  marked (row ∷ rows) = at (eqb (value row 0) s) (eqb (value row 1) (x .high)) (eqb (value row 2) (x .low)) (marked rows)
     where
       rest : List (Declaration (language r))
       rest = keep declared (map (declarationOf r) rows)
 
-      at : (u v w : Bool) → hasRow s high low mark rows ≡ anyOf (eqb mark) (map markOf rest)
-          → (elim (u && (v && (w && eqb mark (value row 3)))) as (λ _. Bool) [ true ↦ true | false ↦ hasRow s high low mark rows ])
-          ≡ anyOf (eqb mark) (map markOf (elim (u && (v && w)) as (λ _. List (Declaration (language r))) [ true ↦ declarationOf r row ∷ rest | false ↦ rest ]))
+      at : (u v w : Bool) → hasMark x mark s rows ≡ anyOf (eqb mark) (map markOf rest)
+          → (elim (u && (v && (w && eqb mark (value row 3)))) as (λ _. Bool) [ true ↦ true | false ↦ hasMark x mark s rows ])
+          ≡ anyOf (eqb mark)
+          (map markOf (elim (u && (v && w)) as (λ _. List (Declaration (language r))) [ true ↦ declarationOf r row ∷ rest | false ↦ rest ]))
       at false v w e = e
       at true false w e = e
       at true true false e = e
@@ -80,7 +85,7 @@ abbrev byTests : Bool → Bool → Bool → Standing
 byTests same reached cut =
     elim (same && reached) as (λ _. Standing) [ false ↦ is-unreached | true ↦ elim cut as (λ _. Standing) [ true ↦ is-shadowed | false ↦ is-visible ] ]
 
-module _ (cells : List ℕ) (start high low mark from : ℕ) (row : List ℕ) (a : Asked cells start) where
+module _ (cells : List ℕ) (x : QueryRow) (mark from : ℕ) (row : List ℕ) (a : Asked cells (x .start)) where
   abbrev L : Language
   L = language (rulesOf cells)
 
@@ -88,7 +93,7 @@ module _ (cells : List ℕ) (start high low mark from : ℕ) (row : List ℕ) (a
   g = graphOf cells
 
   abbrev q : Query L
-  q = queryFrom cells start high low
+  q = queryFrom cells (x .start) (x .high) (x .low)
 
   abbrev theRow : RulesRow L
   theRow = ruled cells (record { mark = mark; start = from; steps = stepsIn row })
@@ -102,99 +107,123 @@ module _ (cells : List ℕ) (start high low mark from : ℕ) (row : List ℕ) (a
   abbrev range : InRange L g
   range = accepted cells (a .read) .accepted q (a .starts) .in-range
 
-  abbrev all : ℕ → Bool
-  all = freeFlag (replicate 64 1)
+  pub start-small : x .start < 64
+  start-small = let m = accepted cells (a .read) .scopes-most in let s = a .starts in omega arith
 
-  all-free : (s : ℕ) → s < scopesOf cells → freeFlag (replicate 64 1) s ≡ true
-  all-free s h = full-free 64 s (let m = accepted cells (a .read) .scopes-most in omega arith)
+  all-free : (s : ℕ) → s < scopesOf cells → ltb s 64 ≡ true
+  all-free s h = lt-ltb s 64 (let m = accepted cells (a .read) .scopes-most in omega arith)
 
-  letters-are : scannedLetters cells ≡ lettersOf cells
-  letters-are = letters-scanned cells (a .read)
+  scopes-cell : (block : List ℕ) → Made cells block → scopesCell block ≡ scopesOf cells
+  unfolding scopesOf
+  scopes-cell block made =
+      scopes-are cells block made
+      ∙ ap (λ (rows : List Row). value (getD rows 0 blank) 0) (rows-are cells (a .read) countSection)
+
+  pub start-below : (block : List ℕ) → Made cells block → x .start < scopesCell block
+  start-below block made = let e = scopes-cell block made in let s = a .starts in omega arith
 
   row-is : theRow ≡ record { mark = mark; path = record { start = from; hops = hs } }
   unfolding ruled pathOf
-  row-is = rw (hops-are cells (stepsIn row) letters-are)
+  row-is = rw (hops-are cells (stepsIn row) (letters-scanned cells (a .read)))
 
   abbrev ruledReached : Bool
-  ruledReached = reachedBy (boardOf L g (q .name)) (without all start) start 0 hs
+  ruledReached = reachedBy (boardOf L g (q .name)) (freeAt (x .start)) (x .start) 0 hs
 
   abbrev ruledCut : Bool
-  ruledCut = cutAlong (boardOf L g (q .name)) (L .prefers) (scopesOf cells) (without all start) start 0 hs stop
+  ruledCut = cutAlong (boardOf L g (q .name)) (L .prefers) (scopesOf cells) (freeAt (x .start)) (x .start) 0 hs stop
 
   abbrev ruledMark : Bool
   ruledMark = anyOf (eqb mark) (marksAt L (g .declarations) (lastFrom L from hs) (q .name))
 
-  stands : standing L g q (record { start = from; hops = hs })
-      ≡ (elim (eqb from start && ruledReached) as (λ _. Standing) [ false ↦ is-unreached | true ↦ elim ruledCut as (λ _. Standing) [ true ↦ is-shadowed | false ↦ is-visible ] ])
-  unfolding graphOf
-  stands = standing-is L laws g q range (a .starts) all all-free (record { start = from; hops = hs })
+  -- the standing, if the mark is that of a declaration
+  abbrev withMark : Bool → Standing → Standing
+  withMark m z = elim m as (λ _. Standing) [ false ↦ is-unreached | true ↦ z ]
 
-  judged-is : judged L g q theRow ≡ (elim ruledMark as (λ _. Standing) [ false ↦ is-unreached | true ↦ byTests (eqb from start) ruledReached ruledCut ])
+  stands : standing L g q (record { start = from; hops = hs }) ≡ byTests (eqb from (x .start)) ruledReached ruledCut
+  unfolding graphOf freeAt
+  stands = standing-is L laws g q range (a .starts) (λ t. ltb t 64) all-free (record { start = from; hops = hs })
+
+  judged-is : judged L g q theRow ≡ withMark ruledMark (byTests (eqb from (x .start)) ruledReached ruledCut)
   unfolding judged
-  judged-is = rw row-is (ap (λ (z : Standing). elim ruledMark as (λ _. Standing) [ false ↦ is-unreached | true ↦ z ]) stands)
+  judged-is = rw row-is (ap (λ (z : Standing). withMark ruledMark z) stands)
+
+  abbrev told : Standing → Outcome Standing
+  told z = done z
 
   -- a row that starts elsewhere
-  pub starts-apart : (from ≡ start → ⊥) → meaning Unreached ≡ done (judged L g q theRow)
+  pub starts-apart : (from ≡ x .start → ⊥) → meaning Unreached ≡ done (judgedRow cells x mark from row)
   unfolding meaning
-  starts-apart h = ap {B = Outcome Standing} (λ (z : Standing). done z) (sym (judged-is
-      ∙ ap (λ (z : Bool). elim ruledMark as (λ _. Standing) [ false ↦ is-unreached | true ↦ byTests z ruledReached ruledCut ]) (ne-eqb from start h) ∙ at ruledMark))
+  starts-apart h =
+      ap told (sym (judged-is ∙ ap (λ (z : Bool). withMark ruledMark (byTests z ruledReached ruledCut)) (ne-eqb from (x .start) h)
+      ∙ at ruledMark))
     where
-      at : (u : Bool) → (elim u as (λ _. Standing) [ false ↦ is-unreached | true ↦ is-unreached ]) ≡ is-unreached
+      at : (u : Bool) → withMark u is-unreached ≡ is-unreached
       at true = refl
       at false = refl
 
-  module _ (same : from ≡ start) (edges decls delta accepts goal free : List ℕ) (at : ℕ)
-      (edges-is : edges ≡ partOf 5 cells) (decls-is : decls ≡ partOf 6 cells)
-      (delta-is : delta ≡ transitionCells (rowsOf (partOf 2 cells))) (accepts-is : accepts ≡ acceptingFlags (rowsOf (partOf 3 cells)))
-      (goal-is : goal ≡ goalSets accepts (declaringFlags (record { high = high; low = low }) (rowsOf (partOf 6 cells))))
-      (free-is : free ≡ set (replicate 64 1) start 0) (at-is : stepsOf mostSteps (drop at row) ≡ stepsIn row) where
-    marked-is : hasRow (lastOf start hs) high low mark (rowsOf (partOf 6 cells)) ≡ ruledMark
+  module _ (same : from ≡ x .start) (block : List ℕ) (made : Made cells block) (decls : List ℕ)
+      (decls-is : decls ≡ partOf declarationSection cells) (goal : ℕ)
+      (goal-is : DeclaringIs decls (record { high = x .high; low = x .low }) goal)
+      (n : Node) (begins : Begins block (x .start) n) (at : ℕ) (at-is : stepsOf mostSteps (drop at row) ≡ stepsIn row) where
+    free-start : hasScope (n .free) ≡ freeAt (x .start)
+    free-start = fun-ext (begins .free)
+
+    board-here : tableBoard block goal ≡ boardOf L g (q .name)
+    board-here =
+        board-is cells block (sound cells (a .read)) made (q .name) goal
+        (subst (λ (rows : List ℕ). DeclaringIs rows (q .name) goal) decls-is goal-is)
+
+    marked-is : hasMark x mark (lastOf (x .start) hs) (rowsOf decls) ≡ ruledMark
     unfolding graphOf
     marked-is =
-        rw (rows-are cells (a .read) declarationSection, last-is (rulesOf cells) start hs, ← same)
-        (marked (rulesOf cells) (lastFrom L from hs) high low mark (rowsIn declarationSection cells))
+        ap (λ (s : ℕ). hasMark x mark (lastOf s hs) (rowsOf decls)) (sym same)
+        ∙ rw (decls-is, rows-are cells (a .read) declarationSection, last-is (rulesOf cells) from hs)
+        (marked (rulesOf cells) x mark (lastFrom L from hs) (rowsIn declarationSection cells))
 
-    reached-is : rowReached edges decls delta goal high low mark free start 0 (hopsBy (scannedLetters cells) (stepsOf mostSteps (drop at row))) ≡ (ruledReached && ruledMark)
+    reached-is : rowReached block decls goal x mark n (stepHops cells row mostSteps at) ≡ (ruledReached && ruledMark)
     unfolding rowReached
-    reached-is =
-        rw (at-is, edges-is, decls-is, delta-is, goal-is, accepts-is, free-is, free-taken (replicate 64 1) start, tables-are cells (a .read) .board high low, marked-is)
+    reached-is = rw (at-is, board-here, free-start, begins .scope, begins .state, marked-is)
 
-    judged-same : judged L g q theRow ≡ (elim ruledMark as (λ _. Standing) [ false ↦ is-unreached | true ↦ byTests true ruledReached ruledCut ])
-    judged-same = judged-is ∙ ap (λ (z : Bool). elim ruledMark as (λ _. Standing) [ false ↦ is-unreached | true ↦ byTests z ruledReached ruledCut ]) (eq-eqb from start same)
+    judged-same : judged L g q theRow ≡ withMark ruledMark (byTests true ruledReached ruledCut)
+    judged-same = judged-is ∙ ap (λ (z : Bool). withMark ruledMark (byTests z ruledReached ruledCut)) (eq-eqb from (x .start) same)
 
-    both : (m r c : Bool) → (elim m as (λ _. Standing) [ false ↦ is-unreached | true ↦ byTests true r c ]) ≡ byTests true (r && m) c
+    both : (m r c : Bool) → withMark m (byTests true r c) ≡ byTests true (r && m) c
     both true true c = refl
     both true false c = refl
     both false true c = refl
     both false false c = refl
 
-    module _ (u : Bool) (e : u ≡ rowReached edges decls delta goal high low mark free start 0 (hopsBy (scannedLetters cells) (stepsOf mostSteps (drop at row)))) where
+    module _ (u : Bool) (e : u ≡ rowReached block decls goal x mark n (stepHops cells row mostSteps at)) where
       by-reached : judged L g q theRow ≡ byTests true u ruledCut
-      by-reached = judged-same ∙ both ruledMark ruledReached ruledCut ∙ ap (λ (z : Bool). byTests true z ruledCut) (sym (e ∙ reached-is))
+      by-reached =
+          judged-same ∙ both ruledMark ruledReached ruledCut ∙ ap (λ (z : Bool). byTests true z ruledCut) (sym (e ∙ reached-is))
 
-      pub not-reached : u ≡ false → meaning Unreached ≡ done (judged L g q theRow)
+      pub not-reached : u ≡ false → meaning Unreached ≡ done (judgedRow cells x mark from row)
       unfolding meaning
-      not-reached h = ap {B = Outcome Standing} (λ (z : Standing). done z) (sym (by-reached ∙ ap (λ (z : Bool). byTests true z ruledCut) h))
+      not-reached h = ap told (sym (by-reached ∙ ap (λ (z : Bool). byTests true z ruledCut) h))
 
-      module _ (h : u ≡ true) (counts order : List ℕ) (scopes : ℕ) (counts-is : counts ≡ partOf 4 cells) (scopes-is : scopes ≡ value (getD (rowsOf counts) 0 blank) 0)
-          (order-is : order ≡ orderFlags (rowsOf (partOf 1 cells))) (w : Bool)
-          (f : w ≡ cutAlong (tableBoard edges delta goal) (tableOrder order) scopes (freeFlag free) start 0 (hopsBy (scannedLetters cells) (stepsOf mostSteps (drop at row))) stop) where
-        count-is : scopes ≡ scopesOf cells
-        unfolding scopesOf
-        count-is = scopes-is ∙ rw (counts-is, rows-are cells (a .read) countSection)
-
+      module _ (h : u ≡ true) (w : Bool) (f : w ≡ rowCut block goal n (stepHops cells row mostSteps at)) where
         cut-is : w ≡ ruledCut
+        unfolding rowCut
         cut-is =
             f
-            ∙ rw (at-is, edges-is, delta-is, goal-is, accepts-is, free-is, free-taken (replicate 64 1) start, tables-are cells (a .read) .board high low, order-is, tables-are cells (a .read) .order, count-is)
+            ∙ rw (
+              at-is,
+              board-here,
+              order-is cells block (sound cells (a .read)) made,
+              begins .left-is ∙ scopes-cell block made,
+              free-start,
+              begins .scope,
+              begins .state,
+            )
 
         by-cut : judged L g q theRow ≡ byTests true true w
         by-cut = by-reached ∙ ap (λ (z : Bool). byTests true z ruledCut) h ∙ ap (λ (z : Bool). byTests true true z) (sym cut-is)
 
-        pub is-cut : w ≡ true → meaning Shadowed ≡ done (judged L g q theRow)
+        pub is-cut : w ≡ true → meaning Shadowed ≡ done (judgedRow cells x mark from row)
         unfolding meaning
-        is-cut k = ap {B = Outcome Standing} (λ (z : Standing). done z) (sym (by-cut ∙ ap (λ (z : Bool). byTests true true z) k))
+        is-cut k = ap told (sym (by-cut ∙ ap (λ (z : Bool). byTests true true z) k))
 
-        pub not-cut : w ≡ false → meaning Visible ≡ done (judged L g q theRow)
+        pub not-cut : w ≡ false → meaning Visible ≡ done (judgedRow cells x mark from row)
         unfolding meaning
-        not-cut k = ap {B = Outcome Standing} (λ (z : Standing). done z) (sym (by-cut ∙ ap (λ (z : Bool). byTests true true z) k))
+        not-cut k = ap told (sym (by-cut ∙ ap (λ (z : Bool). byTests true true z) k))

@@ -12,7 +12,7 @@ use Rattle.graph_file.specs.File.{readCells}
 use Rattle.graph_file.specs.Decode.{rulesOf, graphOf, queriesOf, lettersOf}
 use Rattle.path_row.specs.Form.{PathRow, rowHere}
 use Rattle.path_row.specs.Compare.{pathOf}
-use Rattle.resolution.specs.Listing.{queryAt}
+use Rattle.board.specs.Queries.{queryAt}
 use Rattle.judge.specs.declared.standing.Judged.{Judged}
 use Rattle.judge.specs.declared.standing.Judged.the-variants.{Visible, Shadowed, Unreached, Refused}
 

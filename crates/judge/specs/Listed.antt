@@ -11,7 +11,7 @@ use Rattle.text_field.specs.Outcome.{done}
 use Rattle.graph_file.specs.File.{readCells}
 use Rattle.graph_file.specs.Decode.{rulesOf, graphOf, queriesOf, lettersOf}
 use Rattle.follow.specs.Text.{rowText}
-use Rattle.resolution.specs.Listing.{queryAt}
+use Rattle.board.specs.Queries.{queryAt}
 use Rattle.judge.specs.Judge.{judgeAnswer}
 
 -- Every text that is read, every query of it, every entry: the row that a listing shows for it is,

@@ -4,7 +4,7 @@ use mathlib.Core.Path.{_≡_}
 use mathlib.Core.List.{[], _∷_}
 use Rattle.scope_graph.specs.Computed.{is-visible, is-shadowed, is-unreached}
 use Rattle.text_field.specs.Outcome.{done}
-use Rattle.resolution.specs.Marked.{exampleText}
+use Rattle.board.specs.Example.{exampleText}
 use Rattle.judge.specs.Judge.{judgeAnswer}
 
 pub record M10 : Type 0 where

@@ -13,7 +13,7 @@ use Rattle.text_field.specs.Outcome.{done}
 use Rattle.graph_file.specs.File.{readCells}
 use Rattle.graph_file.specs.Decode.{rulesOf, graphOf, queriesOf}
 use Rattle.path_row.specs.Form.{PathRow, rowHere}
-use Rattle.resolution.specs.Listing.{queryAt}
+use Rattle.board.specs.Queries.{queryAt}
 use Rattle.judge.specs.Judge.{ruled, judgeAnswer}
 
 -- The row has this standing for query i: its path is visible, shadowed or unreached, and one with a

@@ -1,19 +1,34 @@
--- What the steps of the judge's code answer: which refusal is told, a declaration's row, an edge that
--- leaves a scope, the state after a hop, whether a row's path is reached. Assumes nothing: these are
--- definitions.
-use Prim.Native.Nat.{ℕ, zero, suc}
-use mathlib.Core.Bool.{Bool, true, false, _&&_}
+-- What the steps of the judge's code answer: which refusal is told, a declaration with the mark, an
+-- edge that leaves a scope, the state after a hop, whether a row's path is reached and whether it
+-- is cut. Assumes nothing: these are definitions.
+use Prim.Native.Nat.{ℕ, zero, suc, _≤_}
+use mathlib.Core.Path.{_≡_}
+use mathlib.Core.Bool.{Bool, true, false, not, _&&_}
 use mathlib.Core.List.{List, [], _∷_, map}
 use lib.Dec.{eqb, leb, ltb}
+use lib.ListN.{length, drop}
+use Rattle.scope_graph.specs.Language.{End, stop}
 use Rattle.scope_graph.specs.Path.{HopOf}
-use Rattle.scope_graph.specs.Rows.{anyOf}
+use Rattle.scope_graph.specs.Rows.{anyOf, language}
+use Rattle.scope_graph.specs.Computed.{Standing, judged}
 use Rattle.graph_file.specs.Admission.{Row, value}
-use Rattle.search.specs.Board.{reachedBy}
-use Rattle.search.specs.Tables.{nextCell, freeFlag, tableBoard}
-use Rattle.edge_rows.specs.Rows.{hopTo, rowHops}
-use Rattle.prepared.specs.Sections.{rowsOf}
+use Rattle.graph_file.specs.Decode.{rulesOf, graphOf}
+use Rattle.block.specs.Layout.{IsBlock}
+use Rattle.block.specs.Sets.{hasScope}
+use Rattle.block.specs.Block.{Still, nextCell, scopesCell, blockHops}
+use Rattle.search.specs.declared.Node.{Node}
+use Rattle.search.specs.Board.{reachedBy, cutHere, cutAlong}
+use Rattle.search.specs.Conditions.{Inside, LiveAt, freeAt}
+use Rattle.search.specs.Tables.{tableBoard, tableOrder}
+use Rattle.graph_table.specs.declared.rows.DeclarationRow.{DeclarationRow}
+use Rattle.graph_table.specs.declared.rows.QueryRow.{QueryRow}
+use Rattle.graph_table.specs.Sections.{rowsOf}
+use Rattle.board.specs.Queries.{queryFrom}
 use Rattle.path_row.specs.declared.form.Step.{Step}
+use Rattle.path_row.specs.Form.{stepsOf, stepsIn}
 use Rattle.path_row.specs.Compare.{labelNumber}
+use Rattle.path_row.specs.Scan.{scannedLetters}
+use Rattle.judge.specs.Judge.{ruled}
 
 -- The refusal of query number i where there are n queries, and of a table with room for fewer
 -- records than there are steps (01, "Who can cause a refusal"); 0 for none.
@@ -28,36 +43,90 @@ unfoldable pub firstFault : ℕ → ℕ → ℕ
 firstFault zero later = later
 firstFault (suc n) later = suc n
 
--- the row has these first four values
-unfoldable pub rowIs : ℕ → ℕ → ℕ → ℕ → Row → Bool
-rowIs a b c d row = eqb (value row 0) a && (eqb (value row 1) b && (eqb (value row 2) c && eqb d (value row 3)))
+-- a row by the values of a declaration; is it one of what is sought at the scope, with the mark?
+abbrev pub rowDeclared : Row → DeclarationRow
+rowDeclared row = record { at = value row 0; high = value row 1; low = value row 2; mark = value row 3 }
 
-unfoldable pub hasRow : ℕ → ℕ → ℕ → ℕ → List Row → Bool
-hasRow a b c d rows = anyOf (rowIs a b c d) rows
+unfoldable pub isMarked : QueryRow → ℕ → ℕ → DeclarationRow → Bool
+isMarked x mark s d = eqb (d .at) s && (eqb (d .high) (x .high) && (eqb (d .low) (x .low) && eqb mark (d .mark)))
 
--- the hop is one of these
+unfoldable pub hasMark : QueryRow → ℕ → ℕ → List Row → Bool
+hasMark x mark s rows = anyOf (isMarked x mark s) (map rowDeclared rows)
+
+-- a hop by a label to a scope; is it another one, is it one of these?
+abbrev pub hopTo : ℕ → ℕ → HopOf ℕ
+hopTo label to = record { step = label; to = to }
+
+unfoldable pub sameHop : HopOf ℕ → HopOf ℕ → Bool
+sameHop h k = eqb (k .step) (h .step) && eqb (k .to) (h .to)
+
 unfoldable pub hasHop : HopOf ℕ → List (HopOf ℕ) → Bool
-hasHop h hops = anyOf (λ k. eqb (k .step) (h .step) && eqb (k .to) (h .to)) hops
+hasHop h hops = anyOf (sameHop h) hops
 
--- steps as hops, by their letters' numbers
+-- at most `left` steps from a place of a row on, as hops, by their letters' numbers
 unfoldable pub hopsBy : List ℕ → List Step → List (HopOf ℕ)
 hopsBy letters steps = map (λ (s : Step). hopTo (labelNumber letters (s .label)) (s .scope)) steps
 
--- the state after a hop to a free scope, or 16; and the same for a hop along an edge that leaves
--- the scope
-unfoldable pub stateOn : List ℕ → List ℕ → ℕ → HopOf ℕ → ℕ
-stateOn delta free q h = elim (freeFlag free (h .to)) [ true ↦ nextCell delta q (h .step) | false ↦ 16 ]
+abbrev pub stepHops : List ℕ → List ℕ → ℕ → ℕ → List (HopOf ℕ)
+stepHops table row left at = hopsBy (scannedLetters table) (stepsOf left (drop at row))
 
-unfoldable pub stateAlong : List ℕ → List ℕ → List ℕ → ℕ → ℕ → HopOf ℕ → ℕ
-stateAlong edges delta free s q h =
-    elim (hasHop h (rowHops edges s)) [ true ↦ stateOn delta free q h | false ↦ 16 ]
+-- the state after a hop from a node to a free scope, or 16; and the same for a hop along an edge
+-- that leaves the node's scope
+unfoldable pub stateOn : List ℕ → Node → HopOf ℕ → ℕ
+stateOn block n h = elim (hasScope (n .free) (h .to)) [ true ↦ nextCell block (n .state) (h .step) | false ↦ 16 ]
+
+unfoldable pub stateAlong : List ℕ → Node → HopOf ℕ → ℕ
+stateAlong block n h = elim (hasHop h (blockHops block (n .scope))) [ true ↦ stateOn block n h | false ↦ 16 ]
+
+-- Where a query's paths begin: at its start, in state 0, with all other scopes free. A path has
+-- fewer hops than there are scopes.
+pub record Begins (block : List ℕ) (start : ℕ) (n : Node) : Type 0 where
+  pub free : (t : ℕ) → hasScope (n .free) t ≡ freeAt start t
+  pub left-is : suc (n .left) ≡ scopesCell block
+  pub scope : n .scope ≡ start
+  pub state : n .state ≡ 0
+
+-- The node behind a hop to a scope, in state r: the scope is free no more. How many hops may still
+-- be entered is for the walk to say.
+pub record Behind (n : Node) (to r left : ℕ) (m : Node) : Type 0 where
+  pub free : (t : ℕ) → hasScope (m .free) t ≡ (hasScope (n .free) t && not (eqb t to))
+  pub left-is : m .left ≡ left
+  pub scope : m .scope ≡ to
+  pub state : m .state ≡ r
 
 -- the scope that hops come to
 unfoldable pub lastOf : ℕ → List (HopOf ℕ) → ℕ
 lastOf s [] = s
 lastOf s (h ∷ hs) = lastOf (h .to) hs
 
--- the hops lead to what is sought, and the mark is that of a matching declaration where they end
-unfoldable pub rowReached : List ℕ → List ℕ → List ℕ → List ℕ → ℕ → ℕ → ℕ → List ℕ → ℕ → ℕ → List (HopOf ℕ) → Bool
-rowReached edges decls delta goal high low mark free s q hs =
-    reachedBy (tableBoard edges delta goal) (freeFlag free) s q hs && hasRow (lastOf s hs) high low mark (rowsOf decls)
+-- the hops lead from the node to what is sought, and the mark is that of a matching declaration
+-- where they end
+unfoldable pub rowReached : List ℕ → List ℕ → ℕ → QueryRow → ℕ → Node → List (HopOf ℕ) → Bool
+rowReached block decls goal x mark n hs =
+    reachedBy (tableBoard block goal) (hasScope (n .free)) (n .scope) (n .state) hs
+    && hasMark x mark (lastOf (n .scope) hs) (rowsOf decls)
+
+-- what is asked of a node's ends: the node is within the tables, and the table of places worth
+-- entering is closed for it
+pub record Ready (block : List ℕ) (goal : ℕ) (live : List ℕ) (n : Node) : Type 0 where
+  pub size : IsBlock block
+  pub still : Still block
+  pub table : 64 ≤ length live
+  pub inside : Inside n
+  pub closed : LiveAt block goal (hasScope (n .free)) live
+
+-- an end is cut at the node
+unfoldable pub endCut : List ℕ → ℕ → Node → End ℕ → Bool
+endCut block goal n e =
+    cutHere (tableBoard block goal) (tableOrder block) (n .left) (hasScope (n .free)) (n .scope) (n .state) e
+
+-- some end along the hops from the node is cut where they go by it, or `$` where they end
+unfoldable pub rowCut : List ℕ → ℕ → Node → List (HopOf ℕ) → Bool
+rowCut block goal n hs =
+    cutAlong (tableBoard block goal) (tableOrder block) (suc (n .left)) (hasScope (n .free)) (n .scope) (n .state) hs stop
+
+-- the standing of a row with this mark, this start and these steps in its text, for a query
+abbrev pub judgedRow : List ℕ → QueryRow → ℕ → ℕ → List ℕ → Standing
+judgedRow cells x mark from row =
+    judged (language (rulesOf cells)) (graphOf cells) (queryFrom cells (x .start) (x .high) (x .low))
+    (ruled cells (record { mark = mark; start = from; steps = stepsIn row }))

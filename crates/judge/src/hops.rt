@@ -1,100 +1,88 @@
-// One step of a path row: whether an edge goes there, and the state after it.
-use edge_rows::next_row;
-use resolution::row_count;
-use resolution::row_value;
-use search::is_free;
-use search::next_state;
+// One step of a path row: whether an edge goes there, the state after it, and the node behind it.
+use crate::limits::LABELS;
+use crate::limits::NO_STATE;
+use crate::limits::SCOPES;
+use block::edge_at;
+use block::edges_end;
+use block::edges_from;
+use block::has;
+use block::next_state;
+use block::taken;
+use search::Node;
 ghost use mathlib.Core.Path.{_≡_};
-ghost use mathlib.Core.Bool.{_&&_};
-ghost use lib.Dec.{eqb};
-ghost use lib.ListN.{getD};
-ghost use Rattle.graph_file.specs.Admission.{blank};
-ghost use Rattle.edge_rows.specs.Rows.{hopTo, rowHops};
-ghost use Rattle.prepared.specs.Sections.{rowsOf};
-ghost use Rattle.judge.specs.Steps.{rowIs, hasRow, hasHop, stateOn, stateAlong};
+ghost use Prim.Native.Nat.{_<_};
+ghost use Rattle.block.specs.Layout.{IsBlock};
+ghost use Rattle.block.specs.Block.{hopOf, blockHops};
+ghost use Rattle.search.specs.Conditions.{Inside};
+ghost use Rattle.judge.specs.Steps.{hopTo, sameHop, hasHop, stateOn, stateAlong, Behind};
 
-// Does row i have these first values?
-fn row_is(rows: &[u64], i: usize, a: u64, b: u64, c: u64, d: u64) -> bool
-    ensures answer { λ r. ⌜ r ≡ rowIs a b c d (getD (rowsOf (now (rows .entry))) i blank) ⌝ }
+// Is the edge's hop the one by the label to the scope `to`?
+fn is_hop(x: u64, label: u64, to: u64) -> bool
+    ensures answer { λ r. ⌜ r ≡ sameHop (hopTo label to) (hopOf x) ⌝ }
 {
-    if row_value(rows, i, 0) != a {
+    if x / SCOPES % LABELS != label {
         return false;
     }
-    if row_value(rows, i, 1) != b {
-        return false;
-    }
-    if row_value(rows, i, 2) != c {
-        return false;
-    }
-    d == row_value(rows, i, 3)
+    x % SCOPES == to
 }
 
-// Is there such a row?
-pub fn has_row(rows: &[u64], a: u64, b: u64, c: u64, d: u64) -> bool
-    ensures answer { λ r. ⌜ r ≡ hasRow a b c d (rowsOf (now (rows .entry))) ⌝ }
+// Does an edge that leaves scope s go by the label to the scope `to`?
+fn has_edge(block: &[u64], s: u64, label: u64, to: u64) -> bool
+    requires block { ⌜ IsBlock (now block) ⌝ }
+    requires scope { ⌜ s < 64 ⌝ }
+    ensures answer { λ r. ⌜ r ≡ hasHop (hopTo label to) (blockHops (now (block .entry)) s) ⌝ }
 {
-    let n = row_count(rows);
-    let mut i: usize = 0;
-    while i < n {
-        if row_is(rows, i, a, b, c, d) {
+    let end = edges_end(block, s);
+    let mut p = edges_from(block, s);
+    while p < end {
+        if is_hop(edge_at(block, p), label, to) {
             return true;
         }
-        i += 1;
+        p += 1;
     }
     false
 }
 
-// Are two hops the same?
-fn same_hop(label: u64, to: u64, l: u64, t: u64) -> bool
-    ensures answer { λ r. ⌜ r ≡ (eqb label l && eqb to t) ⌝ }
+// The state after a hop from the node to a free scope; 16 or above for none.
+pub fn state_on(block: &[u64], n: Node, label: u64, to: u64) -> u64
+    requires block { ⌜ IsBlock (now block) ⌝ }
+    requires inside { ⌜ Inside n ⌝ }
+    ensures answer { λ r. ⌜ r ≡ stateOn (now (block .entry)) n (hopTo label to) ⌝ }
 {
-    if label != l {
-        return false;
+    if SCOPES <= to {
+        return NO_STATE;
     }
-    to == t
+    if !has(n.free, to) {
+        return NO_STATE;
+    }
+    if LABELS <= label {
+        return NO_STATE;
+    }
+    next_state(block, n.state, label)
 }
 
-// Does an edge that leaves scope s go by the label to the scope `to`?
-fn has_edge(edges: &[u64], s: u64, label: u64, to: u64) -> bool
-    ensures answer { λ r. ⌜ r ≡ hasHop (hopTo label to) (rowHops (now (edges .entry)) s) ⌝ }
+// The state after a hop to a free scope along an edge that leaves the node's scope; 16 or above for
+// none.
+pub fn state_along(block: &[u64], n: Node, label: u64, to: u64) -> u64
+    requires block { ⌜ IsBlock (now block) ⌝ }
+    requires inside { ⌜ Inside n ⌝ }
+    ensures answer { λ r. ⌜ r ≡ stateAlong (now (block .entry)) n (hopTo label to) ⌝ }
 {
-    let mut p: usize = 0;
-    loop {
-        let at = next_row(edges, s, p);
-        if edges.len() <= at {
-            break false;
-        }
-        if same_hop(edges[at + 2], edges[at + 3], label, to) {
-            break true;
-        }
-        p = at + 6;
+    if !has_edge(block, n.scope, label, to) {
+        return NO_STATE;
     }
+    state_on(block, n, label, to)
 }
 
-// The state after a hop to a free scope; 16 or above for none.
-pub fn state_on(delta: &[u64], free: [u8; 64], q: u64, label: u64, to: u64) -> u64
-    ensures answer { λ r. ⌜ r ≡ stateOn (now (delta .entry)) free q (hopTo label to) ⌝ }
+// The node behind a hop to the scope, in the state, with `left` hops that may still be entered.
+pub fn behind(n: Node, to: u64, state: u64, left: usize) -> Node
+    requires scope { ⌜ to < 64 ⌝ }
+    ensures answer { λ r. ⌜ Behind n to state left r ⌝ }
 {
-    if !is_free(free, to) {
-        return 16;
+    Node {
+        free: taken(n.free, to),
+        left,
+        scope: to,
+        state,
     }
-    next_state(delta, q, label)
-}
-
-// The state after a hop to a free scope along an edge that leaves the scope; 16 or above for none.
-pub fn state_along(
-    edges: &[u64],
-    delta: &[u64],
-    free: [u8; 64],
-    s: u64,
-    q: u64,
-    label: u64,
-    to: u64,
-) -> u64
-    ensures answer { λ r. ⌜ r ≡ stateAlong (now (edges .entry)) (now (delta .entry)) free s q (hopTo label to) ⌝ }
-{
-    if !has_edge(edges, s, label, to) {
-        return 16;
-    }
-    state_on(delta, free, q, label, to)
 }

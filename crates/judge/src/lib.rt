@@ -1,6 +1,9 @@
 // A path row judged for a query of a gym file.
+mod cut;
 mod hops;
 mod lent;
+mod limits;
+mod reached;
 mod standing;
 mod text;
 

@@ -13,6 +13,7 @@ use lib.ListN.{length, getD, drop, drop-of-length-le}
 use lib.Seq.{drop-cons, drop-drop, getD-drop}
 use Rattle.text_field.proofs.ByteLaws.{clash}
 use Rattle.graph_file.specs.Admission.{Row, rowOf}
+use Rattle.graph_table.proofs.RowLaws.{row-inside}
 use Rattle.graph_file.specs.Line.{startsWith}
 use Rattle.scope_graph.specs.Language.{End, by}
 use Rattle.scope_graph.specs.Rows.{OrderPair, sameEnd, anyOf, preferredBy}
@@ -21,24 +22,6 @@ use Rattle.scope_graph.specs.declared.End.{End as CodeEnd}
 use Rattle.graph_file.specs.Decode.{orderPairOf}
 use Rattle.path_row.specs.Compare.{numberFrom, labelNumber}
 use Rattle.path_row.specs.Scan.{rowsFrom, scannedLabels, scannedPairs, firstValue, scannedLetters, scannedOrder}
-
--- does a row stand there?
-module _ (cells : List ℕ) (p k : ℕ) where
-  pub row-none : length cells ≤ p → startsWith k (drop p cells) ≡ false
-  unfolding startsWith
-  row-none h = rw (drop-of-length-le cells {i = p} h)
-
-  pub row-test : p < length cells → startsWith k (drop p cells) ≡ eqb (getD cells p 0) k
-  unfolding startsWith
-  row-test h = rw (drop-cons cells p 0 h)
-
-  -- a row that stands there is in the table
-  pub row-inside : (t : Bool) → t ≡ startsWith k (drop p cells) → t ≡ true → p < length cells
-  row-inside t e f = by (ltb p (length cells)) refl
-    where
-      by : (u : Bool) → ltb p (length cells) ≡ u → p < length cells
-      by true g = ltb-true p (length cells) g
-      by false g = absurd (clash (sym e ∙ f) (row-none (ltb-false p (length cells) g)))
 
 pub rows-on : (n k : ℕ) (s : List ℕ) → startsWith k s ≡ true → rowsFrom (suc n) k s ≡ rowOf s ∷ rowsFrom n k (drop 6 s)
 unfolding rowsFrom
@@ -128,15 +111,6 @@ pub seek-full : (n x : ℕ) (s : List ℕ) → 8 ≤ n → seek (8 - n) n x s �
 seek-full n x s h = number-none n x _ (ap (map firstValue) (rows-full (8 - n) 0 s (omega arith)))
 
 -- an order pair at a place
-pub pair-none : (cells : List ℕ) (at : ℕ) (e : CodeEnd) → length cells ≤ at → meaning e ≡ endOf 0 → pairMeaning (record { less = e; more = e }) ≡ orderPairOf (rowOf (drop at cells))
-unfolding pairMeaning orderPairOf rowOf
-pair-none cells at e h f = rw (drop-of-length-le cells {i = at} h, f)
-
-pub pair-made : (cells : List ℕ) (at x y : ℕ) (a b : CodeEnd) → x ≡ getD cells (at + 1) 0 → y ≡ getD cells (at + 2) 0 → meaning a ≡ endOf x → meaning b ≡ endOf y
-    → pairMeaning (record { less = a; more = b }) ≡ orderPairOf (rowOf (drop at cells))
-unfolding pairMeaning orderPairOf rowOf
-pair-made cells at x y a b e f g h = rw (g, h, getD-drop at cells 1 0, getD-drop at cells 2 0, e, f)
-
 -- the preference test, row by row
 module _ (a b : End ℕ) where
   abbrev pub prefer : ℕ → List ℕ → Bool

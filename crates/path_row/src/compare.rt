@@ -7,11 +7,11 @@ use crate::form::next_step;
 use crate::form::read_head;
 use crate::form::read_row;
 use crate::form::walk;
+use graph_table::in_section;
+use graph_table::letter_at;
+use graph_table::order_pair;
 use scope_graph::End;
-use scope_graph::Pair;
-use scope_graph::end_of;
 use scope_graph::holds;
-use text_field::cell;
 ghost use mathlib.Core.Path.{_≡_};
 ghost use mathlib.Core.List.{map};
 ghost use lib.ListN.{length, drop};
@@ -42,16 +42,6 @@ pub enum Compared {
     Refused(u64),
 }
 
-// Does a row of section k stand at a place of the table?
-fn in_section(cells: &[u64], at: usize, k: u64) -> bool
-    ensures answer { λ r. ⌜ r ≡ startsWith k (drop at (now (cells .entry))) ⌝ }
-{
-    if cells.len() <= at {
-        return false;
-    }
-    cells[at] == k
-}
-
 // How many rows of section k stand from a place on, of at most `most`.
 fn count_rows(cells: &[u64], at: usize, k: u64, most: usize) -> usize
     ensures answer { λ r. ⌜ r ≡ length (rowsFrom most k (drop at (now (cells .entry)))) ⌝ }
@@ -79,29 +69,13 @@ pub fn label_number(cells: &[u64], x: u8) -> u64
         if !in_section(cells, p, 0) {
             return n + x as u64;
         }
-        if cell(cells, p + 1, 0) == x as u64 {
+        if letter_at(cells, p) == x as u64 {
             return n;
         }
         p += ROW_CELLS;
         n += 1;
     }
     n + x as u64
-}
-
-// The order pair whose row stands at a place.
-fn pair_row(cells: &[u64], at: usize) -> Pair
-    ensures answer { λ r. ⌜ pairMeaning r ≡ orderPairOf (rowOf (drop at (now (cells .entry)))) ⌝ }
-{
-    if cells.len() <= at {
-        let stop = end_of(0);
-        return Pair {
-            less: stop,
-            more: stop,
-        };
-    }
-    let less = end_of(cell(cells, at + 1, 0));
-    let more = end_of(cell(cells, at + 2, 0));
-    Pair { less, more }
 }
 
 // Is the one end preferred to the other, by the order pairs from a place on?
@@ -115,7 +89,7 @@ fn preferred_from(cells: &[u64], at: usize, less: End, more: End) -> bool
         if !in_section(cells, p, 1) {
             return false;
         }
-        if holds(pair_row(cells, p), less, more) {
+        if holds(order_pair(cells, p), less, more) {
             return true;
         }
         p += ROW_CELLS;

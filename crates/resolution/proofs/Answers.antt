@@ -1,136 +1,129 @@
--- What the walk tells of a query of a table that was read. Assumes nothing.
-use Prim.Native.Nat.{ℕ, zero, suc, _+_, _≤_, _<_}
+-- What the walk tells of a query of a table that was read: `found`, and the first open pair that is
+-- followed. Assumes nothing.
+use Prim.Native.Nat.{ℕ, zero, suc, _≤_, _<_, min}
 use mathlib.Core.Path.{_≡_, refl, sym, ap, _∙_}
-use mathlib.Core.Bool.{Bool, true, false}
-use mathlib.Core.Logic.{_⊎_, inl, inr, ⊎-elim}
+use mathlib.Core.Bool.{Bool, true, false, _&&_}
 use mathlib.Core.Option.{Option, some, none}
-use mathlib.Core.List.{List, [], _∷_, _++_, map}
+use mathlib.Core.List.{List, [], _∷_, map}
 use native.Mathlib.Omega.{arith}
-use lib.ListN.{length, getD}
-use Rattle.scope_graph.specs.Language.{_∈_, Language}
+use borrow.Author.Tests.{lt-ltb}
+use lib.ListN.{length, length-map}
+use Rattle.scope_graph.specs.Language.{_∈_, End, stop, by, Language}
 use Rattle.scope_graph.specs.Graph.{Query, OpenPair}
+use Rattle.scope_graph.specs.Path.{PathRow}
 use Rattle.scope_graph.specs.Rows.{language}
 use Rattle.scope_graph.specs.Order.{endOf}
-use Rattle.scope_graph.specs.Computed.{firstOf, followedAt, awaits}
+use Rattle.scope_graph.specs.Computed.{foundOf, entries, found, firstOf, followedAt, awaits}
 use Rattle.scope_graph.proofs.Lists.{here, there, map-intro}
-use Rattle.text_field.specs.Buffer.{Buf, puts}
-use Rattle.graph_file.specs.Format.{countSection, openSection}
-use Rattle.graph_file.specs.Admission.{Row, value, blank}
+use Rattle.graph_file.specs.Format.{openSection}
+use Rattle.graph_file.specs.Admission.{Row, value}
 use Rattle.graph_file.specs.Decode.{rowsIn, rulesOf, scopesOf, graphOf, openPairOf, opensOf}
-use Rattle.prepared.specs.Sections.{partOf, rowsOf}
-use Rattle.prepared.specs.Tables.{hopefulFlags}
-use Rattle.prepared.specs.Promises.{transitionTable, acceptingTable, orderTable, hopefulTable, goalTable, openTable}
-use Rattle.follow.specs.declared.Budget.the-variants.{Left}
-use Rattle.follow.specs.declared.Tally.{Tally}
-use Rattle.follow.specs.Pour.{spend, State, written, pour}
-use Rattle.follow.specs.Walk.{walked}
+use Rattle.graph_file.specs.Accepted.{EndListed}
+use Rattle.block.specs.Block.{usableSet}
+use Rattle.graph_table.specs.Sections.{partOf, rowsOf}
+use Rattle.follow.specs.declared.Bounds.{Bounds}
+use Rattle.follow.specs.Tally as tally
+use Rattle.follow.specs.Tally.{State, takeRows, joined}
+use Rattle.follow.specs.Walk.{followedIn}
+use Rattle.follow.proofs.TallyLaws.{tallied}
+use Rattle.resolution.specs.declared.text.Found.the-variants.{None, One, Several}
 use Rattle.resolution.specs.declared.text.Awaits.{Awaits}
 use Rattle.resolution.specs.declared.text.Awaits.the-variants.{Settled, Pair}
 use Rattle.resolution.specs.Listing.{foundFor, entriesText}
-use Rattle.resolution.specs.Asked.{Asked, queryFrom, walkWith, letterTable, foundNumber, roomNumber, isOver, followedBy, firstFollowed, awaitsMeaning}
-use Rattle.resolution.proofs.Walked.{poured, poured-text, poured-found, poured-followed, walked-is}
-use Rattle.resolution.proofs.Given.{accepted, tables-are, rows-are}
+use Rattle.resolution.specs.Asked.{Ready, queryIn, rowTexts, foundFrom, foundMeaning, followedBy, firstFollowed, awaitsMeaning}
+use Rattle.resolution.proofs.ListLaws.{joined-map}
+use Rattle.resolution.proofs.Walked.{pair-walked}
+use Rattle.board.proofs.Queries.{accepted, rows-are}
 
-module _ (cells : List ℕ) (start high low : ℕ) (a : Asked cells start) where
+-- the entries' rows one after the other
+pub texts-joined : (cells : List ℕ) (q : Query (language (rulesOf cells))) → joined (rowTexts cells q) ≡ entriesText cells q
+unfolding rowTexts entriesText
+texts-joined cells q = joined-map _ (entries (language (rulesOf cells)) (graphOf cells) q)
+
+-- `found` of a list by its length, where two are counted at most
+two-count : {A : Type 0} (l : List A) → foundFrom (min 2 (length l)) ≡ foundOf l
+unfolding foundFrom foundOf
+two-count [] = let m : min 2 0 ≡ 0 = omega arith in ap foundFrom m
+two-count (x ∷ []) = let m : min 2 (length (x ∷ [])) ≡ 1 = omega arith in ap foundFrom m
+two-count (x ∷ y ∷ l) = let m : min 2 (length (x ∷ y ∷ l)) ≡ 2 = omega arith in ap foundFrom m
+
+-- an enum's answer by the number
+pub found-no : (n : ℕ) → n ≡ 0 → foundMeaning None ≡ foundFrom n
+unfolding foundMeaning foundFrom
+found-no n e = sym (rw e)
+
+pub found-once : (n : ℕ) → n ≡ 1 → foundMeaning One ≡ foundFrom n
+unfolding foundMeaning foundFrom
+found-once n e = sym (rw e)
+
+pub found-more : (n : ℕ) → (n ≡ 0 → ⊥) → (n ≡ 1 → ⊥) → foundMeaning Several ≡ foundFrom n
+unfolding foundMeaning foundFrom
+found-more zero h k = absurd (h refl)
+found-more (suc zero) h k = absurd (k refl)
+found-more (suc (suc n)) h k = refl
+
+pub found-taken : (cells : List ℕ) (q : Query (language (rulesOf cells))) (bounds : Bounds) (out : List ℕ) (st : State) → bounds .most ≡ 2
+    → st ≡ takeRows bounds (out, tally.none) (rowTexts cells q) → foundFrom (st .1 .entries) ≡ foundFor cells q
+unfolding rowTexts foundFor found
+found-taken cells q bounds out st two e =
+    let l : length (rowTexts cells q) ≡ length (entries (language (rulesOf cells)) (graphOf cells) q) = length-map (entries (language (rulesOf cells)) (graphOf cells) q) _ in
+    ap (λ (s : State). foundFrom (s .1 .entries)) e
+    ∙ ap foundFrom (tallied bounds out (rowTexts cells q) .entries ∙ ap (λ (m : ℕ). min m (length (rowTexts cells q))) two ∙ ap (min 2) l)
+    ∙ two-count (entries (language (rulesOf cells)) (graphOf cells) q)
+
+module _ (cells block ask : List ℕ) (ready : Ready cells block ask) where
   abbrev L : Language
   L = language (rulesOf cells)
 
   abbrev q : Query L
-  q = queryFrom cells start high low
+  q = queryIn cells ask
 
-  abbrev goal : List ℕ
-  goal = goalTable cells (record { high = high; low = low })
+  pair-is : (at end : ℕ) → at < 64 → end < 9 → followedBy block cells ask at end ≡ followedAt L (graphOf cells) q (record { at = at; end = endOf end })
+  unfolding followedBy
+  pair-is at end h k = rw (lt-ltb at 64 h, lt-ltb end 9 k, followedBy) (pair-walked cells block ask ready at end h k)
 
-  abbrev bytes : ℕ → List ℕ → ℕ → List ℕ
-  bytes mode seek e = poured cells (accepted cells (a .read)) (tables-are cells (a .read)) q (a .starts) mode seek e
+  -- an open row of a table that was read
+  record Small (row : Row) : Type 0 where
+    scope : value row 0 < 64
+    end : value row 1 < 9
 
-  scopes-are : value (getD (rowsOf (partOf countSection cells)) 0 blank) 0 ≡ scopesOf cells
-  unfolding scopesOf
-  scopes-are = ap (λ (rows : List Row). value (getD rows 0 blank) 0) (rows-are cells (a .read) countSection)
-
-  pub walk-is : (mode : ℕ) (seek : List ℕ) (e : ℕ) (st : State)
-      → walkWith cells mode (letterTable cells) (transitionTable cells) goal (orderTable cells) start high low seek e st ≡ pour mode st (bytes mode seek e)
-  unfolding walkWith
-  walk-is mode seek e st =
-      rw scopes-are (walked-is cells (accepted cells (a .read)) (tables-are cells (a .read)) q (a .starts) mode seek e st)
-
-  -- counted against a room of one
-  pub found-walk : (o : List ℕ) (t : Tally)
-      → _≡_ {A = State} (o, t) (walkWith cells 2 (letterTable cells) (transitionTable cells) goal (orderTable cells) start high low goal 0 (0 ∷ [], record { place = 0; budget = Left 1 }))
-      → roomNumber (t .budget) ≡ foundNumber (foundFor cells q)
-  unfolding pour
-  found-walk o t e =
-      ap (λ (s : State). roomNumber (s .1 .budget)) (e ∙ walk-is 2 goal 0 (0 ∷ [], record { place = 0; budget = Left 1 }))
-      ∙ poured-found cells (accepted cells (a .read)) (tables-are cells (a .read)) q (a .starts)
-
-  -- measured against a room
-  pub room-walk : (room : ℕ) (o : List ℕ) (t : Tally)
-      → _≡_ {A = State} (o, t) (walkWith cells 1 (letterTable cells) (transitionTable cells) goal (orderTable cells) start high low goal 0 (0 ∷ [], record { place = 0; budget = Left room }))
-      → t .budget ≡ spend (Left room) (length (entriesText cells q))
-  unfolding pour
-  room-walk room o t e =
-      ap (λ (s : State). s .1 .budget) (e ∙ walk-is 1 goal 0 (0 ∷ [], record { place = 0; budget = Left room }))
-      ∙ ap (λ (xs : List ℕ). spend (Left room) (length xs)) (poured-text cells (accepted cells (a .read)) (tables-are cells (a .read)) q (a .starts) 1 refl refl)
-
-  -- written
-  pub rows-walk : (out : List ℕ) (n : ℕ) (o : List ℕ) (t : Tally)
-      → _≡_ {A = State} (o, t) (walkWith cells 0 (letterTable cells) (transitionTable cells) goal (orderTable cells) start high low goal 0 (out, record { place = n; budget = Left 0 }))
-      → _≡_ {A = Buf} (o, t .place) (puts (out, n) (entriesText cells q))
-  unfolding pour written
-  rows-walk out n o t e =
-      ap (λ (s : State). (s .0, s .1 .place)) (e ∙ walk-is 0 goal 0 (out, record { place = n; budget = Left 0 }))
-      ∙ ap (puts (out, n)) (poured-text cells (accepted cells (a .read)) (tables-are cells (a .read)) q (a .starts) 0 refl refl)
-
-  abbrev followed : ℕ → ℕ → Bool
-  followed at end = followedBy cells (letterTable cells) (transitionTable cells) (acceptingTable cells) (hopefulTable cells) goal (orderTable cells) start high low at end
-
-  -- found against no room
-  followed-walk : (at end : ℕ) → at < 64 → followed at end ≡ followedAt L (graphOf cells) q (record { at = at; end = endOf end })
-  unfolding followedBy pour
-  followed-walk at end h =
-      ap (λ (s : State). isOver (s .1 .budget)) (walk-is 3 (openTable cells at end) end (0 ∷ [], record { place = 0; budget = Left 0 }))
-      ∙ poured-followed cells (accepted cells (a .read)) (tables-are cells (a .read)) q (a .starts) at end h
-
-  first-walk : (rows : List Row) → ((row : Row) → row ∈ rows → value row 0 < 64)
-      → awaitsMeaning cells (firstFollowed cells (letterTable cells) (transitionTable cells) (acceptingTable cells) (hopefulTable cells) goal (orderTable cells) start high low rows)
-      ≡ firstOf (followedAt L (graphOf cells) q) (map (openPairOf (rulesOf cells)) rows)
+  first-is : (rows : List Row) → ((row : Row) → row ∈ rows → Small row)
+      → awaitsMeaning cells (firstFollowed block cells ask rows) ≡ firstOf (followedAt L (graphOf cells) q) (map (openPairOf (rulesOf cells)) rows)
   unfolding firstFollowed firstOf awaitsMeaning openPairOf
-  first-walk [] h = refl
-  first-walk (row ∷ rows) h =
-      rw (sym (followed-walk (value row 0) (value row 1) (h row here)), firstFollowed, firstOf) (one (followed (value row 0) (value row 1)) (first-walk rows (λ x i. h x (there i))))
+  first-is [] h = refl
+  first-is (row ∷ rows) h =
+      rw (sym (pair-is (value row 0) (value row 1) (h row here .scope) (h row here .end)), firstFollowed, firstOf) (one (followedBy block cells ask (value row 0) (value row 1)) (first-is rows (λ x i. h x (there i))))
     where
       one : (t : Bool)
-          → awaitsMeaning cells (firstFollowed cells (letterTable cells) (transitionTable cells) (acceptingTable cells) (hopefulTable cells) goal (orderTable cells) start high low rows) ≡ firstOf (followedAt L (graphOf cells) q) (map (openPairOf (rulesOf cells)) rows)
-          → awaitsMeaning cells (elim t as (λ _. Awaits) [ true ↦ Pair (value row 0) (value row 1) | false ↦ firstFollowed cells (letterTable cells) (transitionTable cells) (acceptingTable cells) (hopefulTable cells) goal (orderTable cells) start high low rows ])
+          → awaitsMeaning cells (firstFollowed block cells ask rows) ≡ firstOf (followedAt L (graphOf cells) q) (map (openPairOf (rulesOf cells)) rows)
+          → awaitsMeaning cells (elim t as (λ _. Awaits) [ true ↦ Pair (value row 0) (value row 1) | false ↦ firstFollowed block cells ask rows ])
           ≡ (elim t as (λ _. Option (OpenPair L)) [ true ↦ some (openPairOf (rulesOf cells) row) | false ↦ firstOf (followedAt L (graphOf cells) q) (map (openPairOf (rulesOf cells)) rows) ])
       one true e = refl
       one false e = e
 
-  open-small : (row : Row) → row ∈ rowsIn openSection cells → value row 0 < 64
+  end-small : (n labels : ℕ) → labels ≤ 8 → EndListed labels (endOf n) → n < 9
+  unfolding endOf
+  end-small zero labels h l = omega arith
+  end-small (suc n) labels h l = omega arith
+
+  open-small : (row : Row) → row ∈ rowsIn openSection cells → Small row
   unfolding openPairOf opensOf
   open-small row i =
-      let t = accepted cells (a .read) in
+      let t = accepted cells (ready .asked .read) in
       let m = t .scopes-most in
-      let n : value row 0 < scopesOf cells = t .open-at (openPairOf (rulesOf cells) row) (map-intro (openPairOf (rulesOf cells)) i) in
-      omega arith
+      let o = openPairOf (rulesOf cells) row in
+      let n : value row 0 < scopesOf cells = t .open-at o (map-intro (openPairOf (rulesOf cells)) i) in
+      record { scope = omega arith; end = end-small (value row 1) (rulesOf cells .labels) (t .labels) (t .open-end o (map-intro (openPairOf (rulesOf cells)) i)) }
 
-  pub awaits-walk : awaitsMeaning cells (firstFollowed cells (letterTable cells) (transitionTable cells) (acceptingTable cells) (hopefulTable cells) goal (orderTable cells) start high low (rowsOf (partOf openSection cells)))
-      ≡ awaits L (graphOf cells) q (opensOf cells)
-  unfolding awaits opensOf
-  awaits-walk = rw (rows-are cells (a .read) openSection) (first-walk (rowsIn openSection cells) open-small)
-
-  pub awaits-asked : (r : Awaits) (letters delta accepts hopes goals order opens : List ℕ) → letters ≡ letterTable cells → delta ≡ transitionTable cells → accepts ≡ acceptingTable cells
-      → hopes ≡ hopefulFlags delta accepts → goals ≡ goal → order ≡ orderTable cells
-      → opens ≡ partOf openSection cells → r ≡ firstFollowed cells letters delta accepts hopes goals order start high low (rowsOf opens)
+  pub awaits-is : (opens : List ℕ) → opens ≡ partOf openSection cells → (r : Awaits) → r ≡ firstFollowed block cells ask (rowsOf opens)
       → awaitsMeaning cells r ≡ awaits L (graphOf cells) q (opensOf cells)
-  awaits-asked r letters delta accepts hopes goals order opens l d c h gs o p e =
-      let hs : hopes ≡ hopefulTable cells = h ∙ ap (λ (x : List ℕ). hopefulFlags x accepts) d ∙ ap (hopefulFlags (transitionTable cells)) c in
-      ap (awaitsMeaning cells) (e
-      ∙ ap (λ (x : List ℕ). firstFollowed cells x delta accepts hopes goals order start high low (rowsOf opens)) l
-      ∙ ap (λ (x : List ℕ). firstFollowed cells (letterTable cells) x accepts hopes goals order start high low (rowsOf opens)) d
-      ∙ ap (λ (x : List ℕ). firstFollowed cells (letterTable cells) (transitionTable cells) x hopes goals order start high low (rowsOf opens)) c
-      ∙ ap (λ (x : List ℕ). firstFollowed cells (letterTable cells) (transitionTable cells) (acceptingTable cells) x goals order start high low (rowsOf opens)) hs
-      ∙ ap (λ (x : List ℕ). firstFollowed cells (letterTable cells) (transitionTable cells) (acceptingTable cells) (hopefulTable cells) x order start high low (rowsOf opens)) gs
-      ∙ ap (λ (x : List ℕ). firstFollowed cells (letterTable cells) (transitionTable cells) (acceptingTable cells) (hopefulTable cells) goal x start high low (rowsOf opens)) o
-      ∙ ap (λ (x : List ℕ). firstFollowed cells (letterTable cells) (transitionTable cells) (acceptingTable cells) (hopefulTable cells) goal (orderTable cells) start high low (rowsOf x)) p)
-      ∙ awaits-walk
+  unfolding awaits opensOf
+  awaits-is opens p r e =
+      ap (awaitsMeaning cells) (e ∙ ap (λ (l : List ℕ). firstFollowed block cells ask (rowsOf l)) p)
+      ∙ rw (rows-are cells (ready .asked .read) openSection) (first-is (rowsIn openSection cells) open-small)
+
+  -- nothing is open
+  pub awaits-none : (opens : List ℕ) → opens ≡ partOf openSection cells → length opens ≡ 0 → awaitsMeaning cells Settled ≡ awaits L (graphOf cells) q (opensOf cells)
+  unfolding firstFollowed rowsOf
+  awaits-none [] p z = awaits-is [] p Settled refl
+  awaits-none (x ∷ opens) p z = absurd (omega arith)

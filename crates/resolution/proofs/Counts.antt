@@ -1,11 +1,11 @@
--- The summary's figures are the counts of the queries found so, and its text stands in parts. Assumes nothing.
-use Prim.Native.Nat.{ℕ, zero, suc, _+_, _*_, _/_, _^_, _≤_, _<_}
+-- The summary's figures are the counts of the queries found so, and its text stands in parts.
+-- Assumes nothing.
+use Prim.Native.Nat.{ℕ, zero, suc, _+_, _^_, _≤_, _<_}
 use mathlib.Core.Path.{_≡_, refl, sym, ap, _∙_}
-use mathlib.Core.Bool.{Bool, true, false}
 use mathlib.Core.List.{List, [], _∷_, _++_, append-assoc}
 use native.Mathlib.Omega.{arith}
 use native.Mathlib.Numerals.{add-one}
-use lib.ListN.{length, getD, take, drop, length-append, length-map, drop-of-length-le}
+use lib.ListN.{length, getD, drop, length-append, length-map, drop-of-length-le}
 use lib.Seq.{drop-cons}
 use Rattle.scope_graph.specs.Graph.{Query}
 use Rattle.scope_graph.specs.Rows.{language}
@@ -15,141 +15,130 @@ use Rattle.text_field.specs.Buffer.{Buf, put, puts}
 use Rattle.text_field.proofs.NumberLaws.{length-below}
 use Rattle.text_field.proofs.BufferLaws.{puts-then}
 use Rattle.graph_file.specs.Format.{querySection, queries, sections, sectionAt}
-use Rattle.text_field.specs.Outcome.{refused, done}
-use Rattle.text_field.specs.Answer.{answer, leaves}
 use Rattle.graph_file.specs.Decode.{rowsIn, rulesOf, queryOf, queriesOf, WasRead}
-use Rattle.graph_file.specs.Admission.{value, blank}
-use Rattle.prepared.specs.Sections.{partOf, rowsOf}
+use Rattle.board.specs.Queries.{queryAt}
 use Rattle.resolution.specs.Share.{share}
 use Rattle.resolution.specs.Summary.{summaryLine, shareText, summaryText}
 use Rattle.resolution.specs.declared.sums.Figures.{Figures}
-use Rattle.resolution.specs.Listing.{foundFor, queryAt, isFound, countFound, summaryOf}
-use Rattle.resolution.specs.Asked.{queryFrom, foundNumber}
-use Rattle.resolution.specs.Figures.{figuresAfter, noFigures, figuresOver, fieldText, countsText}
+use Rattle.resolution.specs.Listing.{foundFor, isFound, countFound, summaryOf}
+use Rattle.resolution.specs.Figures.{figuresAfter, noFigures, figuresOver, total, Few, fieldText, countsText, figuresText}
 use Rattle.resolution.proofs.Nearest.{share-small}
-use Rattle.resolution.proofs.Given.{accepted}
-use Rattle.resolution.proofs.Heads.{query-is, inside, count-is, own-within, own-short, own-whole}
+use Rattle.board.proofs.Queries.{accepted}
 
-pub after-zero : (c : Figures) (f : ℕ) → f ≡ 0 → record { one = c .one; several = c .several; none = c .none + 1 } ≡ figuresAfter c f
+after-sum : (c : Figures) (f : Found) → total (figuresAfter c f) ≡ total c + 1
 unfolding figuresAfter
-after-zero c f e = rw e
-
-pub after-one : (c : Figures) (f : ℕ) → f ≡ 1 → record { one = c .one + 1; several = c .several; none = c .none } ≡ figuresAfter c f
-unfolding figuresAfter
-after-one c f e = rw e
-
-pub after-more : (c : Figures) (f : ℕ) → (f ≡ 0 → ⊥) → (f ≡ 1 → ⊥) → record { one = c .one; several = c .several + 1; none = c .none } ≡ figuresAfter c f
-unfolding figuresAfter
-after-more c zero h k = absurd (h refl)
-after-more c (suc zero) h k = absurd (k refl)
-after-more c (suc (suc n)) h k = refl
-
-pub after-sum : (c d : Figures) (f : ℕ) → d ≡ figuresAfter c f → d .one + d .several + d .none ≡ c .one + c .several + c .none + 1
-unfolding figuresAfter
-after-sum c d f e = ap (λ (x : Figures). x .one + x .several + x .none) e ∙ by f
-  where
-    by : (f : ℕ) → figuresAfter c f .one + figuresAfter c f .several + figuresAfter c f .none ≡ c .one + c .several + c .none + 1
-    by zero = omega arith
-    by (suc zero) = omega arith
-    by (suc (suc n)) = omega arith
+after-sum c found-none = omega arith
+after-sum c found-one = omega arith
+after-sum c found-several = omega arith
 
 module _ (cells : List ℕ) where
   abbrev Q : Type 0
   Q = Query (language (rulesOf cells))
 
   -- one turn over the queries
-  pub figures-turn : (qs : List Q) (i : ℕ) (q d₀ : Q) (c d : Figures) (f : ℕ) → i < length qs → q ≡ getD qs i d₀ → f ≡ foundNumber (foundFor cells q) → d ≡ figuresAfter c f
-      → figuresOver cells d (drop (i + 1) qs) ≡ figuresOver cells c (drop i qs)
-  unfolding figuresOver
-  figures-turn qs i q d₀ c d f h e g k =
-      let x : drop i qs ≡ q ∷ drop (i + 1) qs = drop-cons qs i d₀ h ∙ ap (λ (y : Q). y ∷ drop (suc i) qs) (sym e) ∙ ap (λ (n : ℕ). q ∷ drop n qs) (sym (add-one i)) in
+  figures-turn : (i : ℕ) (c d : Figures) (f : Found) → i < length (queriesOf cells) → f ≡ foundFor cells (queryAt cells i) → d ≡ figuresAfter c f
+      → figuresOver cells d (drop (i + 1) (queriesOf cells)) ≡ figuresOver cells c (drop i (queriesOf cells))
+  unfolding figuresOver queryAt
+  figures-turn i c d f h g k =
+      let qs : List Q = queriesOf cells in
+      let x : drop i qs ≡ queryAt cells i ∷ drop (i + 1) qs = drop-cons qs i _ h ∙ ap (λ (n : ℕ). queryAt cells i ∷ drop n qs) (sym (add-one i)) in
       ap (λ (y : Figures). figuresOver cells y (drop (i + 1) qs)) (k ∙ ap (figuresAfter c) g) ∙ sym (ap (figuresOver cells c) x)
 
   over-one : (c : Figures) (qs : List Q) → figuresOver cells c qs .one ≡ c .one + countFound cells found-one qs
-  unfolding figuresOver countFound figuresAfter foundNumber isFound
+  unfolding figuresOver countFound figuresAfter isFound
   over-one c [] = omega arith
-  over-one c (q ∷ qs) = over-one (figuresAfter c (foundNumber (foundFor cells q))) qs ∙ by (foundFor cells q)
+  over-one c (q ∷ qs) = over-one (figuresAfter c (foundFor cells q)) qs ∙ by (foundFor cells q)
     where
-      by : (f : Found) → figuresAfter c (foundNumber f) .one + countFound cells found-one qs ≡ c .one + (isFound cells found-one f + countFound cells found-one qs)
+      by : (f : Found) → figuresAfter c f .one + countFound cells found-one qs ≡ c .one + (isFound cells found-one f + countFound cells found-one qs)
       by found-none = omega arith
       by found-one = omega arith
       by found-several = omega arith
 
   over-several : (c : Figures) (qs : List Q) → figuresOver cells c qs .several ≡ c .several + countFound cells found-several qs
-  unfolding figuresOver countFound figuresAfter foundNumber isFound
+  unfolding figuresOver countFound figuresAfter isFound
   over-several c [] = omega arith
-  over-several c (q ∷ qs) = over-several (figuresAfter c (foundNumber (foundFor cells q))) qs ∙ by (foundFor cells q)
+  over-several c (q ∷ qs) = over-several (figuresAfter c (foundFor cells q)) qs ∙ by (foundFor cells q)
     where
-      by : (f : Found) → figuresAfter c (foundNumber f) .several + countFound cells found-several qs ≡ c .several + (isFound cells found-several f + countFound cells found-several qs)
+      by : (f : Found) → figuresAfter c f .several + countFound cells found-several qs ≡ c .several + (isFound cells found-several f + countFound cells found-several qs)
       by found-none = omega arith
       by found-one = omega arith
       by found-several = omega arith
 
   over-none : (c : Figures) (qs : List Q) → figuresOver cells c qs .none ≡ c .none + countFound cells found-none qs
-  unfolding figuresOver countFound figuresAfter foundNumber isFound
+  unfolding figuresOver countFound figuresAfter isFound
   over-none c [] = omega arith
-  over-none c (q ∷ qs) = over-none (figuresAfter c (foundNumber (foundFor cells q))) qs ∙ by (foundFor cells q)
+  over-none c (q ∷ qs) = over-none (figuresAfter c (foundFor cells q)) qs ∙ by (foundFor cells q)
     where
-      by : (f : Found) → figuresAfter c (foundNumber f) .none + countFound cells found-none qs ≡ c .none + (isFound cells found-none f + countFound cells found-none qs)
+      by : (f : Found) → figuresAfter c f .none + countFound cells found-none qs ≡ c .none + (isFound cells found-none f + countFound cells found-none qs)
       by found-none = omega arith
       by found-one = omega arith
       by found-several = omega arith
 
-  over-sum : (c : Figures) (qs : List Q) → figuresOver cells c qs .one + figuresOver cells c qs .several + figuresOver cells c qs .none ≡ c .one + c .several + c .none + length qs
+  over-sum : (c : Figures) (qs : List Q) → total (figuresOver cells c qs) ≡ total c + length qs
   unfolding figuresOver
   over-sum c [] = omega arith
   over-sum c (q ∷ qs) =
-      let a = over-sum (figuresAfter c (foundNumber (foundFor cells q))) qs in
-      let b = after-sum c (figuresAfter c (foundNumber (foundFor cells q))) (foundNumber (foundFor cells q)) refl in
+      let a = over-sum (figuresAfter c (foundFor cells q)) qs in
+      let b = after-sum c (foundFor cells q) in
       omega arith
 
   pub queries-few : WasRead cells → length (queriesOf cells) ≤ 256
   unfolding queriesOf sectionAt sections queries
   queries-few was = rw (length-map (rowsIn querySection cells) (queryOf (rulesOf cells))) (accepted cells was .limits querySection (omega arith))
 
-  pub figures-end : (c : Figures) (qs : List Q) (i : ℕ) → length qs ≤ i → c ≡ figuresOver cells c (drop i qs)
+  -- after the last query
+  figures-end : (c : Figures) (i : ℕ) → length (queriesOf cells) ≤ i → c ≡ figuresOver cells c (drop i (queriesOf cells))
   unfolding figuresOver
-  figures-end c qs i h = sym (ap (figuresOver cells c) (drop-of-length-le qs {i = i} h))
+  figures-end c i h = sym (ap (figuresOver cells c) (drop-of-length-le (queriesOf cells) {i = i} h))
 
-  -- the figures of a table that was read
-  module _ (was : WasRead cells) (r : Figures) (e : r ≡ figuresOver cells noFigures (queriesOf cells)) where
-    pub figures-few : r .one + r .several + r .none ≤ 256
+  -- in a loop over the queries: what is counted so far, with what is left, gives the whole
+  abbrev pub Counted : ℕ → Figures → Type 0
+  Counted i c = (total c ≡ i) × (figuresOver cells c (drop i (queriesOf cells)) ≡ figuresOver cells noFigures (queriesOf cells))
+
+  pub counted-none : (c : Figures) → c ≡ noFigures → Counted 0 c
+  unfolding noFigures
+  counted-none c e = (ap (λ (x : Figures). total x) e, ap (λ (x : Figures). figuresOver cells x (queriesOf cells)) e)
+
+  pub counted-turn : (i : ℕ) (c d : Figures) (f : Found) → i < length (queriesOf cells) → f ≡ foundFor cells (queryAt cells i) → d ≡ figuresAfter c f → Counted i c → Counted (i + 1) d
+  counted-turn i c d f h g k e = (ap (λ (x : Figures). total x) k ∙ after-sum c f ∙ ap (λ (n : ℕ). n + 1) (e .0), figures-turn i c d f h g k ∙ e .1)
+
+  pub counted-all : (i : ℕ) (c : Figures) → length (queriesOf cells) ≤ i → Counted i c → c ≡ figuresOver cells noFigures (queriesOf cells)
+  counted-all i c h e = figures-end c i h ∙ e .1
+
+  -- the figures of all queries
+  module _ (r : Figures) (e : r ≡ figuresOver cells noFigures (queriesOf cells)) where
+    total-is : total r ≡ length (queriesOf cells)
     unfolding noFigures
-    figures-few =
-        let f = queries-few was in
-        let s = ap (λ (x : Figures). x .one + x .several + x .none) e ∙ over-sum noFigures (queriesOf cells) in
-        omega arith
+    total-is = let s = ap (λ (x : Figures). total x) e ∙ over-sum noFigures (queriesOf cells) in omega arith
 
-    pub figures-text : (n : ℕ) → n ≡ length (queriesOf cells) → summaryText n (r .one) (r .several) (r .none) ≡ summaryOf cells
-    unfolding summaryOf noFigures
-    figures-text n k =
+    pub figures-few : WasRead cells → Few r
+    figures-few was = let f = queries-few was in let s = total-is in omega arith
+
+    pub figures-text : figuresText r ≡ summaryOf cells
+    unfolding summaryOf noFigures figuresText
+    figures-text =
         let a : r .one ≡ countFound cells found-one (queriesOf cells) = (let z = ap (λ (x : Figures). x .one) e ∙ over-one noFigures (queriesOf cells) in omega arith) in
         let b : r .several ≡ countFound cells found-several (queriesOf cells) = (let z = ap (λ (x : Figures). x .several) e ∙ over-several noFigures (queriesOf cells) in omega arith) in
         let c : r .none ≡ countFound cells found-none (queriesOf cells) = (let z = ap (λ (x : Figures). x .none) e ∙ over-none noFigures (queriesOf cells) in omega arith) in
-        rw (k, a, b, c)
-
--- one turn, by the query's row
-pub figures-next : (cells : List ℕ) (was : WasRead cells) (rows : List ℕ) (i n : ℕ) (part : rows ≡ partOf querySection cells) (counted : n ≡ length (rowsOf rows)) (h : i < n) (start high low : ℕ)
-    (s : start ≡ value (getD (rowsOf rows) i blank) 0) (x : high ≡ value (getD (rowsOf rows) i blank) 1) (y : low ≡ value (getD (rowsOf rows) i blank) 2) (c d : Figures) (f : ℕ)
-    → f ≡ foundNumber (foundFor cells (queryFrom cells start high low)) → d ≡ figuresAfter c f → figuresOver cells d (drop (i + 1) (queriesOf cells)) ≡ figuresOver cells c (drop i (queriesOf cells))
-unfolding queryAt
-figures-next cells was rows i n part counted h start high low s x y c d f g k =
-    figures-turn cells (queriesOf cells) i (queryFrom cells start high low) (record { start = 0; name = record { high = 0; low = 0 } }) c d f
-    (inside cells was rows i n part counted h start high low s x y) (query-is cells was rows i n part counted h start high low s x y) g k
+        ap (λ (n : ℕ). summaryText n (r .one) (r .several) (r .none)) total-is ∙ rw (a, b, c)
 
 -- one write after another
 pub field-puts : (v : ℕ) (b c d : Buf) → c ≡ puts b (numberText v) → d ≡ put c 32 → d ≡ puts b (fieldText v)
 unfolding fieldText puts
 field-puts v b c d e f = puts-then b c d (numberText v) (32 ∷ []) e f
 
-pub counts-puts : (n one several none : ℕ) (b c d e f g : Buf) → c ≡ puts b summaryLine → d ≡ puts c (fieldText n) → e ≡ puts d (fieldText one) → f ≡ puts e (fieldText several)
-    → g ≡ puts f (fieldText none) → g ≡ puts b (countsText n one several none)
+pub counts-puts : (x : Figures) (n : ℕ) (b c d e f g : Buf) → n ≡ total x → c ≡ puts b summaryLine → d ≡ puts c (fieldText n) → e ≡ puts d (fieldText (x .one))
+    → f ≡ puts e (fieldText (x .several)) → g ≡ puts f (fieldText (x .none)) → g ≡ puts b (countsText x)
 unfolding countsText
-counts-puts n one several none b c d e f g h i j k l =
-    let z = puts-then e f g (fieldText several) (fieldText none) k l in
-    let y = puts-then d e g (fieldText one) (fieldText several ++ fieldText none) j z in
-    let x = puts-then c d g (fieldText n) (fieldText one ++ (fieldText several ++ fieldText none)) i y in
-    puts-then b c g summaryLine (fieldText n ++ (fieldText one ++ (fieldText several ++ fieldText none))) h x
+counts-puts x n b c d e f g t h i j k l =
+    let one = fieldText (x .one) in
+    let several = fieldText (x .several) in
+    let none = fieldText (x .none) in
+    let z = puts-then e f g several none k l in
+    let y = puts-then d e g one (several ++ none) j z in
+    let w = puts-then c d g (fieldText n) (one ++ (several ++ none)) i y in
+    puts-then b c g summaryLine (fieldText n ++ (one ++ (several ++ none))) h w
+    ∙ ap (λ (v : ℕ). puts b (summaryLine ++ (fieldText v ++ (one ++ (several ++ none))))) t
 
 pub share-none : (n one : ℕ) (b c : Buf) → n ≡ 0 → c ≡ put b 45 → c ≡ puts b (shareText n one)
 unfolding shareText puts
@@ -171,13 +160,14 @@ parts n o s z e =
     ∙ append-assoc s (32 ∷ []) ((z ++ (32 ∷ [])) ++ e)
     ∙ ap (λ (l : List ℕ). s ++ (32 ∷ l)) (append-assoc z (32 ∷ []) e))))
 
-pub summary-puts : (n one several none : ℕ) (b c d e : Buf) → c ≡ puts b (countsText n one several none) → d ≡ puts c (shareText n one) → e ≡ put d 10
-    → e ≡ puts b (summaryText n one several none)
-unfolding countsText fieldText summaryText puts
-summary-puts n one several none b c d e h i j =
-    let x = puts-then c d e (shareText n one) (10 ∷ []) i j in
-    puts-then b c e (countsText n one several none) (shareText n one ++ (10 ∷ [])) h x
-    ∙ ap (λ (l : List ℕ). puts b (summaryLine ++ l)) (sym (parts (numberText n) (numberText one) (numberText several) (numberText none) (shareText n one ++ (10 ∷ []))))
+pub summary-puts : (x : Figures) (n : ℕ) (b c d e : Buf) → n ≡ total x → c ≡ puts b (countsText x) → d ≡ puts c (shareText n (x .one)) → e ≡ put d 10
+    → e ≡ puts b (figuresText x)
+unfolding countsText fieldText summaryText figuresText puts
+summary-puts x n b c d e t h i j =
+    let w = puts-then c d e (shareText n (x .one)) (10 ∷ []) i j in
+    puts-then b c e (countsText x) (shareText n (x .one) ++ (10 ∷ [])) h w
+    ∙ ap (λ (v : ℕ). puts b (countsText x ++ (shareText v (x .one) ++ (10 ∷ [])))) t
+    ∙ ap (λ (l : List ℕ). puts b (summaryLine ++ l)) (sym (parts (numberText (total x)) (numberText (x .one)) (numberText (x .several)) (numberText (x .none)) (shareText (total x) (x .one) ++ (10 ∷ []))))
 
 -- a summary is short
 three : (v : ℕ) → v ≤ 256 → length (numberText v) ≤ 3
@@ -188,11 +178,15 @@ unfolding shareText
 share-short zero one h = omega arith
 share-short (suc n) one h = length-below 4 (share one (suc n)) (let z : 10 ^ 5 ≡ 100000 = refl in let d = share-small one (suc n) in rw z (omega arith))
 
-pub summary-short : (n one several none : ℕ) → n ≤ 256 → one + several + none ≤ 256 → length (summaryText n one several none) ≤ 64
-unfolding summaryText
-summary-short n one several none h k =
+pub summary-short : (c : Figures) → Few c → length (figuresText c) ≤ 64
+unfolding summaryText figuresText
+summary-short c few =
+    let n = total c in
+    let one = c .one in
+    let several = c .several in
+    let none = c .none in
     let e : List ℕ = shareText n one ++ (10 ∷ []) in
-    let a = three n h in
+    let a = three n few in
     let b = three one (omega arith) in
     let c = three several (omega arith) in
     let d = three none (omega arith) in
@@ -204,33 +198,6 @@ summary-short n one several none h k =
     let l5 = length-append (shareText n one) (10 ∷ []) in
     omega arith
 
--- the summary is written first to 64 bytes of one's own
-module _ (cells : List ℕ) (was : WasRead cells) (r : Figures) (e : r ≡ figuresOver cells noFigures (queriesOf cells)) (rows : List ℕ) (n : ℕ)
-    (part : rows ≡ partOf querySection cells) (counted : n ≡ length (rowsOf rows)) where
-  n-is : n ≡ length (queriesOf cells)
-  n-is = count-is cells was rows 0 n part counted
-
-  pub one-small : r .one < 1000
-  one-small = let f = figures-few cells was r e in omega arith
-
-  own-text : (o h : List ℕ) (m : ℕ) → _≡_ {A = Buf} (h, m) (puts (o, 0) (summaryText n (r .one) (r .several) (r .none))) → _≡_ {A = Buf} (h, m) (puts (o, 0) (summaryOf cells))
-  own-text o h m w = w ∙ ap (puts (o, 0)) (figures-text cells was r e n n-is)
-
-  own-fits : (o : List ℕ) → length o ≡ 64 → length (summaryOf cells) ≤ length o
-  own-fits o k =
-      let f = figures-few cells was r e in
-      let q = queries-few cells was in
-      let z = n-is in
-      let s = summary-short n (r .one) (r .several) (r .none) (omega arith) f in
-      let t = ap length (figures-text cells was r e n z) in
-      omega arith
-
-  module _ (o h : List ℕ) (m : ℕ) (w : _≡_ {A = Buf} (h, m) (puts (o, 0) (summaryText n (r .one) (r .several) (r .none)))) (k : length o ≡ 64) where
-    pub sum-within : (m ≤ length h) × (m ≡ length (take m h))
-    sum-within = own-within (summaryOf cells) o h m (own-text o h m w) (own-fits o k)
-
-    pub sum-short : (out : List ℕ) → length out < m → (refused 9 ≡ answer (done (summaryOf cells)) (length out)) × (out ≡ leaves (done (summaryOf cells)) out)
-    sum-short out l = own-short (summaryOf cells) o h m (own-text o h m w) (own-fits o k) out l
-
-    pub sum-whole : (out c : List ℕ) (q : ℕ) → m ≤ length out → _≡_ {A = Buf} (c, q) (puts (out, 0) (take m h)) → (done q ≡ answer (done (summaryOf cells)) (length out)) × (c ≡ leaves (done (summaryOf cells)) out)
-    sum-whole out c q l u = own-whole (summaryOf cells) o h m (own-text o h m w) (own-fits o k) out c q l u
+-- it is written first to 64 bytes of one's own
+pub summary-room : (c : Figures) → Few c → (o : List ℕ) → length o ≡ 64 → length (figuresText c) ≤ length o
+summary-room c few o e = let s = summary-short c few in omega arith

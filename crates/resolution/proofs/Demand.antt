@@ -28,14 +28,10 @@ use Rattle.graph_file.specs.Decode.{rulesOf, graphOf, opensOf, queriesOf, lette
 use Rattle.graph_file.specs.Accepted.{AcceptedTable}
 use Rattle.graph_file.proofs.DecodeAccepted.{read-accepted}
 use Rattle.follow.specs.Text.{endText}
-use Rattle.resolution.specs.Listing.{awaitsText, foundFor, entriesText, listingText, queryAt, listingOf, listingFor}
+use Rattle.resolution.specs.Listing.{awaitsText, foundFor, entriesText, listingText, listingOf, listingFor}
+use Rattle.board.specs.Queries.{queryAt}
+use Rattle.board.proofs.Queries.{getD-in}
 use Rattle.resolution.specs.Demand.{shownText, Right, Handed, Demand3}
-
--- an element that stands at a place of a list is in it
-pub getD-in : {A : Type 0} (l : List A) (i : ℕ) (d : A) → i < length l → getD l i d ∈ l
-getD-in [] i d h = absurd (omega arith)
-getD-in (x ∷ l) zero d h = here
-getD-in (x ∷ l) (suc i) d h = there (getD-in l i d (omega arith))
 
 module _ (cells : List ℕ) where
   abbrev L : Language

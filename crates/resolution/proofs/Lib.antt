@@ -1,15 +1,19 @@
--- What the proofs of several functions use, and the theorems that tie them to the rules. Assumes nothing.
+-- What the proofs of several functions use, and the theorems that tie them to the rules. Assumes
+-- nothing.
 pub mod ListLaws
-pub mod Texts
-pub mod First
-pub mod Unfollowed
-pub mod Walked
-pub mod Capitals
 pub mod Demand
 pub mod Totals
-pub mod Given
-pub mod Answers
-pub mod Heads
 pub mod Nearest
-pub mod Counts
 pub mod Marked
+pub mod Given
+pub mod Walked
+pub mod Answers
+pub mod Unfollowed
+pub mod First
+pub mod Numbered
+pub mod Buffers
+pub mod Reading
+pub mod Asks
+pub mod Texts
+pub mod Counts
+pub mod Heads

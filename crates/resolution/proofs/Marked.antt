@@ -1,4 +1,5 @@
--- The marked trials hold: the value of specs/Marked. Each is computed by the definitions, and passes to the rules by what is proved of them. Assumes nothing.
+-- The marked trials hold: the value of specs/Marked. Each is computed by the definitions, and
+-- passes to the rules by what is proved of them. Assumes nothing.
 use Prim.Native.Nat.{ℕ, _<_}
 use mathlib.Core.Path.{_≡_, refl, sym, ap, _∙_, subst}
 use mathlib.Core.Bool.{true, false}
@@ -29,12 +30,15 @@ use Rattle.graph_file.specs.Decode.{keptIf, rowsAmong, rowsIn, lettersOf, order
 use Rattle.graph_file.specs.Accepted.{AcceptedTable}
 use Rattle.graph_file.proofs.DecodeAccepted.{read-accepted}
 use Rattle.follow.specs.Text.{foundText, letterOf, hopsText, rowText, endText}
-use Rattle.resolution.specs.Listing.{awaitsText, foundFor, entriesText, listingText, queryAt}
+use Rattle.resolution.specs.Listing.{awaitsText, foundFor, entriesText, listingText}
+use Rattle.board.specs.Queries.{queryAt}
 use Rattle.resolution.specs.Demand.{shownText}
 use Rattle.resolution.specs.Marked.{hours, service, serviceAt2, serviceAt3Awaits3, hoursAt2, serviceAt3, serviceAt3Awaits1, hoursAt2AwaitsI, hoursTwice, serviceAt0, exampleText, closedText, open1Text, open2PText, open2IText, twoMarksText, turnedText, I, P, Shown, pathRow, openPair, queryFor, Dash, Lists, Judges, Marked}
-use Rattle.resolution.proofs.Demand.{getD-in, listing-is}
+use Rattle.resolution.proofs.Demand.{listing-is}
+use Rattle.board.proofs.Queries.{getD-in}
 
--- what reading a text computes with, and what a query's answers and their text do: each trial names one of these alone on its `unfolding` line
+-- what reading a text computes with, and what a query's answers and their text do: each trial names
+-- one of these alone on its `unfolding` line
 reads : Unit {0}
 unfolding labels pairs transitions accepts scopeCount edges declarations openPairs queries sections sectionAt andThen refuseIf nothing begun joined counted taken everyItem kindInRange itemInRange inRange keyLess listed follows unless admission someRow sameEnds gap pairFault orderFault ifAdmitted afterRow oneRow throughRows afterNames enough throughSection isEmpty throughSections ordered atStart whole madeOf within isDigit isCapital isLower isNameByte numberTaken numberMeaning nameTaken nameMeaning byteTaken place endTaken readField startsWith readItem placeOf readItems growing digitsFrom numberHere packed packHigh packLow nameRun nameOf nameHere readNames rowFollows readRow reading readStage readCells
 reads = tt

@@ -1,4 +1,5 @@
--- What the share is: the value of specs/Share's theorem, and the three ways in which the code comes to it. Assumes nothing.
+-- What the share is: the value of specs/Share's theorem, and the three ways in which the code comes
+-- to it. Assumes nothing.
 use Prim.Native.Nat.{ℕ, zero, suc, _+_, _*_, _/_, _%_, _<_, _≤_}
 use mathlib.Core.Path.{_≡_, refl}
 use mathlib.Core.Bool.{Bool, true, false}
@@ -58,7 +59,8 @@ module _ (one n d r : ℕ) (whole : n * d + r ≡ one * 100) (rest : r < n) wher
       by false e false f = let h = ltb-false n (2 * r) e in let k = eqb-false (2 * r) n f in omega arith
 
 module _ (one n : ℕ) (some : 0 < n) where
-  -- of two such numbers the lesser lies at the half below and the greater at the half above; so they are neighbours and both even
+  -- of two such numbers the lesser lies at the half below and the greater at the half above; so
+  -- they are neighbours and both even
   apart : (s t : ℕ) → IsShare one n s → IsShare one n t → s < t → ⊥
   apart s t a b h = by (eq-or-lt-of-le h)
     where

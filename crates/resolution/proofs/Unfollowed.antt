@@ -1,62 +1,85 @@
--- An open pair whose places are all away from the start is not followed, and a query's tables are ready. Assumes nothing.
-use Prim.Native.Nat.{ℕ, zero, suc, _<_}
+-- An open pair whose places are all barred or away from the start is not followed. Assumes nothing.
+use Prim.Native.Nat.{ℕ, zero, suc, _^_, _≤_, _<_}
 use mathlib.Core.Path.{_≡_, refl, sym, ap, _∙_, fun-ext}
-use mathlib.Core.Bool.{Bool, true, false, not, _&&_, _||_}
+use mathlib.Core.Bool.{Bool, true, false, not, _&&_, _||_, and-false, or-false, false≢true}
+use mathlib.Core.Logic.{_⊎_, inl, inr}
 use mathlib.Core.List.{List, [], _∷_, _++_, flatMap}
 use native.Mathlib.Omega.{arith}
-use borrow.Author.Tests.{eqb-true}
-use lib.Dec.{eqb, leb}
-use lib.ListN.{getD, set, replicate}
+use borrow.Author.Tests.{eqb-true, lt-ltb, le-ltb, ltb-true}
+use lib.Dec.{eqb, leb, ltb}
+use lib.ListN.{getD, replicate, getD-replicate}
 use Rattle.scope_graph.specs.Language.{End, stop, by}
 use Rattle.scope_graph.specs.Order.{endOf}
 use Rattle.scope_graph.specs.Rows.{anyOf}
 use Rattle.scope_graph.specs.Computed.{NodeOf}
 use Rattle.scope_graph.proofs.Lists.{and-left, and-right}
-use Rattle.graph_file.specs.Format.{countSection, edgeSection, declarationSection}
-use Rattle.graph_file.specs.Admission.{value, blank}
-use Rattle.search.specs.Board.{Board, without, leadsOn, nodeAt, cutHere, ownHit, hopHits, hitsFrom}
-use Rattle.search.specs.Live.{Closed, any-way}
-use Rattle.search.specs.Tables.{hasState, placeFlag, pairFlag, freeFlag, endNumber, tableOrder, tableBoard}
-use Rattle.search.specs.Steps.{wayOf}
+use Rattle.block.specs.Sets.{hasScope, hasState, placesOf}
+use Rattle.block.specs.Block.{acceptSet, usableSet, scopesCell, pairFlag}
+use Rattle.block.specs.Ask.{askStart, askGoal}
+use Rattle.block.proofs.SetLaws.{scopes-one, states-none, places-no-scope, places-scope, places-state, places-none}
+use Rattle.search.specs.Board.{Board, without, hopLeads, nodeAt, cutHere, ownHit, hopHits, hitsFrom}
+use Rattle.search.specs.Live.{Closed, open-way}
+use Rattle.search.specs.Tables.{placeFlag, endNumber, tableOrder, tableBoard}
+use Rattle.search.specs.Conditions.{freeAt, wayOf, AwayAt}
 use Rattle.search.proofs.RulesLists.{flatMap-same}
 use Rattle.search.proofs.Closed.{without-within, closed-hits}
-use Rattle.search.proofs.Cells.{place-scope, place-state, place-held, way-is-open}
-use Rattle.prepared.specs.Sections.{partOf, rowsOf}
-use Rattle.prepared.specs.Tables.{statesBelow, usableFlag, openSets, declaringFlags, goalSets}
-use Rattle.prepared.specs.Promises.{transitionTable, acceptingTable, orderTable, goalTable}
-use Rattle.prepared.proofs.Board.{states-are, one-set}
-use Rattle.follow.specs.declared.Budget.the-variants.{Left}
-use Rattle.follow.specs.Pour.{State, spend, pour}
-use Rattle.follow.specs.Walk.{placeBytes, bytesFrom, walked}
-use Rattle.resolution.specs.declared.tables.Tables.{Tables}
-use Rattle.graph_file.specs.Decode.{WasRead}
-use Rattle.resolution.specs.Asked.{LiveAt, WorthAt, AwayAt, Ready, barred, IsAway, walkWith, letterTable, isOver, followedBy}
-use Rattle.resolution.proofs.Walked.{full-free}
+use Rattle.follow.specs.Walk.{placesFrom, followedIn}
+use Rattle.resolution.specs.Asked.{barred, Missed, AwayFrom, followedBy}
 
--- a place that an open pair asks for is at its scope, in a state where its end is usable
-pub open-place : (delta accepts hopes : List ℕ) (at end s q : ℕ) → placeFlag (openSets delta accepts hopes at end) s q ≡ true
-    → (s ≡ at) × (usableFlag delta accepts hopes q end ≡ true)
-unfolding openSets
-open-place delta accepts hopes at end s q h =
-    let f : ℕ → Bool = λ p. usableFlag delta accepts hopes p end in
-    let below : s < 64 = place-scope _ s q h in
-    let few : q < 16 = place-state _ s q h in
-    let b : (eqb s at && hasState (statesBelow f 16) q) ≡ true = sym (one-set (statesBelow f 16) at s q below) ∙ place-held _ s q h in
-    (eqb-true s at (and-left (eqb s at) _ b), sym (states-are f q (λ k. absurd (omega arith))) ∙ and-right (eqb s at) _ b)
+-- a place's flag by its scope's set
+pub place-set : (t : List ℕ) (s q : ℕ) → s < 64 → placeFlag t s q ≡ hasState (getD t s 0) q
+unfolding placeFlag
+place-set t s q h = rw (lt-ltb s 64 h, placeFlag)
 
--- a barred place
-module _ (goal order away : List ℕ) (at end q : ℕ) where
-  pub barred-away : placeFlag away at q ≡ true → barred goal order away at end q ≡ true
+-- the states that are left of those where the end is usable
+module _ (block : List ℕ) (goal : ℕ) (away : List ℕ) (at end : ℕ) (inside : at < 64) (states u : ℕ) (is : u ≡ usableSet block end)
+    (less-away : (q : ℕ) → hasState states q ≡ (hasState u q && not (hasState (getD away at 0) q))) where
+  left : (q : ℕ) → hasState states q ≡ (hasState (usableSet block end) q && not (hasState (getD away at 0) q))
+  left q = less-away q ∙ ap (λ (x : ℕ). hasState x q && not (hasState (getD away at 0) q)) is
+
+  -- where what is sought cuts nothing
+  pub left-open : (hasScope goal at ≡ false) ⊎ (pairFlag block 0 end ≡ false) → (q : ℕ)
+      → hasState states q ≡ (hasState (usableSet block end) q && not (barred block goal away at end q))
   unfolding barred
-  barred-away h = rw (h, barred)
+  left-open c q = left q ∙ ap (λ (x : Bool). hasState (usableSet block end) q && not x) (sym (plain c))
+    where
+      plain : (hasScope goal at ≡ false) ⊎ (pairFlag block 0 end ≡ false) → barred block goal away at end q ≡ hasState (getD away at 0) q
+      plain (inl e) = rw (places-no-scope goal (acceptSet block) at q e, place-set away at q inside, barred) (or-false (hasState (getD away at 0) q))
+      plain (inr e) = rw (e, place-set away at q inside, barred, and-false (placesOf goal (acceptSet block) at q)) (or-false (hasState (getD away at 0) q))
 
-  pub barred-stop : placeFlag away at q ≡ false → placeFlag goal at q ≡ true → barred goal order away at end q ≡ pairFlag order 0 end
-  unfolding barred
-  barred-stop h k = rw (h, k, barred)
+  -- where it cuts the end in the accepting states
+  pub left-cut : hasScope goal at ≡ true → pairFlag block 0 end ≡ true → (fewer accepts : ℕ) → accepts ≡ acceptSet block
+      → ((q : ℕ) → hasState fewer q ≡ (hasState states q && not (hasState accepts q))) → (q : ℕ)
+      → hasState fewer q ≡ (hasState (usableSet block end) q && not (barred block goal away at end q))
+  unfolding barred placesOf
+  left-cut g p fewer accepts same less q =
+      less q ∙ ap (λ (x : ℕ). hasState states q && not (hasState x q)) same ∙ ap (λ (x : Bool). x && not (hasState (acceptSet block) q)) (left q)
+      ∙ both (hasState (usableSet block end) q) (hasState (getD away at 0) q) (hasState (acceptSet block) q)
+      ∙ ap (λ (x : Bool). hasState (usableSet block end) q && not x) (sym here)
+    where
+      both : (u a c : Bool) → ((u && not a) && not c) ≡ (u && not (a || c))
+      both true true c = refl
+      both true false c = refl
+      both false a c = refl
 
-  pub barred-no : placeFlag away at q ≡ false → placeFlag goal at q ≡ false → barred goal order away at end q ≡ false
-  unfolding barred
-  barred-no h k = rw (h, k, barred)
+      alone : (a : Bool) → (a && true) ≡ a
+      alone true = refl
+      alone false = refl
+
+      here : barred block goal away at end q ≡ (hasState (getD away at 0) q || hasState (acceptSet block) q)
+      here = rw (g, p, place-set away at q inside, barred, alone (hasState (acceptSet block) q))
+
+-- none is left: each place is barred
+pub none-left : (block : List ℕ) (goal : ℕ) (away : List ℕ) (at end states g : ℕ) → g ≡ goal
+    → ((q : ℕ) → hasState states q ≡ (hasState (usableSet block end) q && not (barred block g away at end q))) → states ≡ 0 → Missed block goal away at end
+none-left block goal away at end states g is e z q u =
+    off (hasState (usableSet block end) q) (barred block goal away at end q) u
+    (ap (λ (x : ℕ). hasState (usableSet block end) q && not (barred block x away at end q)) (sym is) ∙ sym (e q) ∙ ap (λ (x : ℕ). hasState x q) z ∙ states-none q)
+  where
+    off : (a c : Bool) → a ≡ true → (a && not c) ≡ false → c ≡ true
+    off true true h k = refl
+    off true false h k = sym k
+    off false c h k = absurd (let z : _≡_ {A = ℕ} 0 1 = cc in omega arith)
 
 -- a place where stopping cuts the end gives no hit, whether it is asked for or not
 cut-anyway : (k x y : Bool) → (k && not (x || y)) ≡ ((k && not x) && not (x || y))
@@ -72,7 +95,7 @@ module _ {A : Type 0} (b : Board A) (prefers : End A → End A → Bool) (seek :
   unfolding ownHit cutHere
   own-same fuel free s q =
       ap (λ (t : Bool). elim t as (λ _. List (NodeOf A)) [ true ↦ nodeAt b s q ∷ [] | false ↦ [] ])
-      (cut-anyway (seek s q) (b .here s q && prefers stop e) (anyOf (λ h. prefers (by (h .step)) e && leadsOn b fuel free q h) (b .hops s)))
+      (cut-anyway (seek s q) (b .here s q && prefers stop e) (anyOf (λ h. prefers (by (h .step)) e && hopLeads b fuel free q h) (b .hops s)))
 
   hits-same : (fuel : ℕ) (free : ℕ → Bool) (s q : ℕ) → hitsFrom b prefers seek e fuel free s q ≡ hitsFrom b prefers open-seek e fuel free s q
   unfolding hitsFrom hopHits
@@ -84,101 +107,111 @@ module _ {A : Type 0} (b : Board A) (prefers : End A → End A → Bool) (seek :
       ap (λ (enter : ℕ → ℕ → List (NodeOf A)). hopHits b prefers open-seek e enter fuel free s q h) (fun-ext (λ t. fun-ext (λ r. hits-same fuel (without free t) t r)))))
 
 -- an end's number, and whether stopping is preferred to it
-stop-end : (order : List ℕ) (end : ℕ) → tableOrder order stop (endOf end) ≡ pairFlag order 0 end
+stop-end : (block : List ℕ) (end : ℕ) → tableOrder block stop (endOf end) ≡ pairFlag block 0 end
 unfolding tableOrder endNumber endOf
-stop-end order zero = refl
-stop-end order (suc l) = refl
+stop-end block zero = refl
+stop-end block (suc l) = refl
 
 bar : (a x : Bool) → (a || x) ≡ true → not x ≡ true → a ≡ true
 bar true x h k = refl
 bar false true h k = k
 bar false false h k = h
 
-module _ (cells letters delta accepts hopes goal order : List ℕ) (start high low at end : ℕ) (away : List ℕ) where
-  abbrev seek : List ℕ
-  seek = openSets delta accepts hopes at end
+-- the steps that are not cut, as the table and as the search has them
+way-is-open : (block : List ℕ) (goal : ℕ) → wayOf block goal ≡ open-way (tableBoard block goal) (tableOrder block)
+unfolding wayOf open-way tableBoard
+way-is-open block goal = refl
 
-  abbrev edges : List ℕ
-  edges = partOf edgeSection cells
+module _ (block table ask : List ℕ) (at end : ℕ) (away : List ℕ) where
+  abbrev goal : ℕ
+  goal = askGoal ask
 
-  abbrev ones : List ℕ
-  ones = replicate 64 1
+  abbrev start : ℕ
+  start = askStart ask
 
-  -- the table of what is away is closed for the pair's places too, but for those where stopping cuts its end
-  away-closed : AwayAt cells delta goal order away → IsAway delta accepts hopes goal order away start at end
-      → Closed (tableBoard edges delta goal) (open-seek (tableBoard edges delta goal) (tableOrder order) (placeFlag seek) (endOf end)) (wayOf goal order true) (freeFlag ones) (placeFlag away)
+  abbrev b : Board ℕ
+  b = tableBoard block goal
+
+  abbrev seek : ℕ → ℕ → Bool
+  seek = placesOf (2 ^ at) (usableSet block end)
+
+  abbrev all : ℕ → Bool
+  all = λ t. ltb t 64
+
+  -- the table of what is away is closed for the pair's places too, but for those where stopping
+  -- cuts its end
+  away-closed : at < 64 → AwayAt block goal away → Missed block goal away at end
+      → Closed b (open-seek b (tableOrder block) seek (endOf end)) (wayOf block goal) all (placeFlag away)
   unfolding tableBoard barred
-  away-closed c a = record {
-    asked = λ s q h.
-        let f : placeFlag seek s q ≡ true = and-left (placeFlag seek s q) _ h in
-        let p = open-place delta accepts hopes at end s q f in
-        let n : not (placeFlag goal s q && pairFlag order 0 end) ≡ true = rw (stop-end order end) at (and-right (placeFlag seek s q) _ h) in
-        let m : barred goal order away s end q ≡ true = rw (p .0) (a .missed q (place-state seek s q f) (p .1)) in
-        bar (placeFlag away s q) (placeFlag goal s q && pairFlag order 0 end) m n;
+  away-closed h c missed = record {
+    asked = λ s q k.
+        let f : seek s q ≡ true = and-left (seek s q) _ k in
+        let same : s ≡ at = eqb-true s at (sym (scopes-one at s h) ∙ places-scope (2 ^ at) (usableSet block end) s q f) in
+        let n : not (placesOf goal (acceptSet block) s q && pairFlag block 0 end) ≡ true = rw (stop-end block end) at (and-right (seek s q) _ k) in
+        let m : barred block goal away s end q ≡ true = rw same (missed q (places-state (2 ^ at) (usableSet block end) s q f)) in
+        bar (placeFlag away s q) (placesOf goal (acceptSet block) s q && pairFlag block 0 end) m n;
     back = c .back;
   }
 
-  no-hits : (fuel : ℕ) → AwayAt cells delta goal order away → IsAway delta accepts hopes goal order away start at end
-      → hitsFrom (tableBoard edges delta goal) (tableOrder order) (placeFlag seek) (endOf end) fuel (without (freeFlag (replicate 64 1)) start) start 0 ≡ []
-  no-hits fuel c a =
-      hits-same (tableBoard edges delta goal) (tableOrder order) (placeFlag seek) (endOf end) fuel (without (freeFlag (replicate 64 1)) start) start 0
-      ∙ closed-hits (tableBoard edges delta goal) (freeFlag ones) (placeFlag away) (tableOrder order)
-      (open-seek (tableBoard edges delta goal) (tableOrder order) (placeFlag seek) (endOf end)) (endOf end)
-      (rw (way-is-open edges delta goal order) at (away-closed c a)) fuel (without (freeFlag ones) start) start 0
-      (without-within (freeFlag ones) (freeFlag ones) start (λ t h. h)) (full-free 64 start (a .inside)) (a .begins)
+  no-places : (fuel : ℕ) → at < 64 → start < 64 → AwayFrom block goal start away → Missed block goal away at end
+      → placesFrom block table ask (2 ^ at) (usableSet block end) end fuel (freeAt start) start 0 ≡ []
+  unfolding placesFrom freeAt
+  no-places fuel h inside from missed =
+      hits-same b (tableOrder block) seek (endOf end) fuel (without all start) start 0
+      ∙ closed-hits b all (placeFlag away) (tableOrder block) (open-seek b (tableOrder block) seek (endOf end)) (endOf end)
+      (rw (way-is-open block goal) at (away-closed h (from .closed) missed)) fuel (without all start) start 0
+      (without-within all all start (λ t k. k)) (lt-ltb start 64 inside) (from .begins)
 
-  pub unfollowed : AwayAt cells delta goal order away → IsAway delta accepts hopes goal order away start at end
-      → followedBy cells letters delta accepts hopes goal order start high low at end ≡ false
-  unfolding followedBy walkWith walked bytesFrom pour spend isOver flatMap
-  unfollowed c a = one (leb (value (getD (rowsOf (partOf countSection cells)) 0 blank) 0) 64)
+  unfollowed : at < 64 → start < 64 → AwayFrom block goal start away → Missed block goal away at end
+      → followedIn block table ask (2 ^ at) (usableSet block end) end ≡ false
+  unfolding followedIn anyOf
+  unfollowed h inside from missed = one (leb (scopesCell block) 64)
     where
-      st : State
-      st = (0 ∷ [], record { place = 0; budget = Left 0 })
+      places : List (NodeOf ℕ)
+      places = placesFrom block table ask (2 ^ at) (usableSet block end) end (scopesCell block) (freeAt start) start 0
 
-      bytes : List ℕ
-      bytes =
-          bytesFrom 3 letters (partOf declarationSection cells) high low start edges delta goal order seek end [] (value (getD (rowsOf (partOf countSection cells)) 0 blank) 0)
-          (without (freeFlag (replicate 64 1)) start) start 0
-
-      none : bytes ≡ []
-      none = ap (flatMap (placeBytes 3 letters (partOf declarationSection cells) high low start [])) (no-hits (value (getD (rowsOf (partOf countSection cells)) 0 blank) 0) c a)
-
-      one : (t : Bool) → isOver ((elim t as (λ _. State) [ true ↦ pour 3 st bytes | false ↦ st ]) .1 .budget) ≡ false
-      one true = ap (λ (xs : List ℕ). isOver ((pour 3 st xs) .1 .budget)) none
+      one : (t : Bool) → (elim t as (λ _. Bool) [ true ↦ anyOf (λ (n : NodeOf ℕ). true) places | false ↦ false ]) ≡ false
+      one true = ap (anyOf (λ (n : NodeOf ℕ). true)) (no-places (scopesCell block) h inside from missed)
       one false = refl
 
--- a table that is made for the scopes that are free at the start, over the table's edges
-module _ (cells delta goal order seek edges ones : List ℕ) (start : ℕ) (e : edges ≡ partOf edgeSection cells) (f : ones ≡ set (replicate 64 1) start 0) where
-  pub live-at : (live : List ℕ) → Closed (tableBoard edges delta goal) (placeFlag goal) (any-way (tableBoard edges delta goal)) (freeFlag ones) (placeFlag live) → LiveAt cells delta goal start live
-  live-at live c = rw (e, f) at c
+  -- what the code answers, way by way
+  pub no-scope : 63 < at → false ≡ followedBy block table ask at end
+  unfolding followedBy
+  no-scope h = sym (rw (le-ltb at 64 (omega arith), followedBy))
 
-  pub worth-at : (worth : List ℕ) → Closed (tableBoard edges delta goal) (placeFlag seek) (wayOf goal order true) (freeFlag ones) (placeFlag worth)
-      → WorthAt cells delta goal order seek start worth
-  worth-at worth c = rw (e, f) at c
+  pub no-end : 8 < end → false ≡ followedBy block table ask at end
+  unfolding followedBy
+  no-end h = sym (rw (le-ltb end 9 (omega arith), and-false (ltb at 64), followedBy))
 
--- a table that is made with all scopes free, over the table's edges
-pub away-at : (cells delta goal order edges away : List ℕ) → edges ≡ partOf edgeSection cells
-    → Closed (tableBoard edges delta goal) (placeFlag []) (wayOf goal order true) (freeFlag (replicate 64 1)) (placeFlag away) → AwayAt cells delta goal order away
-away-at cells delta goal order edges away e c = rw e at c
+  followed-is : at < 64 → end < 9 → followedBy block table ask at end ≡ followedIn block table ask (2 ^ at) (usableSet block end) end
+  unfolding followedBy
+  followed-is h k = rw (lt-ltb at 64 h, lt-ltb end 9 k, followedBy)
 
--- a table that is closed for any step is closed for steps that are not cut
-pub live-worth : (cells delta goal order : List ℕ) (start : ℕ) (live : List ℕ) → LiveAt cells delta goal start live → WorthAt cells delta goal order goal start live
-unfolding any-way
-live-worth cells delta goal order start live c = record { asked = c .asked; back = λ s q h r below m f n w l. c .back s q h r below m f n refl l }
+  pub all-barred : at < 64 → end < 9 → start < 64 → AwayFrom block goal start away → Missed block goal away at end → false ≡ followedBy block table ask at end
+  all-barred h k inside from missed = sym (followed-is h k ∙ unfollowed h inside from missed)
 
--- the walk over the entries has the query's tables
-pub walk-ready : (cells : List ℕ) (mode start high low : ℕ) (t : Tables) (st w : State) → Ready cells start high low t
-    → w ≡ walkWith cells mode (t .letters) (t .delta) (t .goal) (t .order) start high low (t .goal) 0 st
-    → w ≡ walkWith cells mode (letterTable cells) (transitionTable cells) (goalTable cells (record { high = high; low = low })) (orderTable cells) start high low (goalTable cells (record { high = high; low = low })) 0 st
-walk-ready cells mode start high low t st w r h =
-    h
-    ∙ ap (λ (l : List ℕ). walkWith cells mode l (t .delta) (t .goal) (t .order) start high low (t .goal) 0 st) (r .letters)
-    ∙ ap (λ (l : List ℕ). walkWith cells mode (letterTable cells) l (t .goal) (t .order) start high low (t .goal) 0 st) (r .delta)
-    ∙ ap (λ (l : List ℕ). walkWith cells mode (letterTable cells) (transitionTable cells) l (t .order) start high low l 0 st) (r .goal)
-    ∙ ap (λ (l : List ℕ). walkWith cells mode (letterTable cells) (transitionTable cells) (goalTable cells (record { high = high; low = low })) l start high low (goalTable cells (record { high = high; low = low })) 0 st) (r .order)
+  pub by-walk : at < 64 → end < 9 → (scopes : ℕ) → ((u : ℕ) → hasScope scopes u ≡ eqb u at) → (states : ℕ) → states ≡ usableSet block end
+      → (r : Bool) → r ≡ followedIn block table ask scopes states end → r ≡ followedBy block table ask at end
+  unfolding followedIn placesFrom placesOf
+  by-walk h k scopes one states is r e =
+      e ∙ ap (λ (x : ℕ). followedIn block table ask scopes x end) is ∙ ap (λ (has : ℕ → Bool). elim (leb (scopesCell block) 64) as (λ _. Bool) [ true ↦ anyOf (λ (n : NodeOf ℕ). true) (hitsFrom b (tableOrder block) (λ s q. has s && hasState (usableSet block end) q) (endOf end) (scopesCell block) (freeAt start) start 0) | false ↦ false ])
+      (fun-ext (λ u. one u ∙ sym (scopes-one at u h)))
+      ∙ sym (followed-is h k)
 
--- where a path may end, by the table's accepting states
-pub goal-ready : (cells : List ℕ) (high low : ℕ) (accepts goal : List ℕ) → accepts ≡ acceptingTable cells
-    → goal ≡ goalSets accepts (declaringFlags (record { high = high; low = low }) (rowsOf (partOf declarationSection cells)))
-    → goal ≡ goalTable cells (record { high = high; low = low })
-goal-ready cells high low accepts goal a g = g ∙ ap (λ (l : List ℕ). goalSets l (declaringFlags (record { high = high; low = low }) (rowsOf (partOf declarationSection cells)))) a
+-- no place of the empty table is away
+no-place : (s q : ℕ) → placeFlag (replicate 64 0) s q ≡ false
+unfolding placeFlag
+no-place s q = one (ltb s 64) refl
+  where
+    one : (t : Bool) → ltb s 64 ≡ t → (elim t as (λ _. Bool) [ true ↦ hasState (getD (replicate 64 0) s 0) q | false ↦ false ]) ≡ false
+    one true t = ap (λ (x : ℕ). hasState x q) (getD-replicate 64 s 0 0 (ltb-true s 64 t)) ∙ states-none q
+    one false t = refl
+
+pub none-away : (block : List ℕ) (goal start : ℕ) → AwayFrom block goal start (replicate 64 0)
+none-away block goal start = record {
+  closed = record {
+    asked = λ s q h. absurd (false≢true (sym (places-none 0 s q) ∙ h));
+    back = λ s q h r f m g n w l. absurd (false≢true (sym (no-place (h .to) r) ∙ l));
+  };
+  begins = no-place start 0;
+}

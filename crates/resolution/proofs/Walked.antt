@@ -1,37 +1,46 @@
--- What the walk pours for a query of an accepted table: the rows of its entries, as many bytes as it has entries, a byte for each place that shows an open
--- pair decisive. Assumes nothing.
-use Prim.Native.Nat.{ℕ, zero, suc, _+_, _≤_, _<_}
+-- What the walk takes for a query of a table that was read: the rows of its entries. And the places
+-- that it finds for an open pair show it followed. Assumes nothing.
+use Prim.Native.Nat.{ℕ, zero, suc, _^_, _≤_, _<_}
 use mathlib.Core.Path.{_≡_, refl, sym, ap, _∙_}
 use mathlib.Core.Bool.{Bool, true, false, not, _&&_}
 use mathlib.Core.List.{List, [], _∷_, _++_, map, flatMap}
 use native.Mathlib.Omega.{arith}
-use borrow.Author.Tests.{le-leb, lt-leb}
-use lib.Dec.{eqb, leb}
-use lib.ListN.{length, getD, replicate}
+use borrow.Author.Tests.{le-leb, lt-ltb}
+use lib.Dec.{eqb, leb, ltb}
+use lib.ListN.{length, getD}
 use Rattle.scope_graph.specs.Language.{_∈_, End, stop, by, Language, Laws}
 use Rattle.scope_graph.specs.Graph.{Declaration, Graph, InRange, Query, OpenPair}
 use Rattle.scope_graph.specs.Path.{HopOf, PathRow}
 use Rattle.scope_graph.specs.Rows.{PackedName, Rules, anyOf, sameName, language}
 use Rattle.scope_graph.specs.Order.{endOf}
-use Rattle.scope_graph.specs.Computed.{NodeOf, Found, found-none, found-one, found-several, foundOf, keep, marksAt, usable, openEnd, rowsAt, entries, found, followedAt}
+use Rattle.scope_graph.specs.Computed.{NodeOf, keep, marksAt, usable, openEnd, nodes, cut, rowsAt, entries, followedAt}
+use Rattle.scope_graph.proofs.Lists.{keep-elim, and-left}
 use Rattle.graph_file.specs.Admission.{Row, value}
 use Rattle.graph_file.specs.Format.{declarationSection}
-use Rattle.graph_file.specs.Decode.{rowsIn, lettersOf, rulesOf, nameAt, declarationOf, graphOf, opensOf, queriesOf, scopesOf}
+use Rattle.graph_file.specs.Decode.{rowsIn, lettersOf, rulesOf, nameAt, declarationOf, graphOf, scopesOf}
 use Rattle.graph_file.specs.Accepted.{AcceptedTable}
+use Rattle.block.specs.Sets.{placesOf}
+use Rattle.block.specs.Block.{acceptSet, usableSet, scopesCell, declaredPart}
+use Rattle.block.specs.Ask.{askStart, askHigh, askLow, askGoal}
+use Rattle.block.proofs.SetLaws.{scope-below, places-scope}
 use Rattle.search.specs.Board.{Board, boardOf, without, hitsFrom}
-use Rattle.search.specs.Tables.{placeFlag, freeFlag, endNumber, tableOrder, tableBoard}
-use Rattle.search.proofs.Rules.{entries-are-hits, followed-is-hit}
+use Rattle.search.specs.Tables.{tableOrder, tableBoard}
+use Rattle.search.specs.Conditions.{freeAt}
+use Rattle.search.proofs.Rules.{hits-kept, entries-are-hits, followed-is-hit}
 use Rattle.search.proofs.RulesLists.{flatMap-same}
-use Rattle.prepared.specs.Sections.{partOf, rowsOf}
-use Rattle.prepared.specs.Tables.{transitionCells, acceptingFlags, letterBytes, orderFlags, hopefulFlags, declaringFlags, goalSets, openSets}
+use Rattle.graph_table.specs.Sections.{partOf, rowsOf}
+use Rattle.board.specs.Marks.{declaredHere, matches, marksIn}
+use Rattle.follow.specs.declared.Task.the-variants.{Entries}
+use Rattle.follow.specs.declared.Bounds.{Bounds}
+use Rattle.follow.specs.declared.Aim.{Aim}
 use Rattle.follow.specs.Text.{letterOf, hopsText, rowText}
-use Rattle.follow.specs.declared.Budget.{Budget}
-use Rattle.follow.specs.declared.Budget.the-variants.{Left, Over}
-use Rattle.follow.specs.Pour.{spend, State, pour}
-use Rattle.follow.specs.Walk.{declaredHere, matches, marksIn, entryBytes, entriesBytes, placeBytes, bytesFrom, walked}
-use Rattle.resolution.specs.Listing.{foundFor, entriesText}
-use Rattle.resolution.specs.Asked.{letterTable, foundNumber, roomNumber, isOver}
-use Rattle.resolution.proofs.ListLaws.{flatMap-twice, flatMap-map, ones-length, any-some, any-none}
+use Rattle.follow.specs.Tally.{State, takeRows}
+use Rattle.follow.specs.Walk as walk
+use Rattle.follow.specs.Walk.{letterBytes, entryRows, placeRows, placesFrom, rowsFrom, walked, followedIn}
+use Rattle.resolution.specs.Asked.{Ready, queryIn, rowTexts}
+use Rattle.resolution.proofs.ListLaws.{map-map, map-flatMap, map-same}
+use Rattle.resolution.proofs.Given.{letters-same, scopes-same, board-same, order-same, open-same, declared-same}
+use Rattle.board.proofs.Queries.{accepted, rows-are}
 
 -- The marks that the code finds in cells are those of the declarations in their rows.
 unfoldable marksOf : List Row → ℕ → PackedName → List ℕ
@@ -78,188 +87,122 @@ module _ (a b : List ℕ) (same : (l : ℕ) → getD a l 0 ≡ getD b l 0) where
   unfolding rowText
   row-same mark start hops = rw (hops-same hops)
 
-  pub entry-same : (mode start : ℕ) (hops : List (HopOf ℕ)) (mark : ℕ) → entryBytes mode a start hops mark ≡ entryBytes mode b start hops mark
-  unfolding entryBytes
-  entry-same mode start hops mark =
-      ap (λ (z : List ℕ). elim (eqb mode 2) as (λ _. List ℕ) [ true ↦ 0 ∷ [] | false ↦ z ]) (row-same mark start hops)
-
--- The tables that are made of a graph table.
-module _ (cells : List ℕ) where
-  abbrev pub edgesOf : List ℕ
-  edgesOf = partOf 5 cells
-
-  abbrev pub declsOf : List ℕ
-  declsOf = partOf 6 cells
-
-  abbrev pub deltaOf : List ℕ
-  deltaOf = transitionCells (rowsOf (partOf 2 cells))
-
-  abbrev pub acceptingOf : List ℕ
-  acceptingOf = acceptingFlags (rowsOf (partOf 3 cells))
-
-  abbrev pub orderOf : List ℕ
-  orderOf = orderFlags (rowsOf (partOf 1 cells))
-
-  abbrev pub goalOf : ℕ → ℕ → List ℕ
-  goalOf high low = goalSets acceptingOf (declaringFlags (record { high = high; low = low }) (rowsOf declsOf))
-
-  abbrev pub openOf : ℕ → ℕ → List ℕ
-  openOf at end = openSets deltaOf acceptingOf (hopefulFlags deltaOf acceptingOf) at end
-
-  -- They are the rules' own.
-  pub record TablesAre : Type 0 where
-    pub rows : (k : ℕ) → k < 9 → rowsOf (partOf k cells) ≡ rowsIn k cells
-    pub board : (high low : ℕ) → tableBoard edgesOf deltaOf (goalOf high low) ≡ boardOf (language (rulesOf cells)) (graphOf cells) (record { high = high; low = low })
-    pub order : tableOrder orderOf ≡ language (rulesOf cells) .prefers
-    pub opens : (at end : ℕ) → at < 64
-        → placeFlag (openOf at end) ≡ (λ s st. eqb s at && usable (language (rulesOf cells)) st (endOf end))
-    pub letters : (l : ℕ) → getD (letterTable cells) l 0 ≡ getD (lettersOf cells) l 0
-
--- what a count of entries against a room of one says
-room-found : {A : Type 0} (l : List A) → roomNumber (spend (Left 1) (length l)) ≡ foundNumber (foundOf l)
-unfolding foundNumber roomNumber spend foundOf
-room-found [] = refl
-room-found (a ∷ []) = refl
-room-found (a ∷ c ∷ l) = rw (lt-leb (length (a ∷ c ∷ l)) 1 (omega arith), spend, roomNumber)
-
--- a room of none is over exactly if there is a byte
-over-any : {A : Type 0} (l : List A) → isOver (spend (Left 0) (length l)) ≡ anyOf (λ (a : A). true) l
-unfolding isOver spend anyOf
-over-any [] = refl
-over-any (a ∷ l) = rw (lt-leb (length (a ∷ l)) 0 (omega arith), spend, isOver)
-
--- with all scopes free each below their number is
-pub full-free : (n t : ℕ) → t < n → freeFlag (replicate n 1) t ≡ true
-unfolding freeFlag
-full-free zero t h = absurd (omega arith)
-full-free (suc n) zero h = refl
-full-free (suc n) (suc t) h = full-free n t (omega arith)
-
-module _ (cells : List ℕ) (t : AcceptedTable cells) (are : TablesAre cells) where
+module _ (cells block ask : List ℕ) (ready : Ready cells block ask) where
   abbrev L : Language
   L = language (rulesOf cells)
 
   abbrev g : Graph L
   g = graphOf cells
 
-  module _ (q : Query L) (starts : q .start < scopesOf cells) where
-    abbrev x : PackedName
-    x = q .name
+  abbrev q : Query L
+  q = queryIn cells ask
 
-    -- the bytes that a walk for this query pours
-    abbrev pub poured : ℕ → List ℕ → ℕ → List ℕ
-    poured mode seek e =
-        bytesFrom mode (letterTable cells) (declsOf cells) (x .high) (x .low) (q .start) (edgesOf cells) (deltaOf cells) (goalOf cells (x .high) (x .low)) (orderOf cells) seek e
-        [] (scopesOf cells) (without (freeFlag (replicate 64 1)) (q .start)) (q .start) 0
+  abbrev b : Board ℕ
+  b = boardOf L g (q .name)
 
-    abbrev free : ℕ → Bool
-    free = without (freeFlag (replicate 64 1)) (q .start)
+  t : AcceptedTable cells
+  t = accepted cells (ready .asked .read)
 
-    abbrev placed : ℕ → NodeOf ℕ → List ℕ
-    placed mode n = placeBytes mode (letterTable cells) (declsOf cells) (x .high) (x .low) (q .start) [] n
+  laws : Laws L
+  laws = t .accepted q (ready .asked .starts) .laws
 
-    all-free : (s : ℕ) → s < scopesOf cells → freeFlag (replicate 64 1) s ≡ true
-    all-free s h = full-free 64 s (let m = t .scopes-most in omega arith)
+  range : InRange L g
+  range = t .accepted q (ready .asked .starts) .in-range
 
-    marks-are : (s : ℕ) → marksIn (declsOf cells) s (x .high) (x .low) ≡ marksAt L (g .declarations) s x
-    unfolding graphOf
-    marks-are s =
-        marks-rows (declsOf cells) s (x .high) (x .low)
-        ∙ ap (λ (rows : List Row). marksOf rows s x) (are .rows 6 (omega arith))
-        ∙ sym (marks-at (rulesOf cells) (rowsIn declarationSection cells) s x)
+  all-free : (s : ℕ) → s < scopesOf cells → ltb s 64 ≡ true
+  all-free s h = lt-ltb s 64 (let m = t .scopes-most in omega arith)
 
-    -- an entry's share
-    abbrev pub shareOf : ℕ → PathRow L → List ℕ
-    shareOf mode r = entryBytes mode (lettersOf cells) (r .path .start) (r .path .hops) (r .mark)
+  -- the followed places, by the block and by the rules
+  abbrev seen : Board ℕ → (End ℕ → End ℕ → Bool) → (ℕ → ℕ → Bool) → End ℕ → List (NodeOf ℕ)
+  seen c prefers seek e = hitsFrom c prefers seek e (scopesOf cells) (without (λ s. ltb s 64) (askStart ask)) (askStart ask) 0
 
-    place-share : (mode : ℕ) → eqb mode 3 ≡ false → (n : NodeOf ℕ) → placed mode n ≡ flatMap (shareOf mode) (rowsAt L g q n)
-    unfolding placeBytes entriesBytes rowsAt
-    place-share mode e n =
-        rw (e, placeBytes) (ap (flatMap (entryBytes mode (letterTable cells) (q .start) (n .hops))) (marks-are (n .at))
-        ∙ flatMap-same _ _ (marksAt L (g .declarations) (n .at) x) (λ m i. entry-same (letterTable cells) (lettersOf cells) (are .letters) mode (q .start) (n .hops) m)
-        ∙ sym (flatMap-map (shareOf mode) _ (marksAt L (g .declarations) (n .at) x)))
+  abbrev table : Board ℕ
+  table = tableBoard block (askGoal ask)
 
-    abbrev laws : Laws L
-    laws = (t .accepted q starts) .laws
+  board-is : table ≡ b
+  board-is = board-same cells (ready .asked .read) block (ready .made) (q .name) (askGoal ask) (ready .goal)
 
-    abbrev range : InRange L g
-    range = (t .accepted q starts) .in-range
+  places-are : (scopes states e : ℕ) → placesFrom block cells ask scopes states e (scopesCell block) (freeAt (askStart ask)) (askStart ask) 0
+      ≡ seen b (L .prefers) (placesOf scopes states) (endOf e)
+  unfolding placesFrom freeAt
+  places-are scopes states e =
+      rw (scopes-same cells (ready .asked .read) block (ready .made)) (ap (λ (c : Board ℕ). seen c (tableOrder block) (placesOf scopes states) (endOf e)) board-is
+      ∙ ap (λ (o : End ℕ → End ℕ → Bool). seen b o (placesOf scopes states) (endOf e)) (order-same cells (ready .asked .read) block (ready .made)))
 
-    abbrev b : Board ℕ
-    b = boardOf L g x
+  -- what is sought, by the block and by the rules
+  abbrev here : ℕ → ℕ → Bool
+  here = placesOf (askGoal ask) (acceptSet block)
 
-    -- the followed places, by the search's tables and by the rules
-    abbrev seen : Board ℕ → (End ℕ → End ℕ → Bool) → (ℕ → ℕ → Bool) → End ℕ → List (NodeOf ℕ)
-    seen c prefers seek e = hitsFrom c prefers seek e (scopesOf cells) free (q .start) 0
+  here-is : here ≡ b .here
+  unfolding tableBoard
+  here-is = ap (λ (c : Board ℕ). c .here) board-is
 
-    abbrev tables : Board ℕ
-    tables = tableBoard (edgesOf cells) (deltaOf cells) (goalOf cells (x .high) (x .low))
+  marks-are : (s : ℕ) → s < 64 → walk.marksAt block cells ask s ≡ marksAt L (g .declarations) s (q .name)
+  unfolding walk.marksAt graphOf
+  marks-are s h =
+      declared-same cells (ready .asked .read) block (ready .made) s (askHigh ask) (askLow ask) h
+      ∙ marks-rows (partOf declarationSection cells) s (askHigh ask) (askLow ask)
+      ∙ ap (λ (rows : List Row). marksOf rows s (q .name)) (rows-are cells (ready .asked .read) declarationSection)
+      ∙ sym (marks-at (rulesOf cells) (rowsIn declarationSection cells) s (q .name))
 
-    abbrev hits : List (NodeOf ℕ)
-    hits = seen b (L .prefers) (b .here) stop
+  -- an entry's row
+  abbrev rowOf : PathRow L → List ℕ
+  rowOf r = rowText (lettersOf cells) (r .mark) (r .path .start) (r .path .hops)
 
-    goal-hits : seen tables (tableOrder (orderOf cells)) (tables .here) stop ≡ hits
-    goal-hits =
-        ap (λ (c : Board ℕ). seen c (tableOrder (orderOf cells)) (c .here) stop) (are .board (x .high) (x .low))
-        ∙ ap (λ (o : End ℕ → End ℕ → Bool). seen b o (b .here) stop) (are .order)
+  place-rows : (n : NodeOf ℕ) → n .at < 64 → placeRows block cells ask Entries [] n ≡ map rowOf (rowsAt L g q n)
+  unfolding placeRows entryRows rowsAt
+  place-rows n h =
+      ap (map (λ (mark : ℕ). rowText (letterBytes block) mark (askStart ask) (n .hops))) (marks-are (n .at) h)
+      ∙ map-same _ _ (λ mark. row-same (letterBytes block) (lettersOf cells) (letters-same cells (ready .asked .read) block (ready .made)) mark (askStart ask) (n .hops))
+      (marksAt L (g .declarations) (n .at) (q .name))
+      ∙ sym (map-map rowOf _ (marksAt L (g .declarations) (n .at) (q .name)))
 
-    -- the walk that seeks the goal pours the shares of the entries, in their order
-    pub poured-entries : (mode : ℕ) → eqb mode 3 ≡ false → poured mode (goalOf cells (x .high) (x .low)) 0 ≡ flatMap (shareOf mode) (entries L g q)
-    unfolding bytesFrom tableBoard graphOf endOf
-    poured-entries mode e =
-        ap (flatMap (placed mode)) (goal-hits)
-        ∙ flatMap-same (placed mode) (λ n. flatMap (shareOf mode) (rowsAt L g q n)) hits (λ n i. place-share mode e n)
-        ∙ sym (flatMap-twice (shareOf mode) (rowsAt L g q) hits)
-        ∙ ap (flatMap (shareOf mode)) (sym (entries-are-hits L laws g q range starts (freeFlag (replicate 64 1)) all-free))
+  abbrev hits : List (NodeOf ℕ)
+  hits = seen b (L .prefers) here stop
 
-    -- to write or to measure: the text of the rows
-    pub poured-text : (mode : ℕ) → eqb mode 3 ≡ false → eqb mode 2 ≡ false → poured mode (goalOf cells (x .high) (x .low)) 0 ≡ entriesText cells q
-    unfolding entriesText entryBytes
-    poured-text mode e f = poured-entries mode e ∙ flatMap-same _ _ (entries L g q) (λ r i. rw (f, entryBytes))
+  -- they are of scopes that declare the name
+  hit-small : (n : NodeOf ℕ) → n ∈ hits → n .at < 64
+  unfolding graphOf
+  hit-small n m =
+      let k = hits-kept L laws g q range (ready .asked .starts) (λ s. ltb s 64) all-free here stop in
+      let i : here (n .at) (n .state) ≡ true = and-left (here (n .at) (n .state)) _ (keep-elim _ (nodes L g q) (rw k at m) .1) in
+      scope-below (askGoal ask) (n .at) (places-scope (askGoal ask) (acceptSet block) (n .at) (n .state) i)
 
-    -- to count: against a room of one, none, one or several
-    pub poured-found : roomNumber (spend (Left 1) (length (poured 2 (goalOf cells (x .high) (x .low)) 0))) ≡ foundNumber (foundFor cells q)
-    unfolding entryBytes foundFor found
-    poured-found =
-        ap (λ (xs : List ℕ). roomNumber (spend (Left 1) (length xs))) (poured-entries 2 refl)
-        ∙ ap (λ (n : ℕ). roomNumber (spend (Left 1) n)) (ones-length (entries L g q))
-        ∙ room-found (entries L g q)
+  abbrev aimAt : Bounds → Aim
+  aimAt bounds = record { scopes = askGoal ask; states = acceptSet block; end = 0; task = Entries; bounds = bounds }
 
-    open-end : (end : ℕ) → openEnd L g q (endOf end) ≡ endOf end
-    unfolding openEnd endOf
-    open-end zero = refl
-    open-end (suc l) = refl
+  -- the rows of the entries, in their order
+  rows-are-texts : (bounds : Bounds) → rowsFrom block cells ask (aimAt bounds) [] (scopesCell block) (freeAt (askStart ask)) (askStart ask) 0 ≡ rowTexts cells q
+  unfolding rowsFrom rowTexts endOf graphOf
+  rows-are-texts bounds =
+      ap (flatMap (placeRows block cells ask Entries [])) (places-are (askGoal ask) (acceptSet block) 0)
+      ∙ flatMap-same (placeRows block cells ask Entries []) (λ n. map rowOf (rowsAt L g q n)) hits (λ n m. place-rows n (hit-small n m))
+      ∙ sym (map-flatMap rowOf (rowsAt L g q) hits)
+      ∙ ap (map rowOf) (ap (λ (seek : ℕ → ℕ → Bool). flatMap (rowsAt L g q) (seen b (L .prefers) seek stop)) here-is
+      ∙ sym (entries-are-hits L laws g q range (ready .asked .starts) (λ s. ltb s 64) all-free))
 
-    abbrev seeks : ℕ → End ℕ → ℕ → ℕ → Bool
-    seeks at e = λ s st. eqb s at && usable L st e
+  few-scopes : leb (scopesCell block) 64 ≡ true
+  few-scopes = le-leb (scopesCell block) 64 (rw (scopes-same cells (ready .asked .read) block (ready .made)) (t .scopes-most))
 
-    open-hits : (at end : ℕ) → at < 64
-        → seen tables (tableOrder (orderOf cells)) (placeFlag (openOf cells at end)) (endOf end) ≡ seen b (L .prefers) (seeks at (endOf end)) (endOf end)
-    open-hits at end h =
-        ap (λ (c : Board ℕ). seen c (tableOrder (orderOf cells)) (placeFlag (openOf cells at end)) (endOf end)) (are .board (x .high) (x .low))
-        ∙ ap (λ (o : End ℕ → End ℕ → Bool). seen b o (placeFlag (openOf cells at end)) (endOf end)) (are .order)
-        ∙ ap (λ (k : ℕ → ℕ → Bool). seen b (L .prefers) k (endOf end)) (are .opens at end h)
+  pub entries-walked : (bounds : Bounds) (st : State) → walked block cells ask (aimAt bounds) st ≡ takeRows bounds st (rowTexts cells q)
+  unfolding walked
+  entries-walked bounds st = rw (few-scopes, walked) (ap (takeRows bounds st) (rows-are-texts bounds))
 
-    open-followed : (at end : ℕ) → followedAt L g q (record { at = at; end = endOf end })
-        ≡ anyOf (λ (n : NodeOf ℕ). true) (seen b (L .prefers) (seeks at (endOf end)) (endOf end))
-    unfolding graphOf
-    open-followed at end =
-        followed-is-hit L laws g q range starts (freeFlag (replicate 64 1)) all-free (record { at = at; end = endOf end })
-        ∙ ap (λ (e : End ℕ). anyOf (λ (n : NodeOf ℕ). true) (seen b (L .prefers) (seeks at e) e)) (open-end end)
+  -- an open pair's end stands for itself
+  end-itself : (e : ℕ) → openEnd L g q (endOf e) ≡ endOf e
+  unfolding openEnd endOf
+  end-itself zero = refl
+  end-itself (suc l) = refl
 
-    -- to find: against no room, over exactly if the open pair is followed
-    pub poured-followed : (at end : ℕ) → at < 64
-        → isOver (spend (Left 0) (length (poured 3 (openOf cells at end) end))) ≡ followedAt L g q (record { at = at; end = endOf end })
-    unfolding bytesFrom placeBytes
-    poured-followed at end h =
-        ap (λ (l : List (NodeOf ℕ)). isOver (spend (Left 0) (length (flatMap (placed 3) l)))) (open-hits at end h)
-        ∙ ap (λ (n : ℕ). isOver (spend (Left 0) n)) (ones-length (seen b (L .prefers) (seeks at (endOf end)) (endOf end)))
-        ∙ over-any (seen b (L .prefers) (seeks at (endOf end)) (endOf end))
-        ∙ sym (open-followed at end)
+  abbrev seeks : ℕ → End ℕ → ℕ → ℕ → Bool
+  seeks a e = λ s st. eqb s a && usable L st e
 
-    -- the walk pours them, as there are at most 64 scopes
-    pub walked-is : (mode : ℕ) (seek : List ℕ) (e : ℕ) (st : State)
-        → walked mode (letterTable cells) (declsOf cells) (x .high) (x .low) (q .start) (edgesOf cells) (deltaOf cells) (goalOf cells (x .high) (x .low)) (orderOf cells) seek e (scopesOf cells) st
-        ≡ pour mode st (poured mode seek e)
-    unfolding walked
-    walked-is mode seek e st = rw (le-leb (scopesOf cells) 64 (t .scopes-most), walked)
+  -- an open pair is followed exactly if a place is found for it
+  pub pair-walked : (at end : ℕ) → at < 64 → end < 9
+      → followedIn block cells ask (2 ^ at) (usableSet block end) end ≡ followedAt L g q (record { at = at; end = endOf end })
+  unfolding followedIn graphOf
+  pair-walked at end h k =
+      rw (few-scopes, followedIn) (ap (anyOf (λ (n : NodeOf ℕ). true)) (places-are (2 ^ at) (usableSet block end) end)
+      ∙ ap (λ (seek : ℕ → ℕ → Bool). anyOf (λ (n : NodeOf ℕ). true) (seen b (L .prefers) seek (endOf end))) (open-same cells (ready .asked .read) block (ready .made) q at end h k)
+      ∙ ap (λ (e : End ℕ). anyOf (λ (n : NodeOf ℕ). true) (seen b (L .prefers) (seeks at (openEnd L g q (endOf end))) e)) (sym (end-itself end))
+      ∙ sym (followed-is-hit L laws g q range (ready .asked .starts) (λ s. ltb s 64) all-free (record { at = at; end = endOf end })))

@@ -1,5 +1,6 @@
--- Demand 3 over the text (01, "The listing" and "Agreed between us"): what a listing shows is what the rules say of its query. These are the statements; the
--- value is in proofs/Demand.antt. Assumes nothing.
+-- Demand 3 over the text (01, "The listing" and "Agreed between us"): what a listing shows is what
+-- the rules say of its query. These are the statements; the value is in proofs/Demand.antt. Assumes
+-- nothing.
 use Prim.Native.Nat.{ℕ, _<_, _≤_}
 use mathlib.Core.Path.{_≡_}
 use mathlib.Core.Logic.{_↔_}
@@ -20,7 +21,8 @@ use Rattle.graph_file.specs.File.{readCells}
 use Rattle.text_field.specs.Answer.{answer, leaves}
 use Rattle.graph_file.specs.Decode.{rulesOf, graphOf, opensOf, queriesOf, lettersOf}
 use Rattle.follow.specs.Text.{headLine, rowsLine, foundText, rowText}
-use Rattle.resolution.specs.Listing.{awaitsText, queryAt, listingFor}
+use Rattle.resolution.specs.Listing.{awaitsText, listingFor}
+use Rattle.board.specs.Queries.{queryAt}
 
 module _ (cells : List ℕ) where
   abbrev L : Language
@@ -36,8 +38,9 @@ module _ (cells : List ℕ) where
       ++ (32 ∷ (awaitsText cells o
       ++ (10 ∷ (rowsLine ++ flatMap (λ r. rowText (lettersOf cells) (r .mark) (r .path .start) (r .path .hops)) rows)))))))))
 
-  -- A listing is right: its rows are exactly the entries, each once and in order; `found` is by the entries; `awaits` is the first decisive pair, and `-` is
-  -- printed exactly if the query is settled in every completion.
+  -- A listing is right: its rows are exactly the entries, each once and in order; `found` is by the
+  -- entries; `awaits` is the first decisive pair, and `-` is printed exactly if the query is
+  -- settled in every completion.
   pub record Right (q : Query L) (text : List ℕ) : Type 0 where
     pub rows : List (PathRow L)
     pub found : Found
@@ -51,7 +54,8 @@ module _ (cells : List ℕ) where
     pub awaits-is : Awaits L (graphOf cells) (opensOf cells) q awaited
     pub settled : (awaitsText cells awaited ≡ 45 ∷ []) ↔ Settled L (graphOf cells) (opensOf cells) q
 
--- what the host gets of a listing: it is written at the front of the buffer, or the buffer is too short and unchanged
+-- what the host gets of a listing: it is written at the front of the buffer, or the buffer is too
+-- short and unchanged
 pub record Handed (text : List ℕ) (i : ℕ) (listing out : List ℕ) : Type 0 where
   pub room : length listing ≤ length out
       → (answer (listingFor text i) (length out) ≡ done (length listing)) × (leaves (listingFor text i) out ≡ listing ++ drop (length listing) out)

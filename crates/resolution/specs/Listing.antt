@@ -1,4 +1,5 @@
--- A query's listing and the summary, for a graph table and for a text (01, "The listing" and "Who can cause a refusal"). Assumes nothing: these are definitions.
+-- A query's listing and the summary, for a graph table and for a text (01, "The listing" and "Who
+-- can cause a refusal"). Assumes nothing: these are definitions.
 use Prim.Native.Nat.{ℕ, zero, suc, _+_}
 use mathlib.Core.Bool.{Bool, true, false}
 use mathlib.Core.Option.{Option, some, none}
@@ -15,6 +16,7 @@ use Rattle.text_field.specs.Outcome.{Outcome, refused, done, andThen, refuseIf}
 use Rattle.graph_file.specs.File.{readCells}
 use Rattle.graph_file.specs.Decode.{rulesOf, graphOf, opensOf, queriesOf, lettersOf}
 use Rattle.follow.specs.Text.{headLine, rowsLine, foundText, rowText, endText}
+use Rattle.board.specs.Queries.{queryAt}
 use Rattle.resolution.specs.Summary.{summaryText}
 
 -- `-`, or the open pair's scope and end
@@ -41,13 +43,9 @@ module _ (cells : List ℕ) where
       ++ (32 ∷ (awaitsText cells (awaits (language (rulesOf cells)) (graphOf cells) q (opensOf cells))
       ++ (10 ∷ (rowsLine ++ entriesText q)))))))))
 
-  -- query i, where there is one
-  unfoldable pub queryAt : ℕ → Query (language (rulesOf cells))
-  queryAt i = getD (queriesOf cells) i (record { start = 0; name = record { high = 0; low = 0 } })
-
   -- 7 where there is no query i
   unfoldable pub listingOf : ℕ → Outcome (List ℕ)
-  listingOf i = refuseIf (leb (length (queriesOf cells)) i) 7 (done (listingText (queryAt i)))
+  listingOf i = refuseIf (leb (length (queriesOf cells)) i) 7 (done (listingText (queryAt cells i)))
 
   -- how many queries are found so
   unfoldable pub isFound : Found → Found → ℕ

@@ -1,5 +1,6 @@
--- Document 01's marked trials, M1 to M10: what each asks, over the text of its file and against the rules. The value is in proofs/Marked.antt. Assumes nothing:
--- these are statements. Texts stand as bytes, each line with the comment that it is.
+-- Document 01's marked trials, M1 to M10: what each asks, over the text of its file and against the
+-- rules. The value is in proofs/Marked.antt. Assumes nothing: these are statements. Texts stand as
+-- bytes, each line with the comment that it is.
 use Prim.Native.Nat.{ℕ, _<_}
 use mathlib.Core.Path.{_≡_}
 use mathlib.Core.Logic.{_↔_}
@@ -17,7 +18,8 @@ use Rattle.text_field.specs.Name.{packHigh, packLow}
 use Rattle.text_field.specs.Outcome.{done}
 use Rattle.graph_file.specs.File.{readCells}
 use Rattle.graph_file.specs.Decode.{rulesOf, graphOf, opensOf, queriesOf}
-use Rattle.resolution.specs.Listing.{queryAt, listingFor}
+use Rattle.resolution.specs.Listing.{listingFor}
+use Rattle.board.specs.Queries.{queryAt}
 
 -- the example's names
 abbrev pub hours : List ℕ
@@ -47,7 +49,8 @@ rulesLines =
     53 ∷ 10 ∷
     102 ∷ 114 ∷ 111 ∷ 109 ∷ 32 ∷ 108 ∷ 97 ∷ 98 ∷ 101 ∷ 108 ∷ 32 ∷ 116 ∷ 111 ∷ 10 ∷ []
 
--- the example's rows: `1 P 0`, `2 I 4`, `2 P 1`, `3 P 1`; `0 hours 5`, `1 service 10`, `2 service 21`, `4 hours 40`; `2 service`, `3 service`, `2 hours`
+-- the example's rows: `1 P 0`, `2 I 4`, `2 P 1`, `3 P 1`; `0 hours 5`, `1 service 10`, `2 service
+-- 21`, `4 hours 40`; `2 service`, `3 service`, `2 hours`
 abbrev pub edgeLines : List ℕ
 edgeLines = 49 ∷ 32 ∷ 80 ∷ 32 ∷ 48 ∷ 10 ∷ 50 ∷ 32 ∷ 73 ∷ 32 ∷ 52 ∷ 10 ∷ 50 ∷ 32 ∷ 80 ∷ 32 ∷ 49 ∷ 10 ∷ 51 ∷ 32 ∷ 80 ∷ 32 ∷ 49 ∷ 10 ∷ []
 
@@ -93,7 +96,8 @@ twoMarksText = fileText edgeLines (declarationLines ++ (52 ∷ 32 ∷ 104 ∷ 11
 abbrev pub turnedText : List ℕ
 turnedText = fileText ((48 ∷ 32 ∷ 80 ∷ 32 ∷ 50 ∷ 10 ∷ []) ++ edgeLines) declarationLines (51 ∷ 32 ∷ 36 ∷ 10 ∷ []) (48 ∷ 32 ∷ 115 ∷ 101 ∷ 114 ∷ 118 ∷ 105 ∷ 99 ∷ 101 ∷ 10 ∷ [])
 
--- A path row as its mark, its start and its hops, each a label's number and a scope: I is 0, P is 1.
+-- A path row as its mark, its start and its hops, each a label's number and a scope: I is 0, P is
+-- 1.
 abbrev pub I : ℕ
 I = 0
 
@@ -159,8 +163,8 @@ hoursTwice = listed (50 ∷ 32 ∷ 104 ∷ 111 ∷ 117 ∷ 114 ∷ 115 ∷ 32 �
 abbrev pub serviceAt0 : List ℕ
 serviceAt0 = listed (48 ∷ 32 ∷ 115 ∷ 101 ∷ 114 ∷ 118 ∷ 105 ∷ 99 ∷ 101 ∷ 32 ∷ 111 ∷ 110 ∷ 101 ∷ 32 ∷ 45 ∷ 10 ∷ []) (50 ∷ 49 ∷ 32 ∷ 48 ∷ 80 ∷ 50 ∷ 10 ∷ [])
 
--- The text is read and its query i has this start and name. Its entries are exactly these rows, in the listing's order; `found` and `awaits` are these; and the
--- listing is printed as these bytes.
+-- The text is read and its query i has this start and name. Its entries are exactly these rows, in
+-- the listing's order; `found` and `awaits` are these; and the listing is printed as these bytes.
 pub record Lists (text : List ℕ) (i start : ℕ) (name : List ℕ) (rows : List Shown) (f : Found) (o : Option (ℕ × End ℕ)) (listing : List ℕ) : Type 0 where
   pub cells : List ℕ
   pub read : readCells text ≡ done cells
@@ -174,7 +178,8 @@ pub record Lists (text : List ℕ) (i start : ℕ) (name : List ℕ) (rows : Lis
   pub settled : Dash o (Settled (language (rulesOf cells)) (graphOf cells) (opensOf cells) (queryAt cells i))
   pub printed : listingFor text i ≡ done listing
 
--- The text is read and its query i has this start and name. Of the rows, each with its mark, the first is shadowed, the second an entry, the third unreached.
+-- The text is read and its query i has this start and name. Of the rows, each with its mark, the
+-- first is shadowed, the second an entry, the third unreached.
 pub record Judges (text : List ℕ) (i start : ℕ) (name : List ℕ) (a b c : Shown) : Type 0 where
   pub cells : List ℕ
   pub read : readCells text ≡ done cells

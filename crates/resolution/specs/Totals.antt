@@ -1,5 +1,5 @@
--- The summary over the text (01, "The listing"): its figures are counts of what the rules say of the queries. This is the statement; the value is in
--- proofs/Totals.antt. Assumes nothing.
+-- The summary over the text (01, "The listing"): its figures are counts of what the rules say of
+-- the queries. This is the statement; the value is in proofs/Totals.antt. Assumes nothing.
 use Prim.Native.Nat.{ℕ, _+_}
 use mathlib.Core.Path.{_≡_}
 use mathlib.Core.List.{List, [], _∷_}
@@ -27,8 +27,9 @@ module _ (cells : List ℕ) where
   countIn f [] = 0
   countIn f (x ∷ xs) = isFound cells f x + countIn f xs
 
--- What is printed is the number of queries and how many of them are found so. The share follows from the first two of these, by `shareText` in
--- specs/Summary; what number it is says `ShareNearest` in specs/Share.
+-- What is printed is the number of queries and how many of them are found so. The share follows
+-- from the first two of these, by `shareText` in specs/Summary; what number it is says
+-- `ShareNearest` in specs/Share.
 pub record SummaryIs (text cells : List ℕ) : Type 0 where
   pub founds : List Found
   pub founds-are : FoundsAre cells (queriesOf cells) founds

@@ -1,15 +1,23 @@
-// A query's listing and the summary, of a table that was read and of a text.
+// A query's listing and the summary: over a table's board, over a table that was read, over a text.
+mod ask;
+mod awaits;
 mod lists;
-mod parts;
+mod queries;
 mod share;
 mod sums;
-mod tables;
 mod text;
 mod walks;
 
+pub use lists::Listed;
 pub use lists::listing;
 pub use lists::listing_of;
-pub use parts::row_count;
-pub use parts::row_value;
+pub use lists::listing_on;
+pub use queries::query_at;
+pub use queries::query_count;
+pub use sums::Figures;
+pub use sums::counted;
+pub use sums::no_figures;
 pub use sums::summary;
+pub use sums::summary_by;
 pub use sums::summary_of;
+pub use text::Found;

@@ -1,73 +1,127 @@
-// A query's listing. It is measured before a byte of it is written.
-use crate::parts::row_count;
-use crate::parts::row_value;
-use crate::tables::Tables;
-use crate::tables::hint_table;
-use crate::tables::tables_of;
+// A query's listing. One walk counts its entries, measures their rows and keeps those that are
+// short; nothing is written before the whole is known to fit.
+use crate::ask::ask_of;
+use crate::awaits::awaits_of;
+use crate::queries::query_at;
+use crate::queries::query_count;
+use crate::text::Found;
 use crate::text::put_head;
-use crate::walks::awaits_of;
-use crate::walks::found_of;
-use crate::walks::put_rows;
-use crate::walks::rows_room;
-use follow::Budget;
+use crate::walks::SEVERAL;
+use crate::walks::found_by;
+use crate::walks::take_entries;
+use block::SIZE;
+use board::put_board;
+use follow::Bounds;
 use graph_file::TABLE_CELLS;
 use graph_file::read;
-use prepared::section;
 use text_field::Answer;
 use text_field::put_bytes;
 ghost use mathlib.Core.Path.{_≡_};
+ghost use mathlib.Core.Bool.{false};
+ghost use Prim.Native.Nat.{_+_, _<_, _≤_};
 ghost use lib.ListN.{length};
 ghost use Rattle.text_field.specs.Buffer.{Buf, puts};
 ghost use Rattle.text_field.specs.Outcome.{done};
 ghost use Rattle.text_field.specs.Answer.{answer, leaves, answerOf};
-ghost use Rattle.resolution.specs.Listing.{listingText, listingOf, listingFor};
-ghost use Rattle.graph_file.specs.Decode.{WasRead};
-ghost use Rattle.resolution.specs.Asked.{Asked, Prepared, queryFrom, queryHead};
+ghost use Rattle.graph_file.specs.Decode.{queriesOf, WasRead};
+ghost use Rattle.board.specs.Made.{Made};
+ghost use Rattle.board.specs.Queries.{queryAt};
+ghost use Rattle.resolution.specs.Listing.{foundFor, listingText, listingOf, listingFor};
+ghost use Rattle.resolution.specs.Asked.{Ready, queryIn, foundMeaning, queryHead};
 
-// Room for what stands above a listing's rows: two names lines and the query's line, at most 66 bytes. The proof bounds
-// it by 128.
+// Room for what stands above a listing's rows: two names lines and the query's line, at most 66
+// bytes. The proof bounds it by 128.
 const HEAD: usize = 128;
 
-// The listing up to its rows.
-fn put_heading(
-    table: &[u64],
-    t: Tables,
-    hint: &[u64],
-    start: u64,
-    high: u64,
-    low: u64,
-    out: &mut [u8],
-) -> usize
-    requires prepared { ⌜ Prepared (now table) start high low t ⌝ }
-    ensures written { λ r. ⌜ _≡_ {A = Buf} (now (out .exit), r) (puts (now (out .entry), 0) (queryHead (now (table .entry)) (queryFrom (now (table .entry)) start high low))) ⌝ }
-{
-    let f = found_of(table, t, hint, start, high, low);
-    let a = awaits_of(table, t, hint, start, high, low);
-    let letters = t.letters;
-    put_head(out, &letters, start, high, low, f, a)
+// How many bytes of rows are kept from the walk: few queries have longer ones, which are walked to
+// again.
+const KEPT: usize = 512;
+
+// What a listing answers, and the query's `found`, which is known of a refused listing too.
+pub struct Listed {
+    pub answer: Answer,
+    pub found: Found,
 }
 
-// The listing of a query of the table by its start and name. Its rows are measured first: where they alone do not fit,
-// `found` and `awaits`, which can take long, are not needed.
-fn list(table: &[u64], start: u64, high: u64, low: u64, out: &mut [u8]) -> Answer
-    requires asked { ⌜ Asked (now table) start ⌝ }
-    ensures answer { λ r. ⌜ answerOf r ≡ answer (done (listingText (now (table .entry)) (queryFrom (now (table .entry)) start high low))) (length (now (out .entry))) ⌝ }
-    ensures memory { λ r. ⌜ now (out .exit) ≡ leaves (done (listingText (now (table .entry)) (queryFrom (now (table .entry)) start high low))) (now (out .entry)) ⌝ }
+// The listing up to its rows.
+fn put_heading(table: &[u64], block: &[u64], ask: &[u64], f: Found, out: &mut [u8]) -> usize
+    requires ready { ⌜ Ready (now table) (now block) (now ask) ⌝ }
+    requires found { ⌜ foundMeaning f ≡ foundFor (now table) (queryIn (now table) (now ask)) ⌝ }
+    ensures written { λ r. ⌜ _≡_ {A = Buf} (now (out .exit), r) (puts (now (out .entry), 0) (queryHead (now (table .entry)) (now (ask .entry)))) ⌝ }
 {
-    let mut hint = [0u64; 1088];
-    hint_table(table, &mut hint);
-    let t = tables_of(table, &hint, start, high, low);
+    let a = awaits_of(table, block, ask);
+    put_head(block, ask, f, a, out)
+}
+
+// The listing of the query that the ask is of. Where its rows alone do not fit, `awaits`, which can
+// take long, is not needed.
+fn list(table: &[u64], block: &[u64], ask: &[u64], out: &mut [u8]) -> Listed
+    requires ready { ⌜ Ready (now table) (now block) (now ask) ⌝ }
+    ensures answer { λ r. ⌜ answerOf (r .answer) ≡ answer (done (listingText (now (table .entry)) (queryIn (now (table .entry)) (now (ask .entry))))) (length (now (out .entry))) ⌝ }
+    ensures memory { λ r. ⌜ now (out .exit) ≡ leaves (done (listingText (now (table .entry)) (queryIn (now (table .entry)) (now (ask .entry))))) (now (out .entry)) ⌝ }
+    ensures found { λ r. ⌜ foundMeaning (r .found) ≡ foundFor (now (table .entry)) (queryIn (now (table .entry)) (now (ask .entry))) ⌝ }
+{
     let room = out.len();
-    let Budget::Left(left) = rows_room(table, t, &hint, start, high, low, room) else {
-        return Answer::Refused(9);
+    let mut kept = [0u8; KEPT];
+    let bounds = Bounds {
+        limit: room,
+        kept: KEPT,
+        most: SEVERAL,
     };
-    let mut head = [0u8; HEAD];
-    let n = put_heading(table, t, &hint, start, high, low, &mut head);
-    if left < n {
-        return Answer::Refused(9);
+    let t = take_entries(table, block, ask, bounds, &mut kept, 0);
+    let n = t.bytes;
+    let found = found_by(t.entries);
+    if t.over {
+        return Listed {
+            answer: Answer::Refused(9),
+            found,
+        };
     }
-    let k = put_bytes(out, 0, &head[..n]);
-    Answer::Written(put_rows(table, t, &hint, start, high, low, out, k))
+    let mut head = [0u8; HEAD];
+    let h = put_heading(table, block, ask, found, &mut head);
+    if room - n < h {
+        return Listed {
+            answer: Answer::Refused(9),
+            found,
+        };
+    }
+    let size = h + n;
+    put_bytes(out, 0, &head[..h]);
+    if n <= KEPT {
+        put_bytes(out, h, &kept[..n]);
+        return Listed {
+            answer: Answer::Written(size),
+            found,
+        };
+    }
+    let all = Bounds {
+        limit: room,
+        kept: room,
+        most: SEVERAL,
+    };
+    take_entries(table, block, ask, all, out, h);
+    Listed {
+        answer: Answer::Written(size),
+        found,
+    }
+}
+
+// The listing of query i of a table that was read, over its board.
+pub fn listing_on(table: &[u64], block: &[u64], i: usize, out: &mut [u8]) -> Listed
+    requires read { ⌜ WasRead (now table) ⌝ }
+    requires made { ⌜ Made (now table) (now block) ⌝ }
+    ensures answer { λ r. ⌜ answerOf (r .answer) ≡ answer (listingOf (now (table .entry)) i) (length (now (out .entry))) ⌝ }
+    ensures memory { λ r. ⌜ now (out .exit) ≡ leaves (listingOf (now (table .entry)) i) (now (out .entry)) ⌝ }
+    ensures found { λ r. ⌜ (i < length (queriesOf (now (table .entry))) → foundMeaning (r .found) ≡ foundFor (now (table .entry)) (queryAt (now (table .entry)) i)) ⌝ }
+{
+    if query_count(table, block) <= i {
+        return Listed {
+            answer: Answer::Refused(7),
+            found: Found::None,
+        };
+    }
+    let ask = ask_of(table, block, query_at(table, block, i));
+    list(table, block, &ask, out)
 }
 
 // The listing of a query of a table that was read.
@@ -76,17 +130,14 @@ pub fn listing_of(table: &[u64], query: usize, out: &mut [u8]) -> Answer
     ensures answer { λ r. ⌜ answerOf r ≡ answer (listingOf (now (table .entry)) query) (length (now (out .entry))) ⌝ }
     ensures memory { λ r. ⌜ now (out .exit) ≡ leaves (listingOf (now (table .entry)) query) (now (out .entry)) ⌝ }
 {
-    let queries = section(table, 8);
-    if row_count(queries) <= query {
-        return Answer::Refused(7);
-    }
-    let start = row_value(queries, query, 0);
-    let high = row_value(queries, query, 1);
-    let low = row_value(queries, query, 2);
-    list(table, start, high, low, out)
+    let mut block = [0u64; SIZE];
+    put_board(table, &mut block);
+    let l = listing_on(table, &block, query, out);
+    l.answer
 }
 
-// The listing of a query of a text: refusals 1 to 6, then 7, then 9. After a refusal the buffer is as it was.
+// The listing of a query of a text: refusals 1 to 6, then 7, then 9. After a refusal the buffer is
+// as it was.
 pub fn listing(text: &[u8], query: usize, out: &mut [u8]) -> Answer
     ensures answer { λ r. ⌜ answerOf r ≡ answer (listingFor (now (text .entry)) query) (length (now (out .entry))) ⌝ }
     ensures memory { λ r. ⌜ now (out .exit) ≡ leaves (listingFor (now (text .entry)) query) (now (out .entry)) ⌝ }

@@ -1,13 +1,14 @@
 // The summary: how many queries are found one, several and none, and the share of those found one.
-use crate::parts::row_count;
-use crate::parts::row_value;
+use crate::ask::ask_of;
+use crate::queries::query_at;
+use crate::queries::query_count;
 use crate::share::share_of;
-use crate::tables::hint_table;
-use crate::tables::tables_of;
+use crate::text::Found;
 use crate::walks::found_of;
+use block::SIZE;
+use board::put_board;
 use graph_file::TABLE_CELLS;
 use graph_file::read;
-use prepared::section;
 use text_field::Answer;
 use text_field::put_byte;
 use text_field::put_bytes;
@@ -18,11 +19,12 @@ ghost use lib.ListN.{length};
 ghost use Rattle.text_field.specs.Buffer.{Buf, puts};
 ghost use Rattle.text_field.specs.Outcome.{done};
 ghost use Rattle.text_field.specs.Answer.{answer, leaves, answerOf};
-ghost use Rattle.graph_file.specs.Decode.{queriesOf};
-ghost use Rattle.resolution.specs.Summary.{shareText, summaryText};
+ghost use Rattle.graph_file.specs.Decode.{queriesOf, WasRead};
+ghost use Rattle.board.specs.Made.{Made};
+ghost use Rattle.resolution.specs.Summary.{shareText};
 ghost use Rattle.resolution.specs.Listing.{summaryOf, summaryFor};
-ghost use Rattle.graph_file.specs.Decode.{WasRead};
-ghost use Rattle.resolution.specs.Figures.{figuresAfter, noFigures, figuresOver, fieldText, countsText};
+ghost use Rattle.resolution.specs.Asked.{foundMeaning};
+ghost use Rattle.resolution.specs.Figures.{figuresAfter, noFigures, figuresOver, total, Few, fieldText, countsText, figuresText};
 
 // How many queries were found so.
 pub struct Figures {
@@ -31,56 +33,56 @@ pub struct Figures {
     pub none: u64,
 }
 
+// No query was counted yet.
+pub fn no_figures() -> Figures
+    ensures answer { λ r. ⌜ r ≡ noFigures ⌝ }
+{
+    Figures {
+        one: 0,
+        several: 0,
+        none: 0,
+    }
+}
+
 // One query more, by its `found`.
-fn counted(c: Figures, f: u64) -> Figures
-    requires counted { ⌜ c .one + c .several + c .none < 9223372036854775808 ⌝ }
-    ensures answer { λ r. ⌜ r ≡ figuresAfter c f ⌝ }
+pub fn counted(c: Figures, f: Found) -> Figures
+    requires counted { ⌜ total c < 9223372036854775808 ⌝ }
+    ensures answer { λ r. ⌜ r ≡ figuresAfter c (foundMeaning f) ⌝ }
 {
     let one = c.one;
     let several = c.several;
     let none = c.none;
-    if f == 0 {
-        return Figures {
+    match f {
+        Found::None => Figures {
             one,
             several,
             none: none + 1,
-        };
-    }
-    if f == 1 {
-        return Figures {
+        },
+        Found::One => Figures {
             one: one + 1,
             several,
             none,
-        };
-    }
-    Figures {
-        one,
-        several: several + 1,
-        none,
+        },
+        Found::Several => Figures {
+            one,
+            several: several + 1,
+            none,
+        },
     }
 }
 
 // All queries of a table that was read, by their entries.
-fn figures_of(table: &[u64]) -> Figures
-    requires accepted { ⌜ WasRead (now table) ⌝ }
+fn figures_of(table: &[u64], block: &[u64]) -> Figures
+    requires read { ⌜ WasRead (now table) ⌝ }
+    requires made { ⌜ Made (now table) (now block) ⌝ }
     ensures answer { λ r. ⌜ r ≡ figuresOver (now (table .entry)) noFigures (queriesOf (now (table .entry))) ⌝ }
 {
-    let queries = section(table, 8);
-    let n = row_count(queries);
-    let mut hint = [0u64; 1088];
-    hint_table(table, &mut hint);
-    let mut c = Figures {
-        one: 0,
-        several: 0,
-        none: 0,
-    };
+    let n = query_count(table, block);
+    let mut c = no_figures();
     let mut i: usize = 0;
     while i < n {
-        let start = row_value(queries, i, 0);
-        let high = row_value(queries, i, 1);
-        let low = row_value(queries, i, 2);
-        let t = tables_of(table, &hint, start, high, low);
-        c = counted(c, found_of(table, t, &hint, start, high, low));
+        let ask = ask_of(table, block, query_at(table, block, i));
+        c = counted(c, found_of(table, block, &ask));
         i += 1;
     }
     c
@@ -95,14 +97,15 @@ fn put_field(out: &mut [u8], k: usize, v: u64) -> usize
 }
 
 // The names line and the four counts.
-fn put_counts(out: &mut [u8], n: u64, one: u64, several: u64, none: u64) -> usize
-    ensures written { λ r. ⌜ _≡_ {A = Buf} (now (out .exit), r) (puts (now (out .entry), 0) (countsText n one several none)) ⌝ }
+fn put_counts(out: &mut [u8], c: Figures) -> usize
+    requires few { ⌜ Few c ⌝ }
+    ensures written { λ r. ⌜ _≡_ {A = Buf} (now (out .exit), r) (puts (now (out .entry), 0) (countsText c)) ⌝ }
 {
     let b = put_bytes(out, 0, b"queries one several none share\n");
-    let c = put_field(out, b, n);
-    let d = put_field(out, c, one);
-    let e = put_field(out, d, several);
-    put_field(out, e, none)
+    let k = put_field(out, b, c.one + c.several + c.none);
+    let d = put_field(out, k, c.one);
+    let e = put_field(out, d, c.several);
+    put_field(out, e, c.none)
 }
 
 // The summary's last field (01, "The listing").
@@ -117,30 +120,40 @@ fn put_share(out: &mut [u8], k: usize, n: u64, one: u64) -> usize
 }
 
 // The summary's text.
-fn put_summary(out: &mut [u8], n: u64, one: u64, several: u64, none: u64) -> usize
-    requires few { ⌜ one < 1000 ⌝ }
-    ensures written { λ r. ⌜ _≡_ {A = Buf} (now (out .exit), r) (puts (now (out .entry), 0) (summaryText n one several none)) ⌝ }
+fn put_summary(out: &mut [u8], c: Figures) -> usize
+    requires few { ⌜ Few c ⌝ }
+    ensures written { λ r. ⌜ _≡_ {A = Buf} (now (out .exit), r) (puts (now (out .entry), 0) (figuresText c)) ⌝ }
 {
-    let b = put_counts(out, n, one, several, none);
-    let c = put_share(out, b, n, one);
-    put_byte(out, c, 10)
+    let b = put_counts(out, c);
+    let k = put_share(out, b, c.one + c.several + c.none, c.one);
+    put_byte(out, k, 10)
 }
 
-// The summary of a table that was read. It is at most 64 bytes long.
-pub fn summary_of(table: &[u64], out: &mut [u8]) -> Answer
-    requires accepted { ⌜ WasRead (now table) ⌝ }
-    ensures answer { λ r. ⌜ answerOf r ≡ answer (done (summaryOf (now (table .entry)))) (length (now (out .entry))) ⌝ }
-    ensures memory { λ r. ⌜ now (out .exit) ≡ leaves (done (summaryOf (now (table .entry)))) (now (out .entry)) ⌝ }
+// The summary of the figures alone. It is at most 64 bytes long.
+pub fn summary_by(c: Figures, out: &mut [u8]) -> Answer
+    requires few { ⌜ Few c ⌝ }
+    ensures answer { λ r. ⌜ answerOf r ≡ answer (done (figuresText c)) (length (now (out .entry))) ⌝ }
+    ensures memory { λ r. ⌜ now (out .exit) ≡ leaves (done (figuresText c)) (now (out .entry)) ⌝ }
 {
-    let c = figures_of(table);
-    let n = row_count(section(table, 8)) as u64;
     let mut text = [0u8; 64];
-    let k = put_summary(&mut text, n, c.one, c.several, c.none);
+    let k = put_summary(&mut text, c);
     let size = out.len();
     if size < k {
         return Answer::Refused(9);
     }
     Answer::Written(put_bytes(out, 0, &text[..k]))
+}
+
+// The summary of a table that was read.
+pub fn summary_of(table: &[u64], out: &mut [u8]) -> Answer
+    requires accepted { ⌜ WasRead (now table) ⌝ }
+    ensures answer { λ r. ⌜ answerOf r ≡ answer (done (summaryOf (now (table .entry)))) (length (now (out .entry))) ⌝ }
+    ensures memory { λ r. ⌜ now (out .exit) ≡ leaves (done (summaryOf (now (table .entry)))) (now (out .entry)) ⌝ }
+{
+    let mut block = [0u64; SIZE];
+    put_board(table, &mut block);
+    let c = figures_of(table, &block);
+    summary_by(c, out)
 }
 
 // The summary of a text: refusals 1 to 6, then 9. After a refusal the buffer is as it was.

@@ -1,4 +1,5 @@
--- The parts of the output: how they are written, that they fit the room lent, that in turn they are the whole. Assumes nothing.
+-- The parts of the output: how they are written, that they fit the room lent, that in turn they are
+-- the whole. Assumes nothing.
 use Prim.Native.Nat.{ℕ, zero, suc, _+_, _-_, _*_, _^_, _≤_, _<_}
 use mathlib.Core.Path.{_≡_, refl, sym, ap, _∙_, subst}
 use mathlib.Core.Bool.{Bool, true, false}
@@ -23,10 +24,13 @@ use Rattle.text_field.specs.declared.answer.Answer.the-variants.{Refused, Writt
 use Rattle.graph_file.specs.Decode.{rulesOf, queriesOf}
 use Rattle.graph_file.proofs.DecodeWay.{done-is}
 use Rattle.graph_file.proofs.DecodeAccepted.{read-accepted}
-use Rattle.resolution.specs.Listing.{listingText, queryAt, listingOf, summaryOf}
+use Rattle.resolution.specs.Listing.{listingText, listingOf, summaryOf}
+use Rattle.board.specs.Queries.{queryAt}
 use Rattle.graph_file.specs.Decode.{WasRead}
-use Rattle.resolution.specs.Figures.{noFigures, figuresOver}
-use Rattle.resolution.proofs.Heads.{head-fits, short-answer, short-leaves, whole-answer, whole-leaves, Made, made-read, own-within}
+use Rattle.resolution.specs.declared.sums.Figures.{Figures}
+use Rattle.resolution.specs.Figures.{noFigures, figuresOver, figuresText}
+use Rattle.resolution.proofs.Buffers.{head-fits, short-answer, short-leaves, whole-answer, whole-leaves, own-within}
+use Rattle.resolution.proofs.Reading.{ReadInto, made-read}
 use Rattle.resolution.proofs.Counts.{queries-few, figures-few, figures-text, summary-short}
 use Rattle.resolve.specs.Printed.{refusedLine, inPlace, lent, tableText, outcomeText, programText, Due}
 use Rattle.resolve.specs.Parts.{answered, partText, partsText}
@@ -164,8 +168,8 @@ module _ (cells : List ℕ) (was : WasRead cells) where
   summary-fits : length (summaryOf cells) ≤ lent
   summary-fits =
       let r = figuresOver cells noFigures (queriesOf cells) in
-      let s = summary-short (length (queriesOf cells)) (r .one) (r .several) (r .none) (queries-few cells was) (figures-few cells was r refl) in
-      let t = ap length (figures-text cells was r refl (length (queriesOf cells)) refl) in
+      let s = summary-short r (figures-few cells r refl was) in
+      let t = ap length (figures-text cells r refl) in
       omega arith
 
   from-part : (left i : ℕ) → left + i ≡ length (queriesOf cells) → partsText lent cells (suc left) i ≡ flatMap listed (drop i (queriesOf cells)) ++ summaryOf cells
@@ -222,9 +226,22 @@ module _ (cells : List ℕ) (was : WasRead cells) where
     pub size-turn : (i : ℕ) → i ≤ n → length (left i) ≡ length (partText lent cells i) + length (left (i + 1))
     size-turn i h = ap length (left-next i h) ∙ length-append (partText lent cells i) (left (i + 1))
 
-    pub size-end : (i : ℕ) → n < i → length (left i) ≡ 0
-    unfolding partsText
-    size-end i h = let z : n + 1 - i ≡ 0 = omega arith in rw (z, partsText)
+    -- after the last listing the summary of its figures is left
+    module _ (c : Figures) (e : c ≡ figuresOver cells noFigures (queriesOf cells)) (i : ℕ) (h : i ≡ n) where
+      last-is : partText lent cells i ≡ inPlace lent (done (figuresText c))
+      last-is = part-summary lent cells i (omega arith) ∙ ap (λ (t : List ℕ). inPlace lent (done t)) (sym (figures-text cells c e))
+
+      left-last : left i ≡ inPlace lent (done (figuresText c))
+      unfolding partsText
+      left-last =
+          let z : n + 1 - (i + 1) ≡ 0 = omega arith in
+          left-next i (omega arith) ∙ rw (z, partsText) (append-nil (partText lent cells i)) ∙ last-is
+
+      pub size-last : length (left i) ≡ length (inPlace lent (done (figuresText c)))
+      size-last = ap length left-last
+
+      pub due-last : (text : List ℕ) (sent : ℕ) → Due text sent (left i) → Due text sent (inPlace lent (done (figuresText c)))
+      due-last text sent d = subst (Due text sent) left-last d
 
     module _ (text : List ℕ) (sent : ℕ) where
       pub due-start : Due text sent (tableText cells) → Due text sent (left 0)
@@ -255,14 +272,14 @@ for-refused text a n room k e b = by (readCells text) refl
         let z : _≡_ {A = Outcome ℕ} (refused n) (done (length cells)) = ap answerOf (sym b) ∙ e ∙ ap (λ (x : Outcome (List ℕ)). answer x room) f ∙ sym (whole-answer cells room (omega arith)) in
         absurd (let y : _≡_ {A = ℕ} 0 1 = cc in omega arith)
 
-pub for-read : (text : List ℕ) (n : ℕ) (t : List ℕ) → Made text n t → programText text ≡ tableText (take n t)
+pub for-read : (text : List ℕ) (n : ℕ) (t : List ℕ) → ReadInto text n t → programText text ≡ tableText (take n t)
 unfolding programText outcomeText
 for-read text n t m = ap outcomeText (m .made)
 
 pub refused-due : (text : List ℕ) (a : Answer) (n room : ℕ) → room ≡ 12271 → answerOf a ≡ answer (readCells text) room → a ≡ Refused n → n < 18446744073709551616 → Due text 0 (refusedLine n)
 refused-due text a n room k e b h = due-whole text (refusedLine n) (for-refused text a n room k e b) (let s = refused-short n h in omega arith)
 
-pub read-due : (text : List ℕ) (n : ℕ) (t : List ℕ) → Made text n t → Due text 0 (tableText (take n t))
+pub read-due : (text : List ℕ) (n : ℕ) (t : List ℕ) → ReadInto text n t → Due text 0 (tableText (take n t))
 read-due text n t m = due-whole text (tableText (take n t)) (for-read text n t m) (table-counted (take n t) (made-read text n t m))
 
 -- an answer taken apart
@@ -290,16 +307,37 @@ stands text o h k e fits =
     let f = head-fits o h k text e fits in
     record { within = w .0; taken = w .1; whole = f .1; size = f .0 }
 
--- part i in a buffer of the room that the program lends, whatever stood in it
-module _ (cells : List ℕ) (i : ℕ) (o h : List ℕ) (k : ℕ) (room : length o ≡ lent) (e : _≡_ {A = Buf} (h, k) (puts (o, 0) (partText (length o) cells i))) where
-  part-put : _≡_ {A = Buf} (h, k) (puts (o, 0) (partText lent cells i))
-  part-put = e ∙ ap (λ (n : ℕ). puts (o, 0) (partText n cells i)) room
+-- an output in a buffer of the room that the program lends, whatever stood in it
+module _ (x : Outcome (List ℕ)) (short : length (inPlace lent x) ≤ lent) (o h : List ℕ) (k : ℕ) (room : length o ≡ lent)
+    (e : _≡_ {A = Buf} (h, k) (puts (o, 0) (inPlace (length o) x))) where
+  place-put : _≡_ {A = Buf} (h, k) (puts (o, 0) (inPlace lent x))
+  place-put = e ∙ ap (λ (n : ℕ). puts (o, 0) (inPlace n x)) room
 
-  pub part-stands : Stands (partText lent cells i) h k
-  part-stands = stands (partText lent cells i) o h k part-put (let s = part-short lent cells i (omega arith) in omega arith)
+  pub place-stands : Stands (inPlace lent x) h k
+  place-stands = stands (inPlace lent x) o h k place-put (omega arith)
 
-  pub part-left : h ≡ puts (o, 0) (partText lent cells i) .0
-  part-left = ap (λ (b : Buf). b .0) part-put
+  pub place-left : h ≡ puts (o, 0) (inPlace lent x) .0
+  place-left = ap (λ (b : Buf). b .0) place-put
+
+-- the listing of query i
+module _ (cells : List ℕ) (i : ℕ) (inside : i < length (queriesOf cells)) (o h : List ℕ) (k : ℕ) (room : length o ≡ lent)
+    (e : _≡_ {A = Buf} (h, k) (puts (o, 0) (inPlace (length o) (listingOf cells i)))) where
+  listing-short : length (inPlace lent (listingOf cells i)) ≤ lent
+  listing-short = let s = part-short lent cells i (omega arith) in let p = ap length (part-listing lent cells i inside) in omega arith
+
+  pub listing-stands : Stands (partText lent cells i) h k
+  listing-stands = rw (part-listing lent cells i inside) (place-stands (listingOf cells i) listing-short o h k room e)
+
+  pub listing-left : h ≡ puts (o, 0) (partText lent cells i) .0
+  listing-left = rw (part-listing lent cells i inside) (place-left (listingOf cells i) listing-short o h k room e)
+
+-- the summary of figures
+module _ (c : Figures) (o h : List ℕ) (k : ℕ) (room : length o ≡ lent) (e : _≡_ {A = Buf} (h, k) (puts (o, 0) (inPlace (length o) (done (figuresText c))))) where
+  pub summary-stands : Stands (inPlace lent (done (figuresText c))) h k
+  summary-stands = place-stands (done (figuresText c)) (done-short lent (figuresText c) (omega arith)) o h k room e
+
+  pub summary-left-in : h ≡ puts (o, 0) (inPlace lent (done (figuresText c))) .0
+  summary-left-in = place-left (done (figuresText c)) (done-short lent (figuresText c) (omega arith)) o h k room e
 
 pub line-stands : (n : ℕ) → n < 18446744073709551616 → (o h : List ℕ) (k : ℕ) → length o ≡ 32 → _≡_ {A = Buf} (h, k) (puts (o, 0) (refusedLine n)) → Stands (refusedLine n) h k
 line-stands n small o h k room e = stands (refusedLine n) o h k e (let s = refused-short n small in omega arith)

@@ -12,7 +12,8 @@ use Rattle.graph_file.specs.Decode.{queriesOf}
 use Rattle.resolution.specs.Listing.{listingOf, summaryOf}
 use Rattle.resolve.specs.Printed.{refusedLine, inPlace}
 
--- a buffer after an answer: the output stays as it was written, a refusal's line is put to the front
+-- a buffer after an answer: the output stays as it was written, a refusal's line is put to the
+-- front
 unfoldable pub answered : Answer → List ℕ → Buf
 answered (Written n) out = (out, n)
 answered (Refused n) out = puts (out, 0) (refusedLine n)

@@ -1,4 +1,5 @@
--- What the program prints for its input (01, "The listing", on the program). Assumes nothing: these are definitions.
+-- What the program prints for its input (01, "The listing", on the program). Assumes nothing: these
+-- are definitions.
 use Prim.Native.Nat.{ℕ, _+_, _<_}
 use mathlib.Core.Path.{_≡_}
 use mathlib.Core.Bool.{true, false}
@@ -36,7 +37,8 @@ outcomeText (done cells) = tableText cells
 unfoldable pub programText : List ℕ → List ℕ
 programText text = outcomeText (readCells text)
 
--- A piece is due at place `sent` of a text's output if it is what the output has from there on; the place behind it is a machine number.
+-- A piece is due at place `sent` of a text's output if it is what the output has from there on; the
+-- place behind it is a machine number.
 pub record Due (text : List ℕ) (sent : ℕ) (piece : List ℕ) : Type 0 where
   pub stands : piece ≡ take (length piece) (drop sent (programText text))
   pub counted : sent + length piece < 18446744073709551616

@@ -1,28 +1,30 @@
 // The parts of the output: a listing for each query, then the summary.
-use prepared::section;
-use resolution::listing_of;
-use resolution::row_count;
-use resolution::summary_of;
+use resolution::Figures;
+use resolution::Found;
+use resolution::listing_on;
+use resolution::summary_by;
 use text_field::Answer;
 use text_field::put_byte;
 use text_field::put_bytes;
 use text_field::put_number;
 ghost use mathlib.Core.Path.{_≡_};
+ghost use Prim.Native.Nat.{_<_};
 ghost use lib.ListN.{length};
 ghost use Rattle.text_field.specs.Buffer.{Buf, puts};
 ghost use Rattle.text_field.specs.Outcome.{done};
-ghost use Rattle.graph_file.specs.Decode.{queriesOf};
-ghost use Rattle.resolution.specs.Listing.{listingOf, summaryOf};
-ghost use Rattle.graph_file.specs.Decode.{WasRead};
+ghost use Rattle.graph_file.specs.Decode.{queriesOf, WasRead};
+ghost use Rattle.board.specs.Made.{Made};
+ghost use Rattle.board.specs.Queries.{queryAt};
+ghost use Rattle.resolution.specs.Listing.{foundFor, listingOf};
+ghost use Rattle.resolution.specs.Asked.{foundMeaning};
+ghost use Rattle.resolution.specs.Figures.{Few, figuresText};
 ghost use Rattle.resolve.specs.Printed.{refusedLine, inPlace};
-ghost use Rattle.resolve.specs.Parts.{answered, partText};
+ghost use Rattle.resolve.specs.Parts.{answered};
 
-// How many queries a table that was read has.
-pub fn query_count(table: &[u64]) -> usize
-    requires accepted { ⌜ WasRead (now table) ⌝ }
-    ensures answer { λ r. ⌜ r ≡ length (queriesOf (now (table .entry))) ⌝ }
-{
-    row_count(section(table, 8))
+// A query's part: its bytes at the front of what was lent, and the query's `found`.
+pub struct Part {
+    pub size: usize,
+    pub found: Found,
 }
 
 // The line `refused N`.
@@ -45,30 +47,25 @@ fn put_answer(out: &mut [u8], a: Answer) -> usize
 }
 
 // The listing of query i.
-fn put_listing(table: &[u64], i: usize, out: &mut [u8]) -> usize
-    requires accepted { ⌜ WasRead (now table) ⌝ }
-    ensures written { λ r. ⌜ _≡_ {A = Buf} (now (out .exit), r) (puts (now (out .entry), 0) (inPlace (length (now (out .entry))) (listingOf (now (table .entry)) i))) ⌝ }
+pub fn put_listing(table: &[u64], block: &[u64], i: usize, out: &mut [u8]) -> Part
+    requires read { ⌜ WasRead (now table) ⌝ }
+    requires made { ⌜ Made (now table) (now block) ⌝ }
+    requires number { ⌜ i < length (queriesOf (now table)) ⌝ }
+    ensures written { λ r. ⌜ _≡_ {A = Buf} (now (out .exit), r .size) (puts (now (out .entry), 0) (inPlace (length (now (out .entry))) (listingOf (now (table .entry)) i))) ⌝ }
+    ensures found { λ r. ⌜ foundMeaning (r .found) ≡ foundFor (now (table .entry)) (queryAt (now (table .entry)) i) ⌝ }
 {
-    let a = listing_of(table, i, out);
-    put_answer(out, a)
+    let l = listing_on(table, block, i, out);
+    let a = l.answer;
+    let found = l.found;
+    let size = put_answer(out, a);
+    Part { size, found }
 }
 
-// The summary.
-fn put_summary(table: &[u64], out: &mut [u8]) -> usize
-    requires accepted { ⌜ WasRead (now table) ⌝ }
-    ensures written { λ r. ⌜ _≡_ {A = Buf} (now (out .exit), r) (puts (now (out .entry), 0) (inPlace (length (now (out .entry))) (done (summaryOf (now (table .entry)))))) ⌝ }
+// The summary of these figures.
+pub fn put_summary(c: Figures, out: &mut [u8]) -> usize
+    requires few { ⌜ Few c ⌝ }
+    ensures written { λ r. ⌜ _≡_ {A = Buf} (now (out .exit), r) (puts (now (out .entry), 0) (inPlace (length (now (out .entry))) (done (figuresText c)))) ⌝ }
 {
-    let a = summary_of(table, out);
+    let a = summary_by(c, out);
     put_answer(out, a)
-}
-
-// Part i: the listing of query i, and after the last query the summary.
-pub fn put_part(table: &[u64], i: usize, out: &mut [u8]) -> usize
-    requires accepted { ⌜ WasRead (now table) ⌝ }
-    ensures written { λ r. ⌜ _≡_ {A = Buf} (now (out .exit), r) (puts (now (out .entry), 0) (partText (length (now (out .entry))) (now (table .entry)) i)) ⌝ }
-{
-    if i < query_count(table) {
-        return put_listing(table, i, out);
-    }
-    put_summary(table, out)
 }

@@ -1,4 +1,5 @@
--- Nothing lies behind a place that a closed table lacks, so the search finds nothing there. Assumes nothing.
+-- Nothing lies behind a place that a closed table lacks, so the search finds nothing there. Assumes
+-- nothing.
 use Prim.Native.Nat.{ℕ, zero, suc}
 use mathlib.Core.Path.{_≡_, refl, sym}
 use mathlib.Core.Bool.{Bool, true, false, not, _&&_, _||_}
@@ -34,9 +35,11 @@ module _ {A : Type 0} (b : Board A) where
     back = λ s q h r own m f e v. c .back s q h r (w s own) m (w (h .to) f) e v;
   }
 
-  -- what a walk asks about is a place of a free scope, and a hop that it takes leads to one: so on from place to place
+  -- what a walk asks about is a place of a free scope, and a hop that it takes leads to one: so on
+  -- from place to place
   module _ (free : ℕ → Bool) (live : ℕ → ℕ → Bool) where
-    -- a place that the table lacks is not asked for, and no step leads from it to a place that the table holds
+    -- a place that the table lacks is not asked for, and no step leads from it to a place that the
+    -- table holds
     unasked : (seek : ℕ → ℕ → Bool) (way : ℕ → ℕ → A → Bool) → Closed b seek way free live → (s q : ℕ) → live s q ≡ false
         → seek s q ≡ false
     unasked seek way c s q d = not-true (seek s q) (λ k. true-false (c .asked s q k) d)

@@ -1,25 +1,32 @@
--- Which ends are cut, from which ends lead on. Assumes nothing.
-use mathlib.Core.Path.{_≡_, refl, sym, _∙_}
+-- Which ends are cut, from which ends lead on; what is known of a node's ends. Assumes nothing.
+use mathlib.Core.Path.{_≡_, refl, sym, _∙_, subst}
 use mathlib.Core.Logic.{_⊎_, inl, inr, ⊎-elim}
-use mathlib.Core.Bool.{Bool, true, false, _&&_}
+use mathlib.Core.Bool.{Bool, true, false, not, _&&_, false≢true}
 use mathlib.Core.List.{List}
-use Prim.Native.Nat.{ℕ, zero, suc, _-_, _<_}
-use native.Mathlib.Numerals.{sub-one}
-use lib.Dec.{eqb}
-use lib.ListN.{length, getD, set, drop, replicate, getD-replicate}
-use lib.Seq.{getD-set-same, getD-set-other}
+use Prim.Native.Nat.{ℕ, zero, suc, _+_, _-_, _/_, _%_, _^_, _≤_, _<_}
 use native.Mathlib.Omega.{arith}
-use borrow.Author.Tests.{eq-eqb, eqb-true, eqb-false, lt-ltb}
+use native.Mathlib.Numerals.{sub-one}
+use native.Mathlib.Nat.{mod-lt, lt-of-lt-of-le}
+use borrow.Author.Tests.{eq-eqb, eqb-true, lt-ltb, ltb-true, ltb-false, not-false}
+use lib.Bits.{bitAnd, bitOr, bitXor}
+use lib.Dec.{eqb, ltb}
+use lib.ListN.{getD}
+use lib.Pow.{shr-shr, shr-lt, field, mod-mod-pow, pow-mono}
 use Rattle.scope_graph.specs.Language.{stop, by}
 use Rattle.scope_graph.specs.Order.{endOf}
 use Rattle.scope_graph.specs.Path.{HopOf}
 use Rattle.scope_graph.specs.Rows.{anyOf}
 use Rattle.scope_graph.proofs.Lists.{Two, and-left, and-right, and-both, or-cases, or-left, or-right, not-true, true-false, anyOf-intro, anyOf-elim}
-use Rattle.search.specs.Board.{Board, leadsOn, cutHere}
-use Rattle.edge_rows.specs.Rows.{rowHops}
-use Rattle.search.specs.Tables.{placeFlag, pairFlag, tableOrder, endNumber, tableBoard}
-use Rattle.search.specs.Steps.{wantedHop, behindEnd, Known, KnownCut, verdictOf}
-use Rattle.search.proofs.Cells.{pair-first}
+use Rattle.block.specs.Layout.{BETTER}
+use Rattle.block.specs.Sets.{hasBit, hasScope, placesOf}
+use Rattle.block.specs.Block.{acceptSet, pairFlag, blockHops}
+use Rattle.block.proofs.SetLaws.{bits-or, bits-less, bits-none, bits-common, scope-in}
+use Rattle.block.proofs.BlockLaws.{pair-in, pair-no-first, pair-no-second, pair-first}
+use Rattle.search.specs.declared.Node.{Node}
+use Rattle.search.specs.Board.{Board, hopLeads, cutHere}
+use Rattle.search.specs.Tables.{tableOrder, endNumber, tableBoard}
+use Rattle.search.specs.Conditions.{wantedHop, behindEnd, Known}
+use Rattle.search.specs.Steps.{leadsBy}
 
 -- an end's number and back
 end-number : (c : ℕ) → endNumber (endOf c) ≡ c
@@ -28,18 +35,21 @@ end-number zero = refl
 end-number (suc n) = refl
 
 -- what lies at an end: here, or behind the hops of its label
-module _ (edges delta goal : List ℕ) (fuel : ℕ) (free : ℕ → Bool) (s q a : ℕ) where
-  pub behind-stop : a ≡ 0 → behindEnd (tableBoard edges delta goal) fuel free s q a ≡ placeFlag goal s q
+module _ (block : List ℕ) (goal : ℕ) (n : Node) (a : ℕ) where
+  -- does what is sought lie at the node's end with number a?
+  abbrev pub behind : Bool
+  behind = behindEnd (tableBoard block goal) (n .left) (hasScope (n .free)) (n .scope) (n .state) a
+
+  pub behind-stop : a ≡ 0 → behind ≡ placesOf goal (acceptSet block) (n .scope) (n .state)
   unfolding behindEnd tableBoard
   behind-stop e = rw e
 
-  pub behind-by : (a ≡ 0 → ⊥) → behindEnd (tableBoard edges delta goal) fuel free s q a
-      ≡ anyOf (λ h. wantedHop (a - 1) h && leadsOn (tableBoard edges delta goal) fuel free q h) (rowHops (drop 0 edges) s)
+  pub behind-by : (a ≡ 0 → ⊥) → behind ≡ leadsBy (tableBoard block goal) n (a - 1) (blockHops block (n .scope))
   unfolding behindEnd tableBoard
   behind-by h = at a h
     where
-      at : (n : ℕ) → (n ≡ 0 → ⊥) → behindEnd (tableBoard edges delta goal) fuel free s q n
-          ≡ anyOf (λ k. wantedHop (n - 1) k && leadsOn (tableBoard edges delta goal) fuel free q k) (rowHops edges s)
+      at : (k : ℕ) → (k ≡ 0 → ⊥) → behindEnd (tableBoard block goal) (n .left) (hasScope (n .free)) (n .scope) (n .state) k
+          ≡ leadsBy (tableBoard block goal) n (k - 1) (blockHops block (n .scope))
       at zero k = absurd (k refl)
       at (suc l) k = simp sub-one
 
@@ -52,102 +62,154 @@ wanted-own : (h : HopOf ℕ) → h .step < 8 → wantedHop (h .step) h ≡ true
 unfolding wantedHop
 wanted-own h k = rw (lt-ltb (h .step) 8 k, wantedHop) (eq-eqb (h .step) (h .step) refl)
 
-module _ (b : Board ℕ) (order : List ℕ) (fuel : ℕ) (free : ℕ → Bool) (s q c : ℕ) where
+module _ (b : Board ℕ) (block : List ℕ) (fuel : ℕ) (free : ℕ → Bool) (s q c : ℕ) where
   abbrev by-hop : HopOf ℕ → Bool
-  by-hop h = tableOrder order (by (h .step)) (endOf c) && leadsOn b fuel free q h
+  by-hop h = tableOrder block (by (h .step)) (endOf c) && hopLeads b fuel free q h
 
   abbrev by-stop : Bool
-  by-stop = b .here s q && tableOrder order stop (endOf c)
+  by-stop = b .here s q && tableOrder block stop (endOf c)
 
   -- an end that leads on and is preferred cuts
-  pub cut-yes : (a : ℕ) → a < 9 → pairFlag order a c ≡ true → behindEnd b fuel free s q a ≡ true
-      → cutHere b (tableOrder order) fuel free s q (endOf c) ≡ true
+  pub cut-yes : (a : ℕ) → a < 9 → pairFlag block a c ≡ true → behindEnd b fuel free s q a ≡ true
+      → cutHere b (tableOrder block) fuel free s q (endOf c) ≡ true
   unfolding cutHere behindEnd tableOrder endNumber
   cut-yes zero h k m = or-left by-stop _ (and-both (b .here s q) _ m (rw (end-number c) k))
   cut-yes (suc l) h k m =
-      let found = anyOf-elim (λ y. wantedHop l y && leadsOn b fuel free q y) (b .hops s) m in
+      let found = anyOf-elim (λ y. wantedHop l y && hopLeads b fuel free q y) (b .hops s) m in
       let hop = found .0 in
       let is : hop .step ≡ l = wanted-step l hop (omega arith) (and-left (wantedHop l hop) _ (found .2)) in
-      let first : tableOrder order (by (hop .step)) (endOf c) ≡ true = rw (is, end-number c) k in
+      let first : tableOrder block (by (hop .step)) (endOf c) ≡ true = rw (is, end-number c) k in
       or-right by-stop _ (anyOf-intro by-hop {a = hop} {l = b .hops s} (found .1)
-      (and-both (tableOrder order (by (hop .step)) (endOf c)) (leadsOn b fuel free q hop) first (and-right (wantedHop l hop) (leadsOn b fuel free q hop) (found .2))))
+      (and-both (tableOrder block (by (hop .step)) (endOf c)) (hopLeads b fuel free q hop) first
+      (and-right (wantedHop l hop) (hopLeads b fuel free q hop) (found .2))))
 
   -- and nothing else does
-  cut-some : cutHere b (tableOrder order) fuel free s q (endOf c) ≡ true
-      → (a : ℕ) × (a < 9) × (pairFlag order a c ≡ true) × (behindEnd b fuel free s q a ≡ true)
+  cut-some : cutHere b (tableOrder block) fuel free s q (endOf c) ≡ true
+      → (a : ℕ) × (a < 9) × (pairFlag block a c ≡ true) × (behindEnd b fuel free s q a ≡ true)
   unfolding cutHere behindEnd tableOrder endNumber
   cut-some e =
       ⊎-elim
-      (λ y. (0, omega arith, rw (end-number c) at (and-right (b .here s q) (tableOrder order stop (endOf c)) y), and-left (b .here s q) (tableOrder order stop (endOf c)) y))
+      (λ y. (0, omega arith, rw (end-number c) at (and-right (b .here s q) (tableOrder block stop (endOf c)) y), and-left (b .here s q) (tableOrder block stop (endOf c)) y))
       (λ y.
       let found = anyOf-elim by-hop (b .hops s) y in
       let hop = found .0 in
-      let first : pairFlag order (suc (hop .step)) c ≡ true = rw (end-number c) at (and-left (tableOrder order (by (hop .step)) (endOf c)) (leadsOn b fuel free q hop) (found .2)) in
-      let below : suc (hop .step) < 9 = pair-first order (suc (hop .step)) c first in (
+      let first : pairFlag block (suc (hop .step)) c ≡ true = rw (end-number c) at (and-left (tableOrder block (by (hop .step)) (endOf c)) (hopLeads b fuel free q hop) (found .2)) in
+      let below : suc (hop .step) < 9 = pair-first block (suc (hop .step)) c first in (
         suc (hop .step),
         below,
         first,
-        anyOf-intro (λ y. wantedHop (hop .step) y && leadsOn b fuel free q y) {a = hop} {l = b .hops s} (found .1)
-            (and-both (wantedHop (hop .step) hop) (leadsOn b fuel free q hop) (wanted-own hop (omega arith))
-            (and-right (tableOrder order (by (hop .step)) (endOf c)) (leadsOn b fuel free q hop) (found .2))),
+        anyOf-intro (λ y. wantedHop (hop .step) y && hopLeads b fuel free q y) {a = hop} {l = b .hops s} (found .1)
+            (and-both (wantedHop (hop .step) hop) (hopLeads b fuel free q hop) (wanted-own hop (omega arith))
+            (and-right (tableOrder block (by (hop .step)) (endOf c)) (hopLeads b fuel free q hop) (found .2))),
       ))
       (or-cases by-stop _ e)
 
-  -- a known end that is preferred cuts; and if no end of the nine both leads on and is preferred, nothing does
-  pub cut-known : (known : List ℕ) → Known b fuel free s q known → KnownCut order known c → cutHere b (tableOrder order) fuel free s q (endOf c) ≡ true
-  cut-known known k h = cut-yes (h .end) (h .below) (h .preferred) (k .leads (h .end) (h .below) (h .leads))
-
-  pub cut-none : ((a : ℕ) → a < 9 → pairFlag order a c ≡ true → behindEnd b fuel free s q a ≡ false) → cutHere b (tableOrder order) fuel free s q (endOf c) ≡ false
+  -- if no end of the nine both leads on and is preferred, none is
+  pub cut-none : ((a : ℕ) → a < 9 → pairFlag block a c ≡ true → behindEnd b fuel free s q a ≡ false)
+      → cutHere b (tableOrder block) fuel free s q (endOf c) ≡ false
   cut-none h =
-      not-true (cutHere b (tableOrder order) fuel free s q (endOf c)) (λ y.
+      not-true (cutHere b (tableOrder block) fuel free s q (endOf c)) (λ y.
       let found = cut-some y in
       true-false (found .3) (h (found .0) (found .1) (found .2)))
 
--- what a byte says
-pub verdict-yes : (x : Bool) → verdictOf x ≡ 1 → x ≡ true
-unfolding verdictOf
-verdict-yes true e = refl
-verdict-yes false e = absurd (omega arith)
+  -- to an end past the ninth none is preferred
+  pub cut-past : 9 ≤ c → cutHere b (tableOrder block) fuel free s q (endOf c) ≡ false
+  cut-past h = cut-none (λ a m k. absurd (false≢true (sym (pair-no-second block a c h) ∙ k)))
 
-pub verdict-no : (x : Bool) → (verdictOf x ≡ 1 → ⊥) → x ≡ false
-unfolding verdictOf
-verdict-no true e = absurd (e refl)
-verdict-no false e = refl
+-- the ends preferred to one, as a set: nine bits of a cell
+abbrev pub Better : List ℕ → ℕ → ℕ → Type 0
+Better block c r = (a : ℕ) → hasBit r a ≡ pairFlag block a c
 
-pub verdict-two : (x : Bool) → verdictOf x ≡ 2 → x ≡ false
-unfolding verdictOf
-verdict-two true e = absurd (omega arith)
-verdict-two false e = refl
+bits-low : (x a j : ℕ) → 9 ≡ j + 1 + a → hasBit (x % 512) a ≡ hasBit x a
+unfolding hasBit
+bits-low x a j e =
+    let whole : x % 512 / 2 ^ a ≡ x / 2 ^ a % 2 ^ (j + 1) =
+    subst (λ (k : ℕ). x % 2 ^ k / 2 ^ a ≡ x / 2 ^ a % 2 ^ (j + 1)) (sym e) (field x (j + 1) a) in
+    rw (whole, mod-mod-pow (x / 2 ^ a) j 1)
 
-module _ (b : Board ℕ) (fuel : ℕ) (free : ℕ → Bool) (s q : ℕ) where
-  -- nine bytes of 0 say nothing
-  pub known-nothing : Known b fuel free s q (replicate 9 0)
-  known-nothing = record { leads = λ a h e. absurd (omega (arith, e, zeros a h)); leads-not = λ a h e. absurd (omega (arith, e, zeros a h)) }
-    where
-      zeros : (a : ℕ) → a < 9 → getD {A = ℕ} (replicate 9 0) a 0 ≡ 0
-      zeros a h = getD-replicate 9 a 0 0 h
+bits-high : (x a : ℕ) → 9 ≤ a → hasBit (x % 512) a ≡ false
+unfolding hasBit
+bits-high x a h =
+    let small : x % 512 < 2 ^ a = lt-of-lt-of-le (mod-lt x (omega arith)) (pow-mono {i = 9} h) in
+    let same : 0 + a ≡ a = omega arith in
+    let none : x % 512 / 2 ^ a < 1 = shr-lt 0 a (rw same small) in
+    let zero-is : x % 512 / 2 ^ a ≡ 0 = omega arith in
+    rw zero-is
 
-  -- one more end's byte, as it is
-  pub known-more : (known : List ℕ) (a : ℕ) → a < length known → Known b fuel free s q known
-      → Known b fuel free s q (set known a (verdictOf (behindEnd b fuel free s q a)))
-  known-more known a inside h = record {
-    leads = λ k m e. yes k m e (Two (eqb k a));
-    leads-not = λ k m e. no k m e (Two (eqb k a));
+pub better-is : (block : List ℕ) (c : ℕ) → c < 9 → Better block c (getD block (BETTER + c) 0 % 512)
+better-is block c h a = at (Two (ltb a 9))
+  where
+    at : (ltb a 9 ≡ true) ⊎ (ltb a 9 ≡ false) → hasBit (getD block (BETTER + c) 0 % 512) a ≡ pairFlag block a c
+    at (inl e) =
+        let below : a < 9 = ltb-true a 9 e in
+        bits-low (getD block (BETTER + c) 0) a (8 - a) (omega arith) ∙ sym (pair-in block a c below h)
+    at (inr e) =
+        let past : 9 ≤ a = ltb-false a 9 e in
+        bits-high (getD block (BETTER + c) 0) a past ∙ sym (pair-no-first block a c past)
+
+-- what is known of a node's ends
+module _ (block : List ℕ) (goal : ℕ) (n : Node) where
+  -- a set with no bits says nothing, a union what both say
+  pub known-none : Known block goal n 0
+  known-none = record {
+    leads = λ a h e. absurd (false≢true (sym (bits-none a) ∙ e));
+    leads-not = λ a h e. absurd (false≢true (sym (bits-none (16 + a)) ∙ e));
   }
-    where
-      byte : ℕ
-      byte = verdictOf (behindEnd b fuel free s q a)
 
-      own : (k : ℕ) → eqb k a ≡ true → getD (set known a byte) k 0 ≡ byte
-      own k t = rw (eqb-true k a t) (getD-set-same known a byte 0 inside)
+  known-or : (x y : ℕ) → Known block goal n x → Known block goal n y → Known block goal n (bitOr x y)
+  known-or x y k m = record {
+    leads = λ a h e. ⊎-elim (k .leads a h) (m .leads a h) (or-cases (hasBit x a) (hasBit y a) (sym (bits-or x y a) ∙ e));
+    leads-not = λ a h e. ⊎-elim (k .leads-not a h) (m .leads-not a h) (or-cases (hasBit x (16 + a)) (hasBit y (16 + a)) (sym (bits-or x y (16 + a)) ∙ e));
+  }
 
-      other : (k : ℕ) → eqb k a ≡ false → getD (set known a byte) k 0 ≡ getD known k 0
-      other k t = getD-set-other known a k byte 0 (eqb-false k a t)
+  -- one end more, by the set of one number
+  module _ (out a r i : ℕ) (known : Known block goal n out) (below : a < 9) (one : (u : ℕ) → hasScope r u ≡ eqb u i) where
+    is-one : (u : ℕ) → u < 64 → hasBit r u ≡ true → u ≡ i
+    is-one u h e = eqb-true u i (sym (one u) ∙ scope-in r u h ∙ e)
 
-      yes : (k : ℕ) → k < 9 → getD (set known a byte) k 0 ≡ 1 → (eqb k a ≡ true) ⊎ (eqb k a ≡ false) → behindEnd b fuel free s q k ≡ true
-      yes k m e (inl t) = rw (eqb-true k a t) (verdict-yes (behindEnd b fuel free s q a) (sym (own k t) ∙ e))
-      yes k m e (inr t) = h .leads k m (sym (other k t) ∙ e)
+    pub known-yes : i ≡ a → behind block goal n a ≡ true → Known block goal n (bitOr out r)
+    known-yes j e = known-or out r known (record {
+      leads = λ k h m. let same : k ≡ a = is-one k (omega arith) m ∙ j in rw same e;
+      leads-not = λ k h m. let same : 16 + k ≡ a = is-one (16 + k) (omega arith) m ∙ j in absurd (omega arith);
+    })
 
-      no : (k : ℕ) → k < 9 → getD (set known a byte) k 0 ≡ 2 → (eqb k a ≡ true) ⊎ (eqb k a ≡ false) → behindEnd b fuel free s q k ≡ false
-      no k m e (inl t) = rw (eqb-true k a t) (verdict-two (behindEnd b fuel free s q a) (sym (own k t) ∙ e))
-      no k m e (inr t) = h .leads-not k m (sym (other k t) ∙ e)
+    pub known-no : i ≡ 16 + a → behind block goal n a ≡ false → Known block goal n (bitOr out r)
+    known-no j e = known-or out r known (record {
+      leads = λ k h m. let same : k ≡ 16 + a = is-one k (omega arith) m ∙ j in absurd (omega arith);
+      leads-not = λ k h m. let both : 16 + k ≡ 16 + a = is-one (16 + k) (omega arith) m ∙ j in let same : k ≡ a = omega arith in rw same e;
+    })
+
+  -- what is known, and the ends preferred to the one with number c
+  module _ (known c first : ℕ) (is : Known block goal n known) (better : Better block c first) where
+    abbrev pub cut : Bool
+    cut = cutHere (tableBoard block goal) (tableOrder block) (n .left) (hasScope (n .free)) (n .scope) (n .state) (endOf c)
+
+    -- if one of them is known to lead on, the end is cut
+    pub cut-known : known < 2 ^ 64 → first < 2 ^ 64 → (bitAnd known first ≡ 0 → ⊥) → cut ≡ true
+    cut-known h k some =
+        let e = bits-common 64 known first h k some in
+        let first-is : pairFlag block (e .0) c ≡ true = sym (better (e .0)) ∙ e .3 in
+        let below : e .0 < 9 = pair-first block (e .0) c first-is in
+        cut-yes (tableBoard block goal) block (n .left) (hasScope (n .free)) (n .scope) (n .state) c (e .0) below first-is (is .leads (e .0) below (e .2))
+
+    -- those that are left to ask about
+    abbrev pub left-over : ℕ
+    left-over = bitXor first (bitAnd first (known / 2 ^ 16))
+
+    shifted : (a : ℕ) → hasBit (known / 2 ^ 16) a ≡ hasBit known (16 + a)
+    unfolding hasBit
+    shifted a = rw (shr-shr known 16 a)
+
+    pub left-preferred : (a : ℕ) → hasBit left-over a ≡ true → pairFlag block a c ≡ true
+    left-preferred a h = sym (better a) ∙ and-left (hasBit first a) _ (sym (bits-less first (known / 2 ^ 16) a) ∙ h)
+
+    pub left-not : (a : ℕ) → a < 9 → hasBit left-over a ≡ false → pairFlag block a c ≡ true → behind block goal n a ≡ false
+    left-not a below h k =
+        let has : hasBit first a ≡ true = better a ∙ k in
+        let gone : (true && not (hasBit known (16 + a))) ≡ false = rw (has, shifted a) at (sym (bits-less first (known / 2 ^ 16) a) ∙ h) in
+        is .leads-not a below (not-false (hasBit known (16 + a)) gone)
+
+    pub left-none : left-over ≡ 0 → cut ≡ false
+    left-none e =
+        cut-none (tableBoard block goal) block (n .left) (hasScope (n .free)) (n .scope) (n .state) c
+        (λ a below k. left-not a below (rw e (bits-none a)) k)

@@ -1,189 +1,224 @@
--- One step of `existsFrom` and of the walk along a scope's rows; what a hop that is not worth entering leads to; the ends that are cut. Assumes nothing.
-use mathlib.Core.Path.{_≡_, refl, ap, _∙_}
-use mathlib.Core.Logic.{_⊎_, inl, inr}
-use mathlib.Core.Bool.{Bool, true, false, _&&_, and-false}
+-- One step of `existsFrom` and of the look through a node's hops; what a hop that is not worth
+-- entering leads to; a closed table stays closed with a scope taken. Assumes nothing.
+use mathlib.Core.Path.{_≡_, refl, sym, ap, _∙_, fun-ext, subst}
+use mathlib.Core.Logic.{_⊎_, inl, inr, ⊎-elim}
+use mathlib.Core.Bool.{Bool, true, false, not, _&&_, _||_, and-false}
 use mathlib.Core.Option.{Option, some, none}
-use mathlib.Core.List.{List, [], _∷_}
-use Prim.Native.Nat.{ℕ, zero, suc, _+_, _-_, _≤_, _<_}
+use mathlib.Core.List.{List}
+use Prim.Native.Nat.{ℕ, suc, _+_, _-_, _≤_, _<_}
 use native.Mathlib.Omega.{arith}
-use native.Mathlib.Numerals.{sub-one}
-use borrow.Author.Tests.{lt-ltb}
-use lib.ListN.{length, getD, set, drop}
+use lib.Dec.{eqb}
+use Rattle.scope_graph.specs.Language.{_∈_}
 use Rattle.scope_graph.specs.Path.{HopOf}
 use Rattle.scope_graph.specs.Rows.{anyOf}
 use Rattle.scope_graph.proofs.Lists.{Two, anyOf-intro}
-use Rattle.search.specs.Board.{leadsTo, existsFrom, leadsOn}
+use Rattle.block.specs.Sets.{hasScope, placesOf}
+use Rattle.block.specs.Block.{stateOf, nextCell, acceptSet, firstEdge, edgeCell, hopOf, hopsOn, blockHops}
+use Rattle.block.proofs.SetLaws.{places-none}
+use Rattle.block.proofs.BlockLaws.{state-some, state-cell, hop-to, blockHops-in}
+use Rattle.search.specs.declared.Node.{Node}
+use Rattle.search.specs.Board.{without, leadsTo, existsFrom, hopLeads}
 use Rattle.search.specs.Live.{Closed, any-way}
-use Rattle.edge_rows.specs.Rows.{hopTo, hopAt, rowHops, nextRow}
-use Rattle.edge_rows.proofs.Laws.{next-row}
-use Rattle.search.specs.Tables.{stateOf, nextCell, placeFlag, freeFlag, tableBoard}
-use Rattle.search.specs.Steps.{HopAt, wantedHop, worthState}
-use Rattle.search.proofs.Cells.{place-state, free-taken, worth-yes, worth-has}
-use Rattle.search.proofs.Closing.{state-cell}
-use Rattle.search.proofs.Closed.{Within, closed-less, closed-exists, without-within}
+use Rattle.search.specs.Tables.{placeFlag, tableBoard}
+use Rattle.search.specs.Conditions.{Inside, LiveAt, WorthAt, wayOf, wantedHop}
+use Rattle.search.specs.Steps.{worthState, NextHop, Entered, leadsBy}
+use Rattle.search.proofs.Cells.{place-state}
+use Rattle.search.proofs.HopLaws.{worthy, idle, hop-yes}
+use Rattle.search.proofs.RulesLists.{anyOf-cons, anyOf-no, anyOf-append}
+use Rattle.search.proofs.Closed.{closed-less, closed-exists, without-within}
 
--- the free scopes after one is taken are among those before
-pub taken-within : (free : List ℕ) (t : ℕ) → Within (freeFlag (set free t 0)) (freeFlag free)
-taken-within free t = rw (free-taken free t) (without-within (freeFlag free) (freeFlag free) t (λ k h. h))
+-- a set with a scope taken
+abbrev pub Taken : ℕ → ℕ → ℕ → Type 0
+Taken free s r = (u : ℕ) → hasScope r u ≡ (hasScope free u && not (eqb u s))
 
-module _ (edges delta goal free : List ℕ) where
-  -- a closed table stays closed after one more scope is taken
-  pub taken-closed : (live : List ℕ) (t : ℕ)
-      → Closed (tableBoard edges delta goal) (placeFlag goal) (any-way (tableBoard edges delta goal)) (freeFlag free) (placeFlag live)
-      → Closed (tableBoard edges delta goal) (placeFlag goal) (any-way (tableBoard edges delta goal)) (freeFlag (set free t 0)) (placeFlag live)
-  taken-closed live t c =
-      closed-less (tableBoard edges delta goal) (placeFlag goal) (any-way (tableBoard edges delta goal)) (freeFlag (set free t 0)) (freeFlag free)
-      (placeFlag live) (taken-within free t) c
+pub taken-is : (free s r : ℕ) → Taken free s r → hasScope r ≡ without (hasScope free) s
+unfolding without
+taken-is free s r h = fun-ext h
 
-  -- the scope itself
-  pub exists-none : (fuel s q : ℕ) → fuel ≡ 0 → existsFrom (tableBoard edges delta goal) fuel (freeFlag free) s q ≡ false
-  unfolding existsFrom
-  exists-none fuel s q e = rw e
+-- a closed table stays closed with a scope taken
+module _ (block : List ℕ) (goal free s r : ℕ) (taken : Taken free s r) where
+  closed-taken : (seek : ℕ → ℕ → Bool) (way : ℕ → ℕ → ℕ → Bool) (live : ℕ → ℕ → Bool) → Closed (tableBoard block goal) seek way (hasScope free) live
+      → Closed (tableBoard block goal) seek way (hasScope r) live
+  closed-taken seek way live c =
+      closed-less (tableBoard block goal) seek way (hasScope r) (hasScope free) live
+      (rw (taken-is free s r taken) (without-within (hasScope free) (hasScope free) s (λ k h. h))) c
 
-  pub exists-here : (fuel s q : ℕ) → (fuel ≡ 0 → ⊥) → placeFlag goal s q ≡ true
-      → existsFrom (tableBoard edges delta goal) fuel (freeFlag free) s q ≡ true
+  pub live-taken : (live : List ℕ) → LiveAt block goal (hasScope free) live → LiveAt block goal (hasScope r) live
+  live-taken live = closed-taken (placesOf goal (acceptSet block)) (any-way (tableBoard block goal)) (placeFlag live)
+
+  pub worth-taken : (scopes states : ℕ) (worth : List ℕ) → WorthAt block goal scopes states (hasScope free) worth
+      → WorthAt block goal scopes states (hasScope r) worth
+  worth-taken scopes states worth = closed-taken (placesOf scopes states) (wayOf block goal) (placeFlag worth)
+
+-- where no scope cuts, all steps may be followed
+pub way-none : (block : List ℕ) (goal : ℕ) → wayOf block 0 ≡ any-way (tableBoard block goal)
+unfolding wayOf any-way
+way-none block goal = fun-ext (λ s. fun-ext (λ q. fun-ext (λ t. rw (places-none (acceptSet block) s q))))
+
+-- m is the node behind edge i's hop, which is worth entering
+pub record Behind (block table : List ℕ) (n : Node) (want i : ℕ) (m : Node) : Type 0 where
+  pub good : worthState block table (n .free) (n .state) want (hopOf (edgeCell block i)) < 16
+  pub enters : Entered n (hopOf (edgeCell block i)) (worthState block table (n .free) (n .state) want (hopOf (edgeCell block i))) m
+
+-- as the code comes to it: the edge read, the state looked up, the node made
+pub behind-node : {block table : List ℕ} {n : Node} {want i x r : ℕ} {m : Node}
+    → worthState block table (n .free) (n .state) want (hopOf (edgeCell block i)) < 16 → x ≡ edgeCell block i
+    → r ≡ worthState block table (n .free) (n .state) want (hopOf x) → Entered n (hopOf x) r m → Behind block table n want i m
+behind-node {block} {table} {n} {want} {i} {x} {r} {m} good edge state in-m = record {
+  good = good;
+  enters = subst (λ (y : ℕ). Entered n (hopOf y) (worthState block table (n .free) (n .state) want (hopOf y)) m) edge
+      (subst (λ (y : ℕ). Entered n (hopOf x) y m) state in-m);
+}
+
+module _ (block : List ℕ) (goal : ℕ) where
+  -- at the place itself
+  pub exists-here : (fuel : ℕ) (free : ℕ → Bool) (s q : ℕ) → placesOf goal (acceptSet block) s q ≡ true
+      → existsFrom (tableBoard block goal) (suc fuel) free s q ≡ true
   unfolding existsFrom tableBoard
-  exists-here zero s q h e = absurd (h refl)
-  exists-here (suc fuel) s q h e = rw (e, existsFrom)
+  exists-here fuel free s q e = rw (e, existsFrom)
 
-  pub exists-on : (fuel s q : ℕ) → (fuel ≡ 0 → ⊥) → placeFlag goal s q ≡ false
-      → existsFrom (tableBoard edges delta goal) fuel (freeFlag free) s q
-      ≡ anyOf (λ h. wantedHop 8 h && leadsOn (tableBoard edges delta goal) (fuel - 1) (freeFlag free) q h) (rowHops (drop 0 edges) s)
-  unfolding existsFrom tableBoard wantedHop leadsOn
-  exists-on zero s q h e = absurd (h refl)
-  exists-on (suc fuel) s q h e = rw (e, existsFrom) (simp sub-one)
+  pub exists-on : (n : Node) → n .scope < 64 → placesOf goal (acceptSet block) (n .scope) (n .state) ≡ false
+      → existsFrom (tableBoard block goal) (suc (n .left)) (hasScope (n .free)) (n .scope) (n .state)
+      ≡ leadsBy (tableBoard block goal) n 8 (hopsOn block (n .scope) (firstEdge block (n .scope)))
+  unfolding existsFrom tableBoard hopLeads wantedHop
+  exists-on n inside e = rw (e, existsFrom) (rw (blockHops-in block (n .scope) inside))
 
-  module _ (fuel q want : ℕ) where
-    -- the walk from cell p on
-    abbrev walk : List (HopOf ℕ) → Bool
-    walk hs = anyOf (λ h. wantedHop want h && leadsOn (tableBoard edges delta goal) fuel (freeFlag free) q h) hs
-
+  module _ (n : Node) (want : ℕ) where
     -- does the question ask for the hop, and does it lead on?
-    abbrev one : HopOf ℕ → Bool
-    one h = wantedHop want h && leadsOn (tableBoard edges delta goal) fuel (freeFlag free) q h
+    abbrev pub one : HopOf ℕ → Bool
+    one h = wantedHop want h && hopLeads (tableBoard block goal) (n .left) (hasScope (n .free)) (n .state) h
 
-    pub walk-found : (h : HopOf ℕ) (hs : List (HopOf ℕ)) → one h ≡ true → walk (h ∷ hs) ≡ true
-    unfolding anyOf
-    walk-found h hs e = rw (e, anyOf)
+    one-unwanted : (h : HopOf ℕ) → wantedHop want h ≡ false → one h ≡ false
+    one-unwanted h e = rw e
 
-    pub walk-on : (h : HopOf ℕ) (hs : List (HopOf ℕ)) → one h ≡ false → walk (h ∷ hs) ≡ walk hs
-    unfolding anyOf
-    walk-on h hs e = rw (e, anyOf)
+    one-taken : (h : HopOf ℕ) → hasScope (n .free) (h .to) ≡ false → one h ≡ false
+    unfolding hopLeads leadsTo
+    one-taken h e = rw (e, leadsTo) (and-false (wantedHop want h))
 
-    pub walk-none : walk [] ≡ false
-    unfolding anyOf
-    walk-none = refl
-
-    -- a hop to a free scope, with the state after it
-    pub one-enter : (l t r : ℕ) → wantedHop want (hopTo l t) ≡ true → freeFlag free t ≡ true → stateOf (nextCell delta q l) ≡ some r
-        → one (hopTo l t) ≡ existsFrom (tableBoard edges delta goal) fuel (freeFlag (set free t 0)) t r
-    unfolding leadsOn leadsTo tableBoard
-    one-enter l t r h k m = rw (h, k, m, leadsTo) (rw (free-taken free t))
-
-    pub one-unwanted : (l t : ℕ) → wantedHop want (hopTo l t) ≡ false → one (hopTo l t) ≡ false
-    one-unwanted l t h = rw h
-
-    pub one-taken : (l t : ℕ) → freeFlag free t ≡ false → one (hopTo l t) ≡ false
-    unfolding leadsOn leadsTo
-    one-taken l t h = rw (h, leadsTo) (and-false (wantedHop want (hopTo l t)))
-
-    pub one-stuck : (l t : ℕ) → stateOf (nextCell delta q l) ≡ none → one (hopTo l t) ≡ false
-    unfolding leadsOn leadsTo tableBoard
-    one-stuck l t h = at (freeFlag free t) (Two (freeFlag free t)) ∙ and-false (wantedHop want (hopTo l t))
+    -- with no hop left nothing is led to
+    one-over : n .left ≡ 0 → (h : HopOf ℕ) → one h ≡ false
+    unfolding hopLeads leadsTo tableBoard existsFrom
+    one-over z h = at (Two (hasScope (n .free) (h .to))) (stateOf (nextCell block (n .state) (h .step))) refl ∙ and-false (wantedHop want h)
       where
-        at : (b : Bool) → (freeFlag free t ≡ true) ⊎ (freeFlag free t ≡ false)
-            → one (hopTo l t) ≡ (wantedHop want (hopTo l t) && false)
-        at b (inl e) = rw (e, h, leadsTo)
-        at b (inr e) = rw (e, leadsTo)
+        at : (hasScope (n .free) (h .to) ≡ true) ⊎ (hasScope (n .free) (h .to) ≡ false) → (o : Option ℕ) → stateOf (nextCell block (n .state) (h .step)) ≡ o
+            → one h ≡ (wantedHop want h && false)
+        at (inr f) o e = rw (f, leadsTo)
+        at (inl f) none e = rw (f, e, leadsTo)
+        at (inl f) (some r) e = rw (f, e, z, leadsTo)
 
-    -- there is a state after a hop whose place a table holds
-    yes-state : (live : List ℕ) (l t : ℕ) → placeFlag live t (nextCell delta q l) ≡ true → stateOf (nextCell delta q l) ≡ some (nextCell delta q l)
-    unfolding stateOf
-    yes-state live l t h = rw (lt-ltb (nextCell delta q l) 16 (place-state live t (nextCell delta q l) h), stateOf)
+    pub leads-over : n .left ≡ 0 → (hs : List (HopOf ℕ)) → leadsBy (tableBoard block goal) n want hs ≡ false
+    leads-over z hs = anyOf-no one hs (λ h m. one-over z h)
 
-    -- a hop whose place a closed table lacks leads nowhere
-    module _ (live : List ℕ) (closed : Closed (tableBoard edges delta goal) (placeFlag goal) (any-way (tableBoard edges delta goal)) (freeFlag free) (placeFlag live))
-        (l t : ℕ) where
-      pub one-dead : placeFlag live t (nextCell delta q l) ≡ false → one (hopTo l t) ≡ false
+    -- a hop to a free scope, with the state behind it
+    one-state : (h : HopOf ℕ) (r : ℕ) → wantedHop want h ≡ true → hasScope (n .free) (h .to) ≡ true → stateOf (nextCell block (n .state) (h .step)) ≡ some r
+        → one h ≡ existsFrom (tableBoard block goal) (n .left) (without (hasScope (n .free)) (h .to)) (h .to) r
+    unfolding hopLeads leadsTo tableBoard
+    one-state h r w f e = rw (w, f, e, leadsTo)
+
+    one-stuck : (h : HopOf ℕ) → stateOf (nextCell block (n .state) (h .step)) ≡ none → one h ≡ false
+    unfolding hopLeads leadsTo tableBoard
+    one-stuck h e = at (Two (hasScope (n .free) (h .to))) ∙ and-false (wantedHop want h)
+      where
+        at : (hasScope (n .free) (h .to) ≡ true) ⊎ (hasScope (n .free) (h .to) ≡ false) → one h ≡ (wantedHop want h && false)
+        at (inl f) = rw (f, e, leadsTo)
+        at (inr f) = rw (f, leadsTo)
+
+    -- whether the node behind a hop worth entering leads on is whether the hop does
+    one-enter : (table : List ℕ) (h : HopOf ℕ) (m : Node) → worthState block table (n .free) (n .state) want h < 16
+        → Entered n h (worthState block table (n .free) (n .state) want h) m
+        → one h ≡ existsFrom (tableBoard block goal) (suc (m .left)) (hasScope (m .free)) (m .scope) (m .state)
+    one-enter table h m good in-m =
+        let w = worthy block table (n .free) (n .state) want h good in
+        let is = hop-yes block table (n .free) (n .state) want h (w .asked) (w .free-to) (w .held) in
+        one-state h (nextCell block (n .state) (h .step)) (w .asked) (w .free-to)
+        (state-some (nextCell block (n .state) (h .step)) (place-state table (h .to) (nextCell block (n .state) (h .step)) (w .held)))
+        ∙ rw (in-m .left, in-m .scope, in-m .state, is, taken-is (n .free) (h .to) (m .free) (in-m .free))
+
+    -- the node behind an edge whose hop is worth entering
+    module _ (table : List ℕ) (i : ℕ) (m : Node) (behind : Behind block table n want i m) where
+      pub enter-inside : Inside m
+      enter-inside = record {
+        scope = rw (behind .enters .scope) (hop-to (edgeCell block i));
+        state = rw (behind .enters .state) (behind .good);
+      }
+
+      pub enter-live : LiveAt block goal (hasScope (n .free)) table → LiveAt block goal (hasScope (m .free)) table
+      enter-live = live-taken block goal (n .free) (hopOf (edgeCell block i) .to) (m .free) (behind .enters .free) table
+
+      enter-one : one (hopOf (edgeCell block i)) ≡ existsFrom (tableBoard block goal) (suc (m .left)) (hasScope (m .free)) (m .scope) (m .state)
+      enter-one = one-enter table (hopOf (edgeCell block i)) m (behind .good) (behind .enters)
+
+    -- a closed table: hops worth nothing lead nowhere
+    module _ (live : List ℕ) (closed : LiveAt block goal (hasScope (n .free)) live) where
+      one-dead : (h : HopOf ℕ) → hasScope (n .free) (h .to) ≡ true → wantedHop want h ≡ true → placeFlag live (h .to) (nextCell block (n .state) (h .step)) ≡ false → one h ≡ false
       unfolding tableBoard
-      one-dead h = at (Two (wantedHop want (hopTo l t))) (Two (freeFlag free t)) (stateOf (nextCell delta q l)) refl
+      one-dead h f w d = at (stateOf (nextCell block (n .state) (h .step))) refl
         where
-          at : (wantedHop want (hopTo l t) ≡ true) ⊎ (wantedHop want (hopTo l t) ≡ false) → (freeFlag free t ≡ true) ⊎ (freeFlag free t ≡ false)
-              → (o : Option ℕ) → stateOf (nextCell delta q l) ≡ o → one (hopTo l t) ≡ false
-          at (inr w) f o e = one-unwanted l t w
-          at (inl w) (inr f) o e = one-taken l t f
-          at (inl w) (inl f) none e = one-stuck l t e
-          at (inl w) (inl f) (some r) e =
-              one-enter l t r w f e
-              ∙ closed-exists (tableBoard edges delta goal) (freeFlag free) (placeFlag live) closed fuel
-              (freeFlag (set free t 0)) t r (taken-within free t) f (rw (state-cell (nextCell delta q l) r e) at h)
+          at : (o : Option ℕ) → stateOf (nextCell block (n .state) (h .step)) ≡ o → one h ≡ false
+          at none e = one-stuck h e
+          at (some r) e =
+              one-state h r w f e
+              ∙ closed-exists (tableBoard block goal) (hasScope (n .free)) (placeFlag live) closed (n .left) (without (hasScope (n .free)) (h .to)) (h .to) r
+              (without-within (hasScope (n .free)) (hasScope (n .free)) (h .to) (λ k x. x)) f (rw (state-cell (nextCell block (n .state) (h .step)) r e) at d)
 
-      -- r is the state that the code enters with, or 16
-      module _ (r : ℕ) (is : r ≡ worthState delta live free q want (hopTo l t)) where
-        pub worth-no : 15 < r → one (hopTo l t) ≡ false
-        worth-no h = at (Two (wantedHop want (hopTo l t))) (Two (freeFlag free t)) (Two (placeFlag live t (nextCell delta q l)))
-          where
-            at : (wantedHop want (hopTo l t) ≡ true) ⊎ (wantedHop want (hopTo l t) ≡ false) → (freeFlag free t ≡ true) ⊎ (freeFlag free t ≡ false)
-                → (placeFlag live t (nextCell delta q l) ≡ true) ⊎ (placeFlag live t (nextCell delta q l) ≡ false) → one (hopTo l t) ≡ false
-            at (inr w) f p = one-unwanted l t w
-            at (inl w) (inr f) p = one-taken l t f
-            at (inl w) (inl f) (inr p) = one-dead p
-            at (inl w) (inl f) (inl p) =
-                absurd (omega (arith, is ∙ worth-yes delta live free q want l t w f p, place-state live t (nextCell delta q l) p))
+      pub one-idle : (h : HopOf ℕ) → 16 ≤ worthState block live (n .free) (n .state) want h → one h ≡ false
+      one-idle h k =
+          ⊎-elim (one-unwanted h) (⊎-elim (one-taken h) (λ d. at (Two (wantedHop want h)) (Two (hasScope (n .free) (h .to))) d))
+          (idle block live (n .free) (n .state) want h k)
+        where
+          at : (wantedHop want h ≡ true) ⊎ (wantedHop want h ≡ false) → (hasScope (n .free) (h .to) ≡ true) ⊎ (hasScope (n .free) (h .to) ≡ false)
+              → placeFlag live (h .to) (nextCell block (n .state) (h .step)) ≡ false → one h ≡ false
+          at (inr w) f d = one-unwanted h w
+          at (inl w) (inr f) d = one-taken h f
+          at (inl w) (inl f) d = one-dead h f w d
 
-        pub worth-enter : r ≤ 15 → one (hopTo l t) ≡ existsFrom (tableBoard edges delta goal) fuel (freeFlag (set free t 0)) t r
-        worth-enter h =
-            let w = worth-has delta live free q want l t (omega (arith, is)) in
-            rw (is ∙ worth-yes delta live free q want l t (w .0) (w .1) (w .2)) (one-enter l t (nextCell delta q l) (w .0) (w .1) (yes-state live l t (w .2)))
+      -- the hops from edge p on, of which edge i's is the next
+      module _ (p i : ℕ) (next : NextHop block live n want p i) where
+        abbrev on : ℕ → Bool
+        on k = leadsBy (tableBoard block goal) n want (hopsOn block (n .scope) k)
 
--- a hop worth entering, behind which it exists, is found among all rows
-pub walk-hop : (edges delta goal live free : List ℕ) (fuel s q want r : ℕ) → HopAt edges delta live free s q want r
-    → existsFrom (tableBoard edges delta goal) fuel (freeFlag (set free (getD edges (r + 3) 0) 0)) (getD edges (r + 3) 0) (nextCell delta q (getD edges (r + 2) 0)) ≡ true
-    → walk edges delta goal free fuel q want (rowHops edges s) ≡ true
-walk-hop edges delta goal live free fuel s q want r hop e =
-    let w = worth-has delta live free q want (getD edges (r + 2) 0) (getD edges (r + 3) 0) (hop .worth) in
-    anyOf-intro (one edges delta goal free fuel q want) (hop .leaves)
-    (one-enter edges delta goal free fuel q want (getD edges (r + 2) 0) (getD edges (r + 3) 0) (nextCell delta q (getD edges (r + 2) 0))
-    (w .0) (w .1) (yes-state edges delta goal free fuel q want live (getD edges (r + 2) 0) (getD edges (r + 3) 0) (w .2)) ∙ e)
+        pub next-skip : on p ≡ on i
+        next-skip =
+            ap (anyOf one) (next .split) ∙ anyOf-append one (next .skipped) (hopsOn block (n .scope) i)
+            ∙ rw (anyOf-no one (next .skipped) (λ h m. one-idle h (next .idle h m)))
 
--- the same with one hop more makes it exist here
-pub exists-hop : (edges delta goal live free : List ℕ) (fuel s q r : ℕ) → 0 < fuel → HopAt edges delta live free s q 8 r
-    → existsFrom (tableBoard edges delta goal) (fuel - 1) (freeFlag (set free (getD edges (r + 3) 0) 0)) (getD edges (r + 3) 0) (nextCell delta q (getD edges (r + 2) 0)) ≡ true
-    → existsFrom (tableBoard edges delta goal) fuel (freeFlag free) s q ≡ true
-exists-hop edges delta goal live free fuel s q r some-left hop e = at (Two (placeFlag goal s q))
-  where
-    at : (placeFlag goal s q ≡ true) ⊎ (placeFlag goal s q ≡ false) → existsFrom (tableBoard edges delta goal) fuel (freeFlag free) s q ≡ true
-    at (inl h) = exists-here edges delta goal free fuel s q (λ z. omega arith) h
-    at (inr h) = exists-on edges delta goal free fuel s q (λ z. omega arith) h ∙ walk-hop edges delta goal live free (fuel - 1) s q 8 r hop e
+        pub next-none : firstEdge block (suc (n .scope)) ≤ i → on p ≡ false
+        unfolding anyOf
+        next-none past = next-skip ∙ rw (next .none past)
 
--- the walk along the rows from cell p on, of which the next one that leaves the scope stands at `at`
-module _ (edges delta goal free : List ℕ) (fuel q want s p at : ℕ) (next : at ≡ nextRow edges s p) where
-  abbrev along : ℕ → Bool
-  along k = walk edges delta goal free fuel q want (rowHops (drop k edges) s)
+        module _ (before : i < firstEdge block (suc (n .scope))) (m : Node) (behind : Behind block live n want i m) where
+          abbrev exists-m : Bool
+          exists-m = existsFrom (tableBoard block goal) (suc (m .left)) (hasScope (m .free)) (m .scope) (m .state)
 
-  pub along-none : length edges ≤ at → along p ≡ false
-  along-none h = ap (walk edges delta goal free fuel q want) (next-row next .none h) ∙ walk-none edges delta goal free fuel q want
+          next-step : on p ≡ (exists-m || on (suc i))
+          next-step =
+              next-skip ∙ ap (anyOf one) (next .found before) ∙ anyOf-cons one (hopOf (edgeCell block i)) (hopsOn block (n .scope) (suc i))
+              ∙ ap (λ (y : Bool). y || on (suc i)) (enter-one live i m behind)
 
-  module _ (inside : at < length edges) where
-    abbrev hop : HopOf ℕ
-    hop = hopAt edges at
+          pub next-found : exists-m ≡ true → on p ≡ true
+          next-found e = next-step ∙ rw e
 
-    along-row : along p ≡ walk edges delta goal free fuel q want (hop ∷ rowHops (drop (at + 6) edges) s)
-    along-row = ap (walk edges delta goal free fuel q want) (next-row next .hops inside)
+          pub next-on : exists-m ≡ false → on p ≡ on (i + 1)
+          next-on e = let more : i + 1 ≡ suc i = omega arith in next-step ∙ rw (e, more)
 
-    module _ (live : List ℕ) (closed : Closed (tableBoard edges delta goal) (placeFlag goal) (any-way (tableBoard edges delta goal)) (freeFlag free) (placeFlag live))
-        (r : ℕ) (is : r ≡ worthState delta live free q want hop) where
-      enter : r ≤ 15 → one edges delta goal free fuel q want hop ≡ existsFrom (tableBoard edges delta goal) fuel (freeFlag (set free (hop .to) 0)) (hop .to) r
-      enter = worth-enter edges delta goal free fuel q want live closed (hop .step) (hop .to) r is
+-- an edge of the node whose hop is worth entering: what exists at the node behind it is led to
+module _ (block : List ℕ) (goal : ℕ) (n : Node) (want : ℕ) (table : List ℕ) (p : ℕ) (leaves : hopOf (edgeCell block p) ∈ blockHops block (n .scope))
+    (m : Node) (behind : Behind block table n want p m) where
+  hop-exists : existsFrom (tableBoard block goal) (suc (m .left)) (hasScope (m .free)) (m .scope) (m .state) ≡ true
+      → leadsBy (tableBoard block goal) n want (blockHops block (n .scope)) ≡ true
+  hop-exists e = anyOf-intro (one block goal n want) leaves (enter-one block goal n want table p m behind ∙ e)
 
-      pub along-skip : 15 < r → along p ≡ along (at + 6)
-      along-skip h =
-          along-row
-          ∙ walk-on edges delta goal free fuel q want hop (rowHops (drop (at + 6) edges) s)
-          (worth-no edges delta goal free fuel q want live closed (hop .step) (hop .to) r is h)
+  pub hop-here : placesOf goal (acceptSet block) (m .scope) (m .state) ≡ true
+      → leadsBy (tableBoard block goal) n want (blockHops block (n .scope)) ≡ true
+  hop-here e = hop-exists (exists-here block goal (m .left) (hasScope (m .free)) (m .scope) (m .state) e)
 
-      pub along-found : r ≤ 15 → existsFrom (tableBoard edges delta goal) fuel (freeFlag (set free (hop .to) 0)) (hop .to) r ≡ true → along p ≡ true
-      along-found h e = along-row ∙ walk-found edges delta goal free fuel q want hop (rowHops (drop (at + 6) edges) s) (enter h ∙ e)
-
-      pub along-on : r ≤ 15 → existsFrom (tableBoard edges delta goal) fuel (freeFlag (set free (hop .to) 0)) (hop .to) r ≡ false → along p ≡ along (at + 6)
-      along-on h e = along-row ∙ walk-on edges delta goal free fuel q want hop (rowHops (drop (at + 6) edges) s) (enter h ∙ e)
+  pub hop-leads : leadsBy (tableBoard block goal) m 8 (blockHops block (m .scope)) ≡ true
+      → leadsBy (tableBoard block goal) n want (blockHops block (n .scope)) ≡ true
+  hop-leads e = at (Two (placesOf goal (acceptSet block) (m .scope) (m .state)))
+    where
+      at : (placesOf goal (acceptSet block) (m .scope) (m .state) ≡ true) ⊎ (placesOf goal (acceptSet block) (m .scope) (m .state) ≡ false)
+          → leadsBy (tableBoard block goal) n want (blockHops block (n .scope)) ≡ true
+      at (inl h) = hop-here h
+      at (inr h) =
+          hop-exists (exists-on block goal m (enter-inside block goal n want table p m behind .scope) h
+          ∙ rw (sym (blockHops-in block (m .scope) (enter-inside block goal n want table p m behind .scope))) e)

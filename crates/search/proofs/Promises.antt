@@ -2,6 +2,7 @@
 use Rattle.search.specs.Promises.{Promises}
 use Rattle.search.proofs.Rules.{entries-are-hits, followed-is-hit, reached-is, standing-is}
 use Rattle.search.proofs.Closed.{closed-exists, closed-hits}
+use Rattle.search.proofs.Parts.{part-followed}
 
 pub promises : Promises
 promises = record {
@@ -15,4 +16,5 @@ promises = record {
     none-reached = closed-exists b free live;
     none-followed = closed-hits b free live;
   };
+  parts = part-followed;
 }

@@ -1,4 +1,5 @@
--- A query's answers by the search are those of the rules: its entries, whether an open pair is followed, a path's standing. Assumes nothing.
+-- A query's answers by the search are those of the rules: its entries, whether an open pair is
+-- followed, a path's standing. Assumes nothing.
 use Prim.Native.Nat.{ℕ, _<_}
 use mathlib.Core.Path.{_≡_, refl, sym, ap, _∙_}
 use mathlib.Core.Bool.{Bool, true, false, not, _&&_, and-true, and-assoc}

@@ -1,5 +1,6 @@
--- What is cut, at a scope and along hops, is what the rules cut: at a node, some reached path is preferred to a hop and what follows it exactly if it
--- stops or goes on by a preferred end, or goes by that hop and is preferred below. Assumes nothing.
+-- What is cut, at a scope and along hops, is what the rules cut: at a node, some reached path is
+-- preferred to a hop and what follows it exactly if it stops or goes on by a preferred end, or goes
+-- by that hop and is preferred below. Assumes nothing.
 use Prim.Native.Nat.{ℕ, zero, suc}
 use mathlib.Core.Path.{_≡_, refl, sym, ap, _∙_, subst}
 use mathlib.Core.Bool.{Bool, true, false, _&&_, _||_, and-true, and-false, and-comm, or-false}
@@ -12,12 +13,13 @@ use Rattle.scope_graph.specs.Rows.{anyOf}
 use Rattle.scope_graph.specs.Computed.{keep, Node, hopsAt, behind, nodesFrom, sameHop, preferredTo}
 use Rattle.scope_graph.proofs.Lists.{Two, anyOf-intro}
 use Rattle.scope_graph.proofs.Reached.{same-hop}
-use Rattle.search.specs.Board.{boardOf, without, leadsOn, cutHere, cutAlong}
+use Rattle.search.specs.Board.{boardOf, without, hopLeads, cutHere, cutAlong}
 use Rattle.search.proofs.RulesLists.{anyOf-same, anyOf-no, anyOf-keep, anyOf-or, anyOf-and, anyOf-map}
 use Rattle.search.proofs.RulesNodes.{Agree, agree-on, entered, beyond, sought, Shut, Open, hop-view, any-step, leads-is, Further, node-view}
 
 module _ (L : Language) (g : Graph L) (x : L .Name) where
-  -- from a scope and a state on, a path to what is sought is preferred to what goes along p and then on by e
+  -- from a scope and a state on, a path to what is sought is preferred to what goes along p and
+  -- then on by e
   unfoldable pub cutFrom : ℕ → List ℕ → ℕ → ℕ → List (Hop L) → End (L .Step) → Bool
   cutFrom fuel seen s q p e = anyOf (λ n. preferredTo L (n .hops) p e) (keep (sought L g x) (nodesFrom L fuel g seen s q))
 
@@ -37,7 +39,7 @@ module _ (L : Language) (laws : Laws L) (g : Graph L) (x : L .Name) (range : InR
   hop-cut : (fuel : ℕ) (free : ℕ → Bool) (seen : List ℕ) → Agree (g .scopes) free seen → (s q : ℕ) (e : End (L .Step)) (h : Hop L)
       → h ∈ hopsAt L (g .edges) s
       → anyOf (λ n. sought L g x n && preferredTo L (n .hops) [] e) (beyond L g fuel seen q h)
-      ≡ (L .prefers (by (h .step)) e && leadsOn (boardOf L g x) fuel free q h)
+      ≡ (L .prefers (by (h .step)) e && hopLeads (boardOf L g x) fuel free q h)
   unfolding anyOf behind preferredTo
   hop-cut fuel free seen a s q e h m =
       ⊎-elim shut goes (hop-view L g x range free seen a s q h m)

@@ -1,4 +1,5 @@
--- The followed places that the search gives are the places of the rules that are asked for and not cut, in the rules' sequence. Assumes nothing.
+-- The followed places that the search gives are the places of the rules that are asked for and not
+-- cut, in the rules' sequence. Assumes nothing.
 use Prim.Native.Nat.{ℕ, zero, suc}
 use mathlib.Core.Path.{_≡_, refl, sym, ap, _∙_}
 use mathlib.Core.Bool.{Bool, true, false, not, _&&_, _||_, and-false}

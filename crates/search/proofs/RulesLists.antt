@@ -1,4 +1,5 @@
--- Equations of `anyOf`, `keep`, `map` and `flatMap` that the search's proofs share. Assumes nothing.
+-- Equations of `anyOf`, `keep`, `map` and `flatMap` that the search's proofs share. Assumes
+-- nothing.
 use mathlib.Core.Path.{_≡_, refl, sym, ap, _∙_}
 use mathlib.Core.Bool.{Bool, true, false, _&&_, _||_, or-assoc}
 use mathlib.Core.List.{List, [], _∷_, _++_, map, flatMap}

@@ -1,4 +1,5 @@
--- The search and the rules go on by the same hops, and `existsFrom` says whether one of the rules' places is sought. Assumes nothing.
+-- The search and the rules go on by the same hops, and `existsFrom` says whether one of the rules'
+-- places is sought. Assumes nothing.
 use Prim.Native.Nat.{ℕ, zero, suc, _<_}
 use mathlib.Core.Path.{_≡_, refl, sym, ap, _∙_}
 use mathlib.Core.Bool.{Bool, true, false, not, _&&_, _||_}
@@ -13,7 +14,7 @@ use Rattle.scope_graph.specs.Rows.{anyOf}
 use Rattle.scope_graph.specs.Computed.{Node, hopsAt, declaresAny, behind, hopOn, nodesFrom}
 use Rattle.scope_graph.proofs.Lists.{map-elim, flatMap-elim}
 use Rattle.scope_graph.proofs.Nodes.{hopsAt-elim}
-use Rattle.search.specs.Board.{Board, boardOf, without, leadsTo, existsFrom, leadsOn, cutHere, after, hopHits}
+use Rattle.search.specs.Board.{Board, boardOf, without, leadsTo, existsFrom, hopLeads, cutHere, after, hopHits}
 use Rattle.search.proofs.RulesLists.{anyOf-cons, anyOf-same, anyOf-map, anyOf-flatMap}
 
 -- below n a scope is free exactly if it was not met
@@ -128,12 +129,12 @@ module _ (L : Language) (g : Graph L) (x : L .Name) where
   any-step f fuel seen s q = anyOf-cons f _ _ ∙ ap (λ (c : Bool). f (record { hops = []; at = s; state = q }) || c) (anyOf-flatMap f _ (hopsAt L (g .edges) s))
 
   -- the search in one step: the scope itself, or a hop that leads on
-  exists-step : (fuel : ℕ) (free : ℕ → Bool) (s q : ℕ) → existsFrom b (suc fuel) free s q ≡ (b .here s q || anyOf (leadsOn b fuel free q) (b .hops s))
-  unfolding existsFrom leadsOn
+  exists-step : (fuel : ℕ) (free : ℕ → Bool) (s q : ℕ) → existsFrom b (suc fuel) free s q ≡ (b .here s q || anyOf (hopLeads b fuel free q) (b .hops s))
+  unfolding existsFrom hopLeads
   exists-step fuel free s q = split (b .here s q)
     where
-      split : (c : Bool) → (elim c as (λ _. Bool) [ true ↦ true | false ↦ anyOf (leadsOn b fuel free q) (b .hops s) ])
-          ≡ (c || anyOf (leadsOn b fuel free q) (b .hops s))
+      split : (c : Bool) → (elim c as (λ _. Bool) [ true ↦ true | false ↦ anyOf (hopLeads b fuel free q) (b .hops s) ])
+          ≡ (c || anyOf (hopLeads b fuel free q) (b .hops s))
       split true = refl
       split false = refl
 
@@ -160,18 +161,19 @@ module _ (L : Language) (g : Graph L) (x : L .Name) where
         turn false true k = refl
         turn false false k = k
 
-    -- what is sought is at the end of a path exactly if it is at a place of the rules; so also behind a hop
+    -- what is sought is at the end of a path exactly if it is at a place of the rules; so also
+    -- behind a hop
     module _ (fuel : ℕ) (ih : (free : ℕ → Bool) (seen : List ℕ) → Agree (g .scopes) free seen → (s q : ℕ)
         → existsFrom b fuel free s q ≡ anyOf sought (nodesFrom L fuel g seen s q)) where
       leads-by : (free : ℕ → Bool) (seen : List ℕ) → Agree (g .scopes) free seen → (s q : ℕ) (h : Hop L) → h ∈ hopsAt L (g .edges) s
-          → leadsOn b fuel free q h ≡ anyOf sought (beyond L g fuel seen q h)
-      unfolding leadsOn behind anyOf
+          → hopLeads b fuel free q h ≡ anyOf sought (beyond L g fuel seen q h)
+      unfolding hopLeads behind anyOf
       leads-by free seen a s q h m = ⊎-elim closed goes (hop-view free seen a s q h m)
         where
-          closed : Shut free seen q h → leadsOn b fuel free q h ≡ anyOf sought (beyond L g fuel seen q h)
+          closed : Shut free seen q h → hopLeads b fuel free q h ≡ anyOf sought (beyond L g fuel seen q h)
           closed v = v .leads _ ∙ ap (anyOf sought) (sym (v .on (entered L g fuel seen)))
 
-          goes : Open free seen q h → leadsOn b fuel free q h ≡ anyOf sought (beyond L g fuel seen q h)
+          goes : Open free seen q h → hopLeads b fuel free q h ≡ anyOf sought (beyond L g fuel seen q h)
           goes v =
               v .leads _ ∙ ih (without free (h .to)) (h .to ∷ seen) (agree-on (g .scopes) free seen a (h .to)) (h .to) (v .state)
               ∙ sym (anyOf-map sought (behind L h) (nodesFrom L fuel g (h .to ∷ seen) (h .to) (v .state)))
@@ -187,7 +189,7 @@ module _ (L : Language) (g : Graph L) (x : L .Name) where
         ∙ sym (any-step sought fuel seen s q)
 
     pub leads-is : (fuel : ℕ) (free : ℕ → Bool) (seen : List ℕ) → Agree (g .scopes) free seen → (s q : ℕ) (h : Hop L) → h ∈ hopsAt L (g .edges) s
-        → leadsOn (boardOf L g x) fuel free q h ≡ anyOf sought (beyond L g fuel seen q h)
+        → hopLeads (boardOf L g x) fuel free q h ≡ anyOf sought (beyond L g fuel seen q h)
     leads-is fuel = leads-by fuel (exists-is fuel)
 
     -- a place of the rules is the scope itself, or one behind a hop

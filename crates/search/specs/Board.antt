@@ -1,5 +1,6 @@
--- The search, over what it looks at of a graph and a query. A *board* is no term of document 01; proofs/ says that its answers are those of
--- scope_graph's rules. How it goes through the graph is 01's ("Paths", the sentence on a search). Assumes nothing: these are definitions.
+-- The search, over what it looks at of a graph and a query. A *board* is no term of document 01;
+-- proofs/ says that its answers are those of scope_graph's rules. How it goes through the graph is
+-- 01's ("Paths", the sentence on a search). Assumes nothing: these are definitions.
 use Prim.Native.Nat.{ℕ, zero, suc}
 use mathlib.Core.Bool.{Bool, true, false, not, _&&_, _||_}
 use mathlib.Core.Option.{Option, some, none}
@@ -17,7 +18,8 @@ pub record Board (A : Type 0) : Type 0 where
   pub hops : ℕ → List (HopOf A)
   -- the state after a step
   pub next : ℕ → A → Option ℕ
-  -- what is sought: a path may end at the scope in the state, since the state accepts and the scope declares the name
+  -- what is sought: a path may end at the scope in the state, since the state accepts and the scope
+  -- declares the name
   pub here : ℕ → ℕ → Bool
   pub same : A → A → Bool
 
@@ -35,7 +37,8 @@ unfoldable pub without : (ℕ → Bool) → ℕ → ℕ → Bool
 without free s t = free t && not (eqb t s)
 
 module _ {A : Type 0} (b : Board A) where
-  -- what `enter` says of the scope and state that a hop comes to; no where the scope is on the path or there is no transition
+  -- what `enter` says of the scope and state that a hop comes to; no where the scope is on the path
+  -- or there is no transition
   unfoldable pub leadsTo : (ℕ → ℕ → Bool) → (ℕ → Bool) → ℕ → HopOf A → Bool
   leadsTo enter free q h =
       elim (free (h .to)) [
@@ -43,8 +46,8 @@ module _ {A : Type 0} (b : Board A) where
         | true ↦ elim (b .next q (h .step)) [ none ↦ false | some r ↦ enter (h .to) r ]
       ]
 
-  -- Is what is sought at the end of a path that goes on from the scope and state by free scopes only, with fewer than `fuel` hops?
-  -- The scope itself is not free any more.
+  -- Is what is sought at the end of a path that goes on from the scope and state by free scopes
+  -- only, with fewer than `fuel` hops? The scope itself is not free any more.
   unfoldable pub existsFrom : ℕ → (ℕ → Bool) → ℕ → ℕ → Bool
   existsFrom zero free s q = false
   existsFrom (suc fuel) free s q =
@@ -54,8 +57,8 @@ module _ {A : Type 0} (b : Board A) where
       ]
 
   -- does a hop lead to what is sought, with fewer than `fuel` hops behind it?
-  unfoldable pub leadsOn : ℕ → (ℕ → Bool) → ℕ → HopOf A → Bool
-  leadsOn fuel free q h = leadsTo (λ t r. existsFrom fuel (without free t) t r) free q h
+  unfoldable pub hopLeads : ℕ → (ℕ → Bool) → ℕ → HopOf A → Bool
+  hopLeads fuel free q h = leadsTo (λ t r. existsFrom fuel (without free t) t r) free q h
 
   -- a place by itself, and a place behind a hop
   unfoldable pub nodeAt : ℕ → ℕ → NodeOf A
@@ -79,11 +82,12 @@ module _ {A : Type 0} (b : Board A) where
 
   -- where the order says which end is preferred
   module _ (prefers : End A → End A → Bool) where
-    -- At a scope and state an end is cut if what is sought lies at an end that is preferred to it: the path may stop here, or a hop leads there.
+    -- At a scope and state an end is cut if what is sought lies at an end that is preferred to it:
+    -- the path may stop here, or a hop leads there.
     unfoldable pub cutHere : ℕ → (ℕ → Bool) → ℕ → ℕ → End A → Bool
     cutHere fuel free s q e =
         b .here s q && prefers stop e
-        || anyOf (λ h. prefers (by (h .step)) e && leadsOn fuel free q h) (b .hops s)
+        || anyOf (λ h. prefers (by (h .step)) e && hopLeads fuel free q h) (b .hops s)
 
     -- some end along the hops is cut where they go by it, or the end `e` behind them
     unfoldable pub cutAlong : ℕ → (ℕ → Bool) → ℕ → ℕ → List (HopOf A) → End A → Bool
@@ -92,8 +96,9 @@ module _ {A : Type 0} (b : Board A) where
     cutAlong (suc fuel) free s q (h ∷ hs) e =
         cutHere fuel free s q (by (h .step)) || leadsTo (λ t r. cutAlong fuel (without free t) t r hs e) free q h
 
-    -- The places that are followed, that is, come after no cut end, that `seek` asks for, and where the end `e` is not cut: first the scope
-    -- itself, then hop by hop. With what is sought and `$` these are a query's visible paths; with an open pair's scope and end they show it decisive.
+    -- The places that are followed, that is, come after no cut end, that `seek` asks for, and where
+    -- the end `e` is not cut: first the scope itself, then hop by hop. With what is sought and `$`
+    -- these are a query's visible paths; with an open pair's scope and end they show it decisive.
     module _ (seek : ℕ → ℕ → Bool) (e : End A) where
       unfoldable pub ownHit : ℕ → (ℕ → Bool) → ℕ → ℕ → List (NodeOf A)
       ownHit fuel free s q = elim (seek s q && not (cutHere fuel free s q e)) [ true ↦ nodeAt s q ∷ [] | false ↦ [] ]

@@ -2,7 +2,7 @@
 use crate::input::table_of;
 use crate::lent::cells;
 use crate::say;
-use edge_rows::next_row;
+use graph_table::next_row;
 
 // The place of each row found, one after the other.
 fn places(rows: &[u64], s: u64) {

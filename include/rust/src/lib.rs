@@ -17,7 +17,7 @@ pub const SUMMARY: usize = 64;
 /// Bytes that the program lends for a listing.
 pub const LISTING: usize = 65_536;
 /// Stack that serves every call, in bytes: counted, not proved.
-pub const STACK: usize = 3 * 1024 * 1024;
+pub const STACK: usize = 3 * 512 * 1024;
 
 /// A step of a path: the label's letter and the scope that it comes to.
 #[repr(C)]

@@ -47,7 +47,22 @@ pub fn file(rng: &mut Rng) -> Vec<u8> {
     }
 }
 
-/// The file whose search goes deepest: all 512 edges leave one scope, and only the last one leads to the name, so that the walk is at
+/// The file whose walk goes deepest: it enters each of 504 edges that leave one scope, without an order, and has a frame for
+/// each of them when it is at the last.
+fn widest() -> Vec<u8> {
+    let labels = "ABCDEFGH";
+    let lines = |section: &str, rows: Vec<String>| format!("{section}\n{}", rows.concat());
+    let mut text = lines("label", labels.chars().map(|l| format!("{l}\n")).collect());
+    text += "less more\n";
+    text += &lines("state label next", labels.chars().map(|l| format!("0 {l} 1\n")).collect());
+    text += "accept\n1\nscopes\n64\n";
+    text += &lines("from label to", labels.chars().flat_map(|l| (1..64).map(move |to| format!("0 {l} {to}\n"))).collect());
+    text += &lines("at name mark", (1..64).map(|at| format!("{at} service 1\n")).collect());
+    text += "at open\n0 A\nstart seek\n0 service\n";
+    text.into_bytes()
+}
+
+/// A file whose search goes deep: all 512 edges leave one scope, and only the last one leads to the name, so that the walk is at
 /// that row when it asks about the labels that are preferred to its own, and each question goes through all the rows again.
 fn deepest() -> Vec<u8> {
     let mut text = String::from("label\n");
@@ -63,9 +78,9 @@ fn deepest() -> Vec<u8> {
     text.into_bytes()
 }
 
-/// Files at the limits: empty, the longest, one byte more, the one that goes deepest.
+/// Files at the limits: empty, the longest, one byte more, those that go deepest.
 pub fn limits() -> Vec<Vec<u8>> {
     let longest = vec![b'0'; tewhoranu::TEXT];
     let longer = vec![b'0'; tewhoranu::TEXT + 1];
-    vec![Vec::new(), b"\n".to_vec(), b"label".to_vec(), longest, longer, vec![0xff; 100], deepest()]
+    vec![Vec::new(), b"\n".to_vec(), b"label".to_vec(), longest, longer, vec![0xff; 100], deepest(), widest()]
 }

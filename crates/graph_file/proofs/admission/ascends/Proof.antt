@@ -1,4 +1,3 @@
-use mathlib.Core.Path.{sym, _∙_}
 use borrow.Author.Tests.{eq-eqb, ne-eqb}
 use Rattle.graph_file.proofs.FormatLaws.{key-items}
 use Rattle.graph_file.proofs.AdmissionLaws.{last-row}
@@ -10,10 +9,9 @@ use Rattle.graph_file.proofs.admission.ascends.Lts as lts
 use Rattle.graph_file.proofs.admission.key_less.Reads as key-less-reads
 use Rattle.graph_file.proofs.admission.row_before.Reads as row-before-reads
 use Rattle.graph_file.proofs.format.key_place.Reads as key-place-reads
-use Rattle.graph_file.proofs.rows.row_at.Reads as row-at-reads
 
 returns : tie.Need-returns
-returns c = rw (eq-eqb (c .before .before .args .rows) 0 (c .if1 .taken))
+returns c = rw (eq-eqb (c .before .before .before .args .rows) 0 (c .if1 .taken))
 
 key-place-requires : tie.Need-key-place-requires
 key-place-requires c κs = search needs
@@ -21,26 +19,12 @@ key-place-requires c κs = search needs
 row-before-requires : tie.Need-row-before-requires
 row-before-requires c κs = search needs
 
-row-at-requires : tie.Need-row-at-requires
-row-at-requires c κs = search needs
-
-row-at-requires-2 : tie.Need-row-at-requires-2
-row-at-requires-2 c κs = search needs
-
 key-less-requires : tie.Need-key-less-requires
 key-less-requires c κs = search needs
 
 returns-2 : tie.Need-returns-2
-returns-2 c = let a = c .before .before .before .before .before .before .before .args in rw (ne-eqb (a .rows) 0 (c .before .before .before .before .before .if1 .left), last-row (a .rows) (a .p) (a .table .now) (c .before .before .before .before .before .if1 .left), ← key-items (a .k)) (cc)
+returns-2 c = let a = c .before .before .before .before .before .before .args in rw (ne-eqb (a .rows) 0 (c .before .before .before .if1 .left), last-row (a .rows) (a .p) (a .table .now) (c .before .before .before .if1 .left), ← key-items (a .k)) (cc)
 
 pub ascends-spec : {M : Type 1} → statement M
 ascends-spec =
-    tie.close
-    (tie.spec
-    returns
-    key-place-requires
-    row-before-requires
-    row-at-requires
-    row-at-requires-2
-    key-less-requires
-    returns-2)
+    tie.close (tie.spec returns key-place-requires row-before-requires key-less-requires returns-2)

@@ -1,13 +1,12 @@
 use Prim.Native.Nat.{_-_, _<_}
 use mathlib.Core.Path.{_≡_, refl, sym, _∙_}
 use native.Mathlib.Omega.{arith}
-use borrow.Author.Needs.{needs}
 use borrow.Author.Tests.{not-true, not-false}
-use lib.ListN.{getD}
 use Rattle.graph_file.specs.Format.{everyItem}
-use Rattle.graph_file.specs.Admission.{itemInRange, inRange}
 use Rattle.graph_file.specs.Table.{formatBytes, itemsAt}
 use Rattle.graph_file.proofs.FormatLaws.{every-true, every-false, every-end, within-format}
+use lib.ListN.{getD, drop}
+use Rattle.graph_file.specs.Admission.{rowOf, itemInRange, inRange}
 use Rattle.graph_file.proofs.admission.in_range.Statement.{statement}
 use Rattle.graph_file.proofs.admission.in_range.Tie as tie
 use Rattle.graph_file.proofs.admission.in_range.Reads as reads
@@ -16,19 +15,19 @@ use Rattle.graph_file.proofs.admission.item_in_range.Reads as item-in-r
 use Rattle.graph_file.proofs.format.item.Reads as item-reads
 
 abbrev Inv-loop : tie.InvT-loop
-Inv-loop o labels scopes row i₀ x₀ i x = (x ≡ getD formatBytes i 10) × (everyItem (itemInRange labels scopes row) (itemsAt i) ≡ everyItem (itemInRange labels scopes row) (itemsAt o))
+Inv-loop format o labels scopes table p i₀ x₀ i x = (x ≡ getD formatBytes i 10) × (everyItem (itemInRange labels scopes (rowOf (drop p table))) (itemsAt i) ≡ everyItem (itemInRange labels scopes (rowOf (drop p table))) (itemsAt o))
 
 abbrev μ-loop : tie.MeasureT-loop
-μ-loop o labels scopes row i₀ x₀ i x = 152 - i
+μ-loop format o labels scopes table p i₀ x₀ i x = 152 - i
 
 item-requires : tie.Need-item-requires Inv-loop μ-loop
-item-requires c κs = search needs
+item-requires c κs = c .before .before .pre .0
 
 loop-holds : tie.Need-loop-holds Inv-loop μ-loop
 loop-holds c = (c .item .ensures, refl)
 
 item-in-range-requires : tie.Need-item-in-range-requires Inv-loop μ-loop
-item-in-range-requires c κs = search needs
+item-in-range-requires c κs = c .before .before .before .before .before .pre .1
 
 returns : tie.Need-returns Inv-loop μ-loop
 unfolding inRange
@@ -38,7 +37,7 @@ add-i : tie.Need-add-i Inv-loop μ-loop
 add-i c = let l = c .before .before .before .loop in let h : l .i < 152 = within-format (l .i) (λ e. c .before .before .loop-test .taken (l .inv .0 ∙ e)) in omega arith
 
 item-requires-2 : tie.Need-item-requires-2 Inv-loop μ-loop
-item-requires-2 c κs = search needs
+item-requires-2 c κs = c .before .before .before .before .before .before .before .pre .0
 
 loop-less : tie.Need-loop-less Inv-loop μ-loop
 loop-less c = let l = c .before .before .before .before .loop in let h : l .i < 152 = within-format (l .i) (λ e. c .before .before .before .loop-test .taken (l .inv .0 ∙ e)) in omega arith

@@ -1,4 +1,3 @@
-use native.Mathlib.Omega.{arith}
 use Rattle.graph_file.specs.Admission.{itemInRange}
 use Rattle.graph_file.proofs.FormatLaws.{item-byte, item-field}
 use borrow.Author.Needs.{needs}
@@ -7,25 +6,25 @@ use Rattle.graph_file.proofs.admission.item_in_range.Tie as tie
 use Rattle.graph_file.proofs.admission.item_in_range.Reads as reads
 use Rattle.graph_file.proofs.admission.item_in_range.Lts as lts
 use Rattle.graph_file.proofs.admission.kind_in_range.Reads as kind-in-range-reads
-use Rattle.graph_file.proofs.rows.value.Reads as value-reads
+use Rattle.graph_file.proofs.rows.value_at.Reads as value-at-reads
 
 returns : tie.Need-returns
 unfolding itemInRange
-returns c = rw (item-byte (c .before .args .x) (c .if1 .taken))
+returns c = rw (item-byte (c .before .before .args .x) (c .if1 .taken))
 
 cast-c : tie.Need-cast-c
 cast-c c = search needs
 
-value-requires : tie.Need-value-requires
-value-requires c κs = search needs
+value-at-requires : tie.Need-value-at-requires
+value-at-requires c κs = search needs
 
 kind-in-range-requires : tie.Need-kind-in-range-requires
 kind-in-range-requires c κs = search needs
 
 returns-2 : tie.Need-returns-2
 unfolding itemInRange
-returns-2 c = rw (item-field (c .before .before .before .args .x) (c .before .before .if1 .left)) (cc)
+returns-2 c = rw (item-field (c .before .before .before .before .args .x) (c .before .before .if1 .left)) (cc)
 
 pub item-in-range-spec : {M : Type 1} → statement M
 item-in-range-spec =
-    tie.close (tie.spec returns cast-c value-requires kind-in-range-requires returns-2)
+    tie.close (tie.spec returns cast-c value-at-requires kind-in-range-requires returns-2)

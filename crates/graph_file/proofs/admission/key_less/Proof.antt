@@ -1,27 +1,26 @@
 use Prim.Native.Nat.{_-_, _<_}
 use mathlib.Core.Path.{_≡_, refl, sym, _∙_}
 use native.Mathlib.Omega.{arith}
-use borrow.Author.Needs.{needs}
-use lib.ListN.{getD}
-use Rattle.graph_file.specs.Admission.{keyLess}
 use Rattle.graph_file.specs.Table.{formatBytes, keyAt}
 use Rattle.graph_file.proofs.FormatLaws.{within-format}
 use Rattle.graph_file.proofs.AdmissionLaws.{key-less, key-equal, key-greater, key-end}
+use lib.ListN.{getD, drop}
+use Rattle.graph_file.specs.Admission.{rowOf, keyLess}
 use Rattle.graph_file.proofs.admission.key_less.Statement.{statement}
 use Rattle.graph_file.proofs.admission.key_less.Tie as tie
 use Rattle.graph_file.proofs.admission.key_less.Reads as reads
 use Rattle.graph_file.proofs.admission.key_less.Lts as lts
 use Rattle.graph_file.proofs.format.item.Reads as item-reads
-use Rattle.graph_file.proofs.rows.value.Reads as value-reads
+use Rattle.graph_file.proofs.rows.value_at.Reads as value-at-reads
 
 abbrev Inv-loop : tie.InvT-loop
-Inv-loop o a b i₀ x₀ i x = (x ≡ getD formatBytes i 10) × (keyLess (keyAt i) a b ≡ keyLess (keyAt o) a b)
+Inv-loop format o table q p i₀ x₀ i x = (x ≡ getD formatBytes i 10) × (keyLess (keyAt i) (rowOf (drop q table)) (rowOf (drop p table)) ≡ keyLess (keyAt o) (rowOf (drop q table)) (rowOf (drop p table)))
 
 abbrev μ-loop : tie.MeasureT-loop
-μ-loop o a b i₀ x₀ i x = 152 - i
+μ-loop format o table q p i₀ x₀ i x = 152 - i
 
 item-requires : tie.Need-item-requires Inv-loop μ-loop
-item-requires c κs = search needs
+item-requires c κs = c .before .before .pre .0
 
 loop-holds : tie.Need-loop-holds Inv-loop μ-loop
 loop-holds c = (c .item .ensures, refl)
@@ -29,29 +28,29 @@ loop-holds c = (c .item .ensures, refl)
 cast-c : tie.Need-cast-c Inv-loop μ-loop
 cast-c c = omega arith
 
-value-requires : tie.Need-value-requires Inv-loop μ-loop
-value-requires c κs = search needs
+value-at-requires : tie.Need-value-at-requires Inv-loop μ-loop
+value-at-requires c κs = c .before .before .before .before .before .pre .1 .0
 
-value-requires-2 : tie.Need-value-requires-2 Inv-loop μ-loop
-value-requires-2 c κs = search needs
+value-at-requires-2 : tie.Need-value-at-requires-2 Inv-loop μ-loop
+value-at-requires-2 c κs = c .before .before .before .before .before .before .pre .1 .1
 
 returns : tie.Need-returns Inv-loop μ-loop
-returns c = let l = c .before .before .before .before .loop in sym (sym (l .inv .1) ∙ key-less (l .i) (l .x) _ _ (l .inv .0) (c .before .before .before .loop-test .taken) (omega (arith, c .before .before .value .ensures, c .before .value2 .ensures, c .if1 .taken)))
+returns c = let l = c .before .before .before .before .loop in sym (sym (l .inv .1) ∙ key-less (l .i) (l .x) _ _ (l .inv .0) (c .before .before .before .loop-test .taken) (omega (arith, c .before .before .value-at .ensures, c .before .value-at2 .ensures, c .if1 .taken)))
 
 returns-2 : tie.Need-returns-2 Inv-loop μ-loop
-returns-2 c = let l = c .before .before .before .before .before .loop in sym (sym (l .inv .1) ∙ key-greater (l .i) (l .x) _ _ (l .inv .0) (c .before .before .before .before .loop-test .taken) (omega (arith, c .before .before .before .value .ensures, c .before .before .value2 .ensures, c .before .if1 .left)) (λ e. c .if2 .taken (c .before .before .before .value .ensures ∙ e ∙ sym (c .before .before .value2 .ensures))))
+returns-2 c = let l = c .before .before .before .before .before .loop in sym (sym (l .inv .1) ∙ key-greater (l .i) (l .x) _ _ (l .inv .0) (c .before .before .before .before .loop-test .taken) (omega (arith, c .before .before .before .value-at .ensures, c .before .before .value-at2 .ensures, c .before .if1 .left)) (λ e. c .if2 .taken (c .before .before .before .value-at .ensures ∙ e ∙ sym (c .before .before .value-at2 .ensures))))
 
 add-i : tie.Need-add-i Inv-loop μ-loop
 add-i c = let l = c .before .before .before .before .before .loop in let h : l .i < 152 = within-format (l .i) (λ e. c .before .before .before .before .loop-test .taken (l .inv .0 ∙ e)) in omega arith
 
 item-requires-2 : tie.Need-item-requires-2 Inv-loop μ-loop
-item-requires-2 c κs = search needs
+item-requires-2 c κs = c .before .before .before .before .before .before .before .before .before .pre .0
 
 loop-less : tie.Need-loop-less Inv-loop μ-loop
 loop-less c = let l = c .before .before .before .before .before .before .loop in let h : l .i < 152 = within-format (l .i) (λ e. c .before .before .before .before .before .loop-test .taken (l .inv .0 ∙ e)) in omega arith
 
 loop-again : tie.Need-loop-again Inv-loop μ-loop
-loop-again c = let l = c .before .before .before .before .before .before .loop in (c .item2 .ensures, key-equal (l .i) (l .x) _ _ (l .inv .0) (c .before .before .before .before .before .loop-test .taken) (sym (c .before .before .before .before .value .ensures) ∙ c .before .if2 .left ∙ c .before .before .before .value2 .ensures) ∙ l .inv .1)
+loop-again c = let l = c .before .before .before .before .before .before .loop in (c .item2 .ensures, key-equal (l .i) (l .x) _ _ (l .inv .0) (c .before .before .before .before .before .loop-test .taken) (sym (c .before .before .before .before .value-at .ensures) ∙ c .before .if2 .left ∙ c .before .before .before .value-at2 .ensures) ∙ l .inv .1)
 
 returns-3 : tie.Need-returns-3 Inv-loop μ-loop
 returns-3 c = let l = c .before .loop in sym (sym (l .inv .1) ∙ key-end (l .i) (l .x) _ _ (l .inv .0) (c .loop-test .left))
@@ -65,8 +64,8 @@ key-less-spec =
     item-requires
     loop-holds
     cast-c
-    value-requires
-    value-requires-2
+    value-at-requires
+    value-at-requires-2
     returns
     returns-2
     add-i

@@ -1,39 +1,36 @@
-use Prim.Native.Nat.{ℕ, suc, _+_, _*_, _-_, _<_, _≤_}
-use mathlib.Core.Path.{_≡_, refl, sym, ap, _∙_}
-use mathlib.Core.List.{List, [], _∷_}
+use Prim.Native.Nat.{_+_, _-_, _≤_}
+use mathlib.Core.Path.{_≡_, refl, sym, _∙_}
+use mathlib.Core.List.{[], _∷_}
 use native.Mathlib.Omega.{arith}
-use borrow.Author.Needs.{needs}
-use lib.ListN.{length, getD, take, drop}
-use Rattle.text_field.specs.Buffer.{Buf, put, puts}
-use Rattle.text_field.proofs.BufferLaws.{puts-one, puts-none, puts-step}
-use Rattle.graph_file.proofs.CopyLaws.{copy-more, copy-none, copy-end}
+use lib.ListN.{length, getD, set, take, drop, length-set}
+use Rattle.text_field.specs.Buffer.{puts}
+use Rattle.text_field.proofs.BufferLaws.{put-in, puts-one, puts-step}
+use Rattle.graph_file.proofs.CopyLaws.{copy-more, copy-over}
 use Rattle.graph_file.proofs.cells.copy_cells.Statement.{statement}
 use Rattle.graph_file.proofs.cells.copy_cells.Tie as tie
 use Rattle.graph_file.proofs.cells.copy_cells.Reads as reads
 use Rattle.graph_file.proofs.cells.copy_cells.Lts as lts
-use Rattle.graph_file.proofs.cells.put_cell.Reads as put-cell-reads
-use Rattle.text_field.proofs.cell.Reads as cell-reads
 
 abbrev Inv-loop : tie.InvT-loop
-Inv-loop own n table₀ i₀ p₀ table i p = (length table ≡ length table₀) × (puts (table, p) (drop i (take n own)) ≡ puts (table₀, 0) (take n own))
+Inv-loop own n table₀ i₀ table i = (length table ≡ length table₀) × (puts (table, i) (drop i (take n own)) ≡ puts (table₀, 0) (take n own)) × (i ≤ n)
 
 abbrev μ-loop : tie.MeasureT-loop
-μ-loop own n table₀ i₀ p₀ table i p = n - i
+μ-loop own n table₀ i₀ table i = n - i
 
 loop-holds : tie.Need-loop-holds Inv-loop μ-loop
-loop-holds c = (refl, refl)
+loop-holds c = (refl, refl, omega arith)
 
-same-length : tie.Need-same-length Inv-loop μ-loop
-same-length c = c .before .before .loop .inv .0
+mul-table : tie.Need-mul-table Inv-loop μ-loop
+mul-table c = omega (arith, c .before .before .pre .0, c .loop-test .taken)
 
-returns : tie.Need-returns Inv-loop μ-loop
-returns c = let a = c .before .before .before .before .before .args in let l = c .before .before .loop in puts-none (l .table, l .p) (drop (l .i) (take (a .n) (a .own .now))) (copy-end (a .own .now) (a .n) (l .i) (c .if1 .taken)) ∙ l .inv .1
+shared-slice-read-table : tie.Need-shared-slice-read-table Inv-loop μ-loop
+shared-slice-read-table c = omega (arith, c .before .before .before .pre .0, c .before .loop-test .taken)
 
-cell-requires : tie.Need-cell-requires Inv-loop μ-loop
-cell-requires c κs = search needs
+mul-table-2 : tie.Need-mul-table-2 Inv-loop μ-loop
+mul-table-2 c = omega (arith, c .before .before .before .pre .0, c .before .loop-test .taken)
 
-put-cell-requires : tie.Need-put-cell-requires Inv-loop μ-loop
-put-cell-requires c κs = search needs
+slice-write-table : tie.Need-slice-write-table Inv-loop μ-loop
+slice-write-table c = omega (arith, c .before .before .before .pre .1, c .before .before .loop .inv .0, c .before .loop-test .taken)
 
 add-i : tie.Need-add-i Inv-loop μ-loop
 add-i c = omega arith
@@ -42,13 +39,13 @@ loop-less : tie.Need-loop-less Inv-loop μ-loop
 loop-less c = omega arith
 
 loop-again : tie.Need-loop-again Inv-loop μ-loop
-loop-again c = let a = c .before .before .before .before .before .before .before .before .before .before .args in let l = c .before .before .before .before .before .before .before .loop in (c .before .before .put-cell .kept .0 ∙ l .inv .0, puts-step (l .table, l .p) (c .before .before .put-cell .last .0, c .before .before .put-cell .result) _ (getD (a .own .now) (l .i) 0 ∷ []) (drop (l .i + 1) (take (a .n) (a .own .now))) (drop (l .i) (take (a .n) (a .own .now))) (c .before .before .put-cell .ensures ∙ ap (put (l .table, l .p)) (c .before .before .before .cell .ensures) ∙ puts-one (l .table, l .p) (getD (a .own .now) (l .i) 0)) (copy-more (a .own .now) (a .n) (l .i) (c .before .before .before .before .before .before .loop-test .taken) (c .before .before .before .before .before .if1 .left)) (l .inv .1))
+loop-again c = let a = c .before .before .before .args in let l = c .before .before .loop in (simp length-set (l .inv .0), puts-step (l .table, l .i) (set (l .table) (l .i) (getD (a .own .now) (l .i) 0), l .i + 1) _ (getD (a .own .now) (l .i) 0 ∷ []) (drop (l .i + 1) (take (a .n) (a .own .now))) (drop (l .i) (take (a .n) (a .own .now))) (sym (put-in (l .table) (l .i) (getD (a .own .now) (l .i) 0) (omega (arith, c .before .before .before .pre .1, l .inv .0, c .before .loop-test .taken))) ∙ puts-one (l .table, l .i) (getD (a .own .now) (l .i) 0)) (copy-more (a .own .now) (a .n) (l .i) (c .before .loop-test .taken) (omega (arith, c .before .before .before .pre .0, c .before .loop-test .taken))) (l .inv .1), omega (arith, c .before .loop-test .taken))
 
-same-length-2 : tie.Need-same-length-2 Inv-loop μ-loop
-same-length-2 c = c .before .loop .inv .0
+same-length : tie.Need-same-length Inv-loop μ-loop
+same-length c = c .before .loop .inv .0
 
-returns-2 : tie.Need-returns-2 Inv-loop μ-loop
-returns-2 c = let a = c .before .before .before .before .args in let l = c .before .loop in puts-none (l .table, l .p) (drop (l .i) (take (a .n) (a .own .now))) (copy-none (a .own .now) (a .n) (l .i) (c .loop-test .left)) ∙ l .inv .1
+returns : tie.Need-returns Inv-loop μ-loop
+returns c = let a = c .before .before .args in let l = c .before .loop in copy-over (a .own .now) (a .n) (l .table) (l .i) _ (c .loop-test .left) (l .inv .2) (l .inv .1)
 
 pub copy-cells-spec : {M : Type 1} → statement M
 copy-cells-spec =
@@ -57,12 +54,12 @@ copy-cells-spec =
     Inv-loop
     μ-loop
     loop-holds
-    same-length
-    returns
-    cell-requires
-    put-cell-requires
+    mul-table
+    shared-slice-read-table
+    mul-table-2
+    slice-write-table
     add-i
     loop-less
     loop-again
-    same-length-2
-    returns-2)
+    same-length
+    returns)

@@ -1,68 +1,109 @@
-use mathlib.Core.Path.{_∙_, ap}
 use native.Mathlib.Omega.{arith}
-use Rattle.text_field.specs.Buffer.{put}
-use Rattle.graph_file.proofs.StageLaws.{six}
+use lib.ListN.{length-set}
+use Rattle.graph_file.proofs.StageLaws.{six-set}
 use borrow.Author.Needs.{needs}
 use Rattle.graph_file.proofs.cells.put_row.Statement.{statement}
 use Rattle.graph_file.proofs.cells.put_row.Tie as tie
 use Rattle.graph_file.proofs.cells.put_row.Reads as reads
 use Rattle.graph_file.proofs.cells.put_row.Lts as lts
-use Rattle.graph_file.proofs.cells.put_cell.Reads as put-cell-reads
-use Rattle.graph_file.proofs.rows.value.Reads as value-reads
 
-put-cell-requires : tie.Need-put-cell-requires
-put-cell-requires c κs = search needs
+mul-table : tie.Need-mul-table
+mul-table c = search needs
 
-value-requires : tie.Need-value-requires
-value-requires c κs = search needs
+slice-write-table : tie.Need-slice-write-table
+slice-write-table c = search needs
 
-put-cell-requires-2 : tie.Need-put-cell-requires-2
-put-cell-requires-2 c κs = search needs
+array-read-table : tie.Need-array-read-table
+array-read-table c = search needs
 
-value-requires-2 : tie.Need-value-requires-2
-value-requires-2 c κs = search needs
+add-table : tie.Need-add-table
+add-table c = search needs
 
-put-cell-requires-3 : tie.Need-put-cell-requires-3
-put-cell-requires-3 c κs = search needs
+mul-table-2 : tie.Need-mul-table-2
+mul-table-2 c = search needs
 
-value-requires-3 : tie.Need-value-requires-3
-value-requires-3 c κs = search needs
+slice-write-table-2 : tie.Need-slice-write-table-2
+slice-write-table-2 c = simp length-set (omega (arith, c .pre))
 
-put-cell-requires-4 : tie.Need-put-cell-requires-4
-put-cell-requires-4 c κs = search needs
+array-read-table-2 : tie.Need-array-read-table-2
+array-read-table-2 c = search needs
 
-value-requires-4 : tie.Need-value-requires-4
-value-requires-4 c κs = search needs
+add-table-2 : tie.Need-add-table-2
+add-table-2 c = search needs
 
-put-cell-requires-5 : tie.Need-put-cell-requires-5
-put-cell-requires-5 c κs = search needs
+mul-table-3 : tie.Need-mul-table-3
+mul-table-3 c = search needs
 
-value-requires-5 : tie.Need-value-requires-5
-value-requires-5 c κs = search needs
+slice-write-table-3 : tie.Need-slice-write-table-3
+slice-write-table-3 c = simp length-set (omega (arith, c .pre))
 
-put-cell-requires-6 : tie.Need-put-cell-requires-6
-put-cell-requires-6 c κs = search needs
+array-read-table-3 : tie.Need-array-read-table-3
+array-read-table-3 c = search needs
+
+add-table-3 : tie.Need-add-table-3
+add-table-3 c = search needs
+
+mul-table-4 : tie.Need-mul-table-4
+mul-table-4 c = search needs
+
+slice-write-table-4 : tie.Need-slice-write-table-4
+slice-write-table-4 c = simp length-set (omega (arith, c .pre))
+
+array-read-table-4 : tie.Need-array-read-table-4
+array-read-table-4 c = search needs
+
+add-table-4 : tie.Need-add-table-4
+add-table-4 c = search needs
+
+mul-table-5 : tie.Need-mul-table-5
+mul-table-5 c = search needs
+
+slice-write-table-5 : tie.Need-slice-write-table-5
+slice-write-table-5 c = simp length-set (omega (arith, c .pre))
+
+array-read-table-5 : tie.Need-array-read-table-5
+array-read-table-5 c = search needs
+
+add-table-5 : tie.Need-add-table-5
+add-table-5 c = search needs
+
+mul-table-6 : tie.Need-mul-table-6
+mul-table-6 c = search needs
+
+slice-write-table-6 : tie.Need-slice-write-table-6
+slice-write-table-6 c = simp length-set (omega (arith, c .pre))
 
 same-length : tie.Need-same-length
-same-length c = search needs
+same-length c = simp length-set
 
 returns : tie.Need-returns
-returns c = six _ _ _ _ _ _ _ (c .before .before .before .before .before .before .before .before .before .before .before .before .before .before .before .before .before .before .before .before .before .before .before .before .before .before .before .before .before .before .args .k) (c .before .before .before .before .before .before .before .before .before .before .before .before .before .before .before .before .before .before .before .before .before .before .before .before .before .before .before .before .before .before .args .row) (omega (arith, c .before .before .before .before .before .before .before .before .before .before .before .before .before .before .before .before .before .before .before .before .before .before .before .before .before .before .before .before .before .before)) (c .before .before .before .before .before .before .before .before .before .before .before .before .before .before .before .before .before .before .before .before .before .before .before .before .before .before .before .put-cell .ensures) (c .before .before .before .before .before .before .before .before .before .before .before .before .before .before .before .before .before .before .before .before .before .before .put-cell2 .ensures ∙ ap (put (c .before .before .before .before .before .before .before .before .before .before .before .before .before .before .before .before .before .before .before .before .before .before .before .before .before .before .before .put-cell .last .0, c .before .before .before .before .before .before .before .before .before .before .before .before .before .before .before .before .before .before .before .before .before .before .before .before .before .before .before .put-cell .result)) (c .before .before .before .before .before .before .before .before .before .before .before .before .before .before .before .before .before .before .before .before .before .before .before .value .ensures)) (c .before .before .before .before .before .before .before .before .before .before .before .before .before .before .before .before .before .put-cell3 .ensures ∙ ap (put (c .before .before .before .before .before .before .before .before .before .before .before .before .before .before .before .before .before .before .before .before .before .before .put-cell2 .last .0, c .before .before .before .before .before .before .before .before .before .before .before .before .before .before .before .before .before .before .before .before .before .before .put-cell2 .result)) (c .before .before .before .before .before .before .before .before .before .before .before .before .before .before .before .before .before .before .value2 .ensures)) (c .before .before .before .before .before .before .before .before .before .before .before .before .put-cell4 .ensures ∙ ap (put (c .before .before .before .before .before .before .before .before .before .before .before .before .before .before .before .before .before .put-cell3 .last .0, c .before .before .before .before .before .before .before .before .before .before .before .before .before .before .before .before .before .put-cell3 .result)) (c .before .before .before .before .before .before .before .before .before .before .before .before .before .value3 .ensures)) (c .before .before .before .before .before .before .before .put-cell5 .ensures ∙ ap (put (c .before .before .before .before .before .before .before .before .before .before .before .before .put-cell4 .last .0, c .before .before .before .before .before .before .before .before .before .before .before .before .put-cell4 .result)) (c .before .before .before .before .before .before .before .before .value4 .ensures)) (c .before .before .put-cell6 .ensures ∙ ap (put (c .before .before .before .before .before .before .before .put-cell5 .last .0, c .before .before .before .before .before .before .before .put-cell5 .result)) (c .before .before .before .value5 .ensures))
+returns c = six-set (c .args .table .now) (c .args .n) (c .args .k) (c .args .t4) (omega (arith, c)) (c .pre)
 
 pub put-row-spec : {M : Type 1} → statement M
 put-row-spec =
     tie.close
     (tie.spec
-    put-cell-requires
-    value-requires
-    put-cell-requires-2
-    value-requires-2
-    put-cell-requires-3
-    value-requires-3
-    put-cell-requires-4
-    value-requires-4
-    put-cell-requires-5
-    value-requires-5
-    put-cell-requires-6
+    mul-table
+    slice-write-table
+    array-read-table
+    add-table
+    mul-table-2
+    slice-write-table-2
+    array-read-table-2
+    add-table-2
+    mul-table-3
+    slice-write-table-3
+    array-read-table-3
+    add-table-3
+    mul-table-4
+    slice-write-table-4
+    array-read-table-4
+    add-table-4
+    mul-table-5
+    slice-write-table-5
+    array-read-table-5
+    add-table-5
+    mul-table-6
+    slice-write-table-6
     same-length
     returns)

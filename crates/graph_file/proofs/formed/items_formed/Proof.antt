@@ -16,13 +16,13 @@ use Rattle.graph_file.proofs.format.item.Reads as item-reads
 use Rattle.graph_file.proofs.formed.item_formed.Reads as item-formed-reads
 
 abbrev Inv-loop : tie.InvT-loop
-Inv-loop o row i₀ x₀ i x = (x ≡ getD formatBytes i 10) × (everyItem (itemFormed row) (itemsAt i) ≡ everyItem (itemFormed row) (itemsAt o))
+Inv-loop format o row i₀ x₀ i x = (x ≡ getD formatBytes i 10) × (everyItem (itemFormed row) (itemsAt i) ≡ everyItem (itemFormed row) (itemsAt o))
 
 abbrev μ-loop : tie.MeasureT-loop
-μ-loop o row i₀ x₀ i x = 152 - i
+μ-loop format o row i₀ x₀ i x = 152 - i
 
 item-requires : tie.Need-item-requires Inv-loop μ-loop
-item-requires c κs = search needs
+item-requires c κs = c .before .before .pre
 
 loop-holds : tie.Need-loop-holds Inv-loop μ-loop
 loop-holds c = (c .item .ensures, refl)
@@ -37,7 +37,7 @@ add-i : tie.Need-add-i Inv-loop μ-loop
 add-i c = let l = c .before .before .before .loop in let h : l .i < 152 = within-format (l .i) (λ e. c .before .before .loop-test .taken (l .inv .0 ∙ e)) in omega arith
 
 item-requires-2 : tie.Need-item-requires-2 Inv-loop μ-loop
-item-requires-2 c κs = search needs
+item-requires-2 c κs = c .before .before .before .before .before .before .before .pre
 
 loop-less : tie.Need-loop-less Inv-loop μ-loop
 loop-less c = let l = c .before .before .before .before .loop in let h : l .i < 152 = within-format (l .i) (λ e. c .before .before .before .loop-test .taken (l .inv .0 ∙ e)) in omega arith

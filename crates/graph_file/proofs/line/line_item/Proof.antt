@@ -1,4 +1,3 @@
-use mathlib.Core.Path.{sym, _∙_}
 use native.Mathlib.Omega.{arith}
 use Rattle.graph_file.proofs.LineLaws.{place-small, line-nothing, line-bare, line-one, line-two}
 use borrow.Author.Needs.{needs}
@@ -7,8 +6,8 @@ use Rattle.graph_file.proofs.line.line_item.Tie as tie
 use Rattle.graph_file.proofs.line.line_item.Reads as reads
 use Rattle.graph_file.proofs.line.line_item.Lts as lts
 use Rattle.graph_file.proofs.line.place_of.Reads as place-of-reads
+use Rattle.graph_file.proofs.line.put_value.Reads as put-value-reads
 use Rattle.graph_file.proofs.line.take_item.Reads as take-item-reads
-use Rattle.graph_file.proofs.line.with_value.Reads as with-value-reads
 
 place-of-requires : tie.Need-place-of-requires
 place-of-requires c κs = search needs
@@ -25,20 +24,20 @@ enum-known-t c = search needs
 enum-known-t-2 : tie.Need-enum-known-t-2
 enum-known-t-2 c = search needs
 
-with-value-requires : tie.Need-with-value-requires
-with-value-requires c κs = search needs
+put-value-requires : tie.Need-put-value-requires
+put-value-requires c κs = search needs
 
 enum-known-t-3 : tie.Need-enum-known-t-3
 enum-known-t-3 c = search needs
 
-with-value-requires-2 : tie.Need-with-value-requires-2
-with-value-requires-2 c κs = search needs
+put-value-requires-2 : tie.Need-put-value-requires-2
+put-value-requires-2 c κs = search needs
 
-add-with-value : tie.Need-add-with-value
-add-with-value c = omega (arith, c .before .before .before .before .before .place-of .ensures, place-small (c .before .before .before .before .before .before .before .before .args .x))
+add-put-value : tie.Need-add-put-value
+add-put-value c = omega (arith, c .before .before .before .before .before .before .before .before .before .place-of .ensures, place-small (c .before .before .before .before .before .before .before .before .before .before .before .before .before .args .x))
 
-with-value-requires-3 : tie.Need-with-value-requires-3
-with-value-requires-3 c κs = search needs
+put-value-requires-3 : tie.Need-put-value-requires-3
+put-value-requires-3 c κs = search needs
 
 returns : tie.Need-returns
 returns c = line-nothing _ _ _ _ _ (c .before .before .take-item .result) (c .before .before .take-item .ensures) _ _ (c .enum-told .given .1)
@@ -46,11 +45,17 @@ returns c = line-nothing _ _ _ _ _ (c .before .before .take-item .result) (c .be
 returns-2 : tie.Need-returns-2
 returns-2 c = line-bare _ _ _ _ _ (c .before .before .before .take-item .result) (c .before .before .before .take-item .ensures) _ (c .before .t .given .1)
 
+same-length : tie.Need-same-length
+same-length c = search needs
+
 returns-3 : tie.Need-returns-3
-returns-3 c = line-one _ _ _ _ _ (c .before .before .before .before .take-item .result) (c .before .before .before .before .take-item .ensures) _ _ (c .before .before .before .before .before .place-of .result) _ (c .before .before .t2 .given .1) (c .before .before .before .before .before .place-of .ensures) (c .with-value .ensures)
+returns-3 c = line-one _ _ _ _ _ (c .before .before .before .before .before .before .before .take-item .result) (c .before .before .before .before .before .before .before .take-item .ensures) _ _ (c .before .before .before .before .before .before .before .before .place-of .result) _ (c .before .before .before .before .before .t2 .given .1) (c .before .before .before .before .before .before .before .before .place-of .ensures) (c .before .before .put-value .ensures)
+
+same-length-2 : tie.Need-same-length-2
+same-length-2 c = search needs
 
 returns-4 : tie.Need-returns-4
-returns-4 c = line-two _ _ _ _ _ (c .before .before .before .before .before .take-item .result) (c .before .before .before .before .before .take-item .ensures) _ _ _ (c .before .before .before .before .before .before .place-of .result) (c .before .with-value2 .result) _ (c .before .before .before .t3 .given .1) (c .before .before .before .before .before .before .place-of .ensures) (c .before .with-value2 .ensures) (c .with-value3 .ensures)
+returns-4 c = line-two _ _ _ _ _ (c .before .before .before .before .before .before .before .before .before .before .before .take-item .result) (c .before .before .before .before .before .before .before .before .before .before .before .take-item .ensures) _ _ _ (c .before .before .before .before .before .before .before .before .before .before .before .before .place-of .result) (c .before .before .before .before .before .before .put-value2 .last .0) _ (c .before .before .before .before .before .before .before .before .before .t3 .given .1) (c .before .before .before .before .before .before .before .before .before .before .before .before .place-of .ensures) (c .before .before .before .before .before .before .put-value2 .ensures) (c .before .before .put-value3 .ensures)
 
 pub line-item-spec : {M : Type 1} → statement M
 line-item-spec =
@@ -61,12 +66,14 @@ line-item-spec =
     enum-told
     enum-known-t
     enum-known-t-2
-    with-value-requires
+    put-value-requires
     enum-known-t-3
-    with-value-requires-2
-    add-with-value
-    with-value-requires-3
+    put-value-requires-2
+    add-put-value
+    put-value-requires-3
     returns
     returns-2
+    same-length
     returns-3
+    same-length-2
     returns-4)

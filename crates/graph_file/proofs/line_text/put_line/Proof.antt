@@ -18,13 +18,13 @@ use Rattle.graph_file.proofs.line_text.put_item.Reads as put-item-reads
 use Rattle.text_field.proofs.put_byte.Reads as put-byte-reads
 
 abbrev Inv-loop : tie.InvT-loop
-Inv-loop table labels o row out₀ n i₀ k₀ x₀ out i k x = (length out ≡ length out₀) × (x ≡ getD formatBytes i 10) × (puts (out, k) (lineText (lettersAt labels (drop 1 table)) (itemsAt i) row) ≡ puts (out₀, n) (lineText (lettersAt labels (drop 1 table)) (itemsAt o) row))
+Inv-loop format table labels o row out₀ n i₀ k₀ x₀ out i k x = (length out ≡ length out₀) × (x ≡ getD formatBytes i 10) × (puts (out, k) (lineText (lettersAt labels (drop 1 table)) (itemsAt i) row) ≡ puts (out₀, n) (lineText (lettersAt labels (drop 1 table)) (itemsAt o) row))
 
 abbrev μ-loop : tie.MeasureT-loop
-μ-loop table labels o row out₀ n i₀ k₀ x₀ out i k x = 152 - i
+μ-loop format table labels o row out₀ n i₀ k₀ x₀ out i k x = 152 - i
 
 item-requires : tie.Need-item-requires Inv-loop μ-loop
-item-requires c κs = search needs
+item-requires c κs = c .before .before .before .before .pre
 
 loop-holds : tie.Need-loop-holds Inv-loop μ-loop
 loop-holds c = (refl, c .item .ensures, refl)
@@ -36,13 +36,13 @@ add-i : tie.Need-add-i Inv-loop μ-loop
 add-i c = let l = c .before .before .before .before .before .loop in let h : l .i < 152 = within-format (l .i) (λ e. c .before .before .before .before .loop-test .taken (l .inv .1 ∙ e)) in omega arith
 
 item-requires-2 : tie.Need-item-requires-2 Inv-loop μ-loop
-item-requires-2 c κs = search needs
+item-requires-2 c κs = c .before .before .before .before .before .before .before .before .before .before .before .pre
 
 loop-less : tie.Need-loop-less Inv-loop μ-loop
 loop-less c = let l = c .before .before .before .before .before .before .loop in let h : l .i < 152 = within-format (l .i) (λ e. c .before .before .before .before .before .loop-test .taken (l .inv .1 ∙ e)) in omega arith
 
 loop-again : tie.Need-loop-again Inv-loop μ-loop
-loop-again c = let l = c .before .before .before .before .before .before .loop in let a = c .before .before .before .before .before .before .before .before .before .before .args in (c .before .before .before .put-item .kept .1 .1 .1 .1 .0 ∙ l .inv .0, c .item2 .ensures, puts-step _ _ _ _ _ _ (c .before .before .before .put-item .ensures) (text-more (lettersAt (a .labels) (drop 1 (a .table .now))) (a .row) (l .i) (l .x) (l .inv .1) (c .before .before .before .before .before .loop-test .taken)) (l .inv .2))
+loop-again c = let l = c .before .before .before .before .before .before .loop in let a = c .before .before .before .before .before .before .before .before .before .before .before .before .args in (c .before .before .before .put-item .kept .1 .1 .1 .1 .0 ∙ l .inv .0, c .item2 .ensures, puts-step _ _ _ _ _ _ (c .before .before .before .put-item .ensures) (text-more (lettersAt (a .labels) (drop 1 (a .table .now))) (a .row .now) (l .i) (l .x) (l .inv .1) (c .before .before .before .before .before .loop-test .taken)) (l .inv .2))
 
 put-byte-requires : tie.Need-put-byte-requires Inv-loop μ-loop
 put-byte-requires c κs = search needs
@@ -51,7 +51,7 @@ same-length : tie.Need-same-length Inv-loop μ-loop
 same-length c = search needs
 
 returns : tie.Need-returns Inv-loop μ-loop
-returns c = let l = c .before .before .before .before .before .loop in let a = c .before .before .before .before .before .before .before .before .before .args in c .before .before .put-byte .ensures ∙ puts-one _ _ ∙ ap (puts _) (sym (text-last (lettersAt (a .labels) (drop 1 (a .table .now))) (a .row) (l .i) (l .x) (l .inv .1) (c .before .before .before .before .loop-test .left))) ∙ l .inv .2
+returns c = let l = c .before .before .before .before .before .loop in let a = c .before .before .before .before .before .before .before .before .before .before .before .args in c .before .before .put-byte .ensures ∙ puts-one _ _ ∙ ap (puts _) (sym (text-last (lettersAt (a .labels) (drop 1 (a .table .now))) (a .row .now) (l .i) (l .x) (l .inv .1) (c .before .before .before .before .loop-test .left))) ∙ l .inv .2
 
 pub put-line-spec : {M : Type 1} → statement M
 put-line-spec =

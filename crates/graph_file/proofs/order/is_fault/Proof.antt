@@ -6,25 +6,23 @@ use Rattle.graph_file.proofs.order.is_fault.Tie as tie
 use Rattle.graph_file.proofs.order.is_fault.Reads as reads
 use Rattle.graph_file.proofs.order.is_fault.Lts as lts
 use Rattle.graph_file.proofs.order.has_gap.Reads as has-gap-reads
-use Rattle.graph_file.proofs.rows.value.Reads as value-reads
 
-value-requires : tie.Need-value-requires
-value-requires c κs = search needs
+array-read-a : tie.Need-array-read-a
+array-read-a c = search needs
 
-value-requires-2 : tie.Need-value-requires-2
-value-requires-2 c κs = search needs
+array-read-b : tie.Need-array-read-b
+array-read-b c = search needs
 
 has-gap-requires : tie.Need-has-gap-requires
 has-gap-requires c κs = search needs
 
 returns : tie.Need-returns
 unfolding pairFault
-returns c = rw (← c .before .before .value .ensures, ← c .before .value2 .ensures, eq-eqb _ _ (c .if1 .taken))
+returns c = rw (eq-eqb _ _ (c .if1 .taken))
 
 returns-2 : tie.Need-returns-2
 unfolding pairFault
-returns-2 c = rw (← c .before .before .before .value .ensures, ← c .before .before .value2 .ensures, ne-eqb _ _ (c .before .if1 .left)) (c .has-gap .ensures)
+returns-2 c = rw (ne-eqb _ _ (c .before .if1 .left)) (c .has-gap .ensures)
 
 pub is-fault-spec : {M : Type 1} → statement M
-is-fault-spec =
-    tie.close (tie.spec value-requires value-requires-2 has-gap-requires returns returns-2)
+is-fault-spec = tie.close (tie.spec array-read-a array-read-b has-gap-requires returns returns-2)

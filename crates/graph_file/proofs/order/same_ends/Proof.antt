@@ -5,21 +5,20 @@ use Rattle.graph_file.proofs.order.same_ends.Statement.{statement}
 use Rattle.graph_file.proofs.order.same_ends.Tie as tie
 use Rattle.graph_file.proofs.order.same_ends.Reads as reads
 use Rattle.graph_file.proofs.order.same_ends.Lts as lts
-use Rattle.graph_file.proofs.rows.value.Reads as value-reads
 
-value-requires : tie.Need-value-requires
-value-requires c κs = search needs
+array-read-if1 : tie.Need-array-read-if1
+array-read-if1 c = search needs
 
-value-requires-2 : tie.Need-value-requires-2
-value-requires-2 c κs = search needs
+array-read-result : tie.Need-array-read-result
+array-read-result c = search needs
 
 returns : tie.Need-returns
 unfolding sameEnds
-returns c = rw (← c .before .before .value .ensures, ← c .value2 .ensures, eq-eqb _ _ (c .before .if1 .taken))
+returns c = rw (eq-eqb _ _ (c .if1 .taken))
 
 returns-2 : tie.Need-returns-2
 unfolding sameEnds
-returns-2 c = rw (← c .before .value .ensures, ne-eqb _ _ (c .if1 .left))
+returns-2 c = rw (ne-eqb _ _ (c .if1 .left))
 
 pub same-ends-spec : {M : Type 1} → statement M
-same-ends-spec = tie.close (tie.spec value-requires value-requires-2 returns returns-2)
+same-ends-spec = tie.close (tie.spec array-read-if1 array-read-result returns returns-2)

@@ -1,8 +1,7 @@
-use mathlib.Core.Path.{_≡_, refl, sym, ap, _∙_}
+use mathlib.Core.Path.{_≡_}
 use native.Mathlib.Omega.{arith}
 use lib.ListN.{length, take}
 use lib.Seq.{length-take-le}
-use Rattle.graph_file.specs.File.{readCells}
 use Rattle.text_field.specs.Answer.{answerOf}
 use Rattle.graph_file.proofs.CopyLaws.{cells-refused, cells-done}
 use Rattle.text_field.proofs.AnswerLaws.{answer-refused, leaves-refused, answer-short, leaves-short, answer-fits, leaves-fits}
@@ -32,14 +31,14 @@ slice-aggregate-copy-cells : tie.Need-slice-aggregate-copy-cells
 slice-aggregate-copy-cells c = search needs
 
 copy-cells-requires : tie.Need-copy-cells-requires
-copy-cells-requires c κs = search needs
+copy-cells-requires c κs = let w = c .before .before .before .before .before .before .read-whole in (omega (arith, w .ensures .1 (c .before .before .before .if1 .left), w .kept .1 .0), c .before .before .if2 .left)
 
 same-length : tie.Need-same-length
 same-length c = search needs
 
 returns-3 : tie.Need-returns-3
 unfolding answerOf
-returns-3 c = let a = c .before .before .before .before .before .before .before .before .before .before .before .before .before .args in let r = c .before .before .before .before .before .before .before .before .before .read-whole .result in let u = c .before .before .before .before .before .before .before .before .before .read-whole .last .1 .0 in let e = cells-done (c .before .before .before .before .before .before .before .before .before .read-whole .result) (c .before .before .before .before .before .before .before .before .before .read-whole .last .1 .0) (a .text .now) (c .before .before .before .before .before .before .before .before .before .read-whole .ensures .0) (c .before .before .before .before .before .before .if1 .left) in let l : length (take (r .cells) u) ≡ r .cells = length-take-le (r .cells) u (omega (arith, c .before .before .before .before .before .before .before .before .before .read-whole .ensures .1 (c .before .before .before .before .before .before .if1 .left), c .before .before .before .before .before .before .before .before .before .read-whole .kept .1 .0)) in (answer-fits _ _ e (length (a .table .now)) (r .cells) l (c .before .before .before .before .before .if2 .left), leaves-fits _ _ e (a .table .now) (c .before .before .copy-cells .last .1 .1 .0) (c .before .before .copy-cells .result) (omega (arith, l, c .before .before .before .before .before .if2 .left)) (c .before .before .copy-cells .ensures))
+returns-3 c = let a = c .before .before .before .before .before .before .before .before .before .before .before .before .before .args in let r = c .before .before .before .before .before .before .before .before .before .read-whole .result in let u = c .before .before .before .before .before .before .before .before .before .read-whole .last .1 .0 in let e = cells-done (c .before .before .before .before .before .before .before .before .before .read-whole .result) (c .before .before .before .before .before .before .before .before .before .read-whole .last .1 .0) (a .text .now) (c .before .before .before .before .before .before .before .before .before .read-whole .ensures .0) (c .before .before .before .before .before .before .if1 .left) in let l : length (take (r .cells) u) ≡ r .cells = length-take-le (r .cells) u (omega (arith, c .before .before .before .before .before .before .before .before .before .read-whole .ensures .1 (c .before .before .before .before .before .before .if1 .left), c .before .before .before .before .before .before .before .before .before .read-whole .kept .1 .0)) in (answer-fits _ _ e (length (a .table .now)) (r .cells) l (c .before .before .before .before .before .if2 .left), leaves-fits _ _ e (a .table .now) (c .before .before .copy-cells .last .1 .1 .0) (r .cells) (omega (arith, l, c .before .before .before .before .before .if2 .left)) (c .before .before .copy-cells .ensures))
 
 pub read-spec : {M : Type 1} → statement M
 read-spec =

@@ -1,17 +1,16 @@
 use Rattle.text_field.specs.Outcome.{done}
-use Prim.Native.Nat.{ℕ, suc, _+_, _*_, _-_, _<_, _≤_}
+use Prim.Native.Nat.{suc, _+_, _-_, _≤_}
 use mathlib.Core.Path.{_≡_, refl, sym, ap, _∙_}
-use mathlib.Core.List.{List, [], _∷_}
+use mathlib.Core.List.{[], _∷_}
 use native.Mathlib.Omega.{arith}
-use native.Mathlib.Numerals.{add-one}
 use borrow.Author.Needs.{needs}
-use lib.ListN.{length, getD, take, drop, set, length-set, length-drop, drop-of-length-le}
-use lib.Seq.{drop-drop, drop-cons, take-all}
-use Rattle.graph_file.specs.Format.{sectionAt, form}
-use Rattle.graph_file.specs.File.{throughSection, throughSections, atStart, reading}
+use lib.ListN.{length, getD, drop, length-set, drop-of-length-le}
+use lib.Seq.{drop-cons}
+use Rattle.graph_file.specs.Format.{form}
+use Rattle.graph_file.specs.File.{throughSections, atStart, reading}
 use Rattle.graph_file.specs.Reader.{stageAt, partOutcome, refusedOr, Placed, roomBefore}
 use Rattle.graph_file.proofs.ReadLaws.{part-refused, part-done}
-use Rattle.graph_file.proofs.SectionLaws.{sections-refused, sections-next, sections-more, sections-over, sections-left, placed-next, room-next, room-below, start-stage, placed-start, part-is, part-length, section-whole, stage-part}
+use Rattle.graph_file.proofs.SectionLaws.{sections-refused, sections-next, sections-more, sections-over, sections-left, placed-next, room-next, room-below, start-stage, placed-start, part-length, section-whole, stage-part}
 use Rattle.graph_file.proofs.reader.read_sections.Statement.{statement}
 use Rattle.graph_file.proofs.reader.read_sections.Tie as tie
 use Rattle.graph_file.proofs.reader.read_sections.Reads as reads
@@ -19,17 +18,17 @@ use Rattle.graph_file.proofs.reader.read_sections.Lts as lts
 use Rattle.graph_file.proofs.reader.read_section.Reads as read-section-reads
 
 abbrev Inv-loop : tie.InvT-loop
-Inv-loop text table₀ k₀ at₀ n₀ c₀ table k at n c = (k ≤ 9) × (at ≤ length text) × Placed k n c × (n ≤ roomBefore k) × (length table ≡ 12277) × (throughSections reading (9 - k) k (stageAt table n c (drop at text)) ≡ throughSections reading 9 0 (atStart (form ∷ []) text))
+Inv-loop format text table₀ k₀ at₀ n₀ c₀ table k at n c = (k ≤ 9) × (at ≤ length text) × Placed k n c × (n ≤ roomBefore k) × (length table ≡ 12277) × (throughSections reading (9 - k) k (stageAt table n c (drop at text)) ≡ throughSections reading 9 0 (atStart (form ∷ []) text))
 
 abbrev μ-loop : tie.MeasureT-loop
-μ-loop text table₀ k₀ at₀ n₀ c₀ table k at n c = 9 - k
+μ-loop format text table₀ k₀ at₀ n₀ c₀ table k at n c = 9 - k
 
 slice-write-table : tie.Need-slice-write-table Inv-loop μ-loop
-slice-write-table c = omega (arith, c .before .before .pre)
+slice-write-table c = omega (arith, c .before .before .before .pre .1)
 
 loop-holds : tie.Need-loop-holds Inv-loop μ-loop
 unfolding roomBefore
-loop-holds c = let a = c .before .before .args in let q = c .before .before .pre in (omega arith, omega arith, placed-start, omega arith, length-set (a .table .now) 0 0 ∙ q, ap (throughSections reading 9 0) (start-stage (a .table .now) (a .text .now) (omega (arith, q))))
+loop-holds c = let a = c .before .before .before .args in let q = c .before .before .before .pre .1 in (omega arith, omega arith, placed-start, omega arith, length-set (a .table .now) 0 0 ∙ q, ap (throughSections reading 9 0) (start-stage (a .table .now) (a .text .now) (omega (arith, q))))
 
 sub-read-section : tie.Need-sub-read-section Inv-loop μ-loop
 sub-read-section c = omega arith
@@ -41,16 +40,16 @@ part-read-section-end : tie.Need-part-read-section-end Inv-loop μ-loop
 part-read-section-end c = search needs
 
 read-section-requires : tie.Need-read-section-requires Inv-loop μ-loop
-read-section-requires c κs = let l = c .before .before .before .loop in let h = room-below (l .k + 1) (omega arith) in let m = room-next (l .k) in (omega (arith, l .inv .3, l .inv .4, h, m), omega (arith, l .inv .3, h, m), l .inv .2)
+read-section-requires c κs = let l = c .before .before .before .loop in let h = room-below (l .k + 1) (omega arith) in let m = room-next (l .k) in (c .before .before .before .before .before .before .before .pre .0, (omega (arith, l .inv .3, l .inv .4, h, m), omega (arith, l .inv .3, h, m), l .inv .2))
 
 same-length : tie.Need-same-length Inv-loop μ-loop
-same-length c = c .before .before .before .before .read-section .kept .1 .1 .0 ∙ c .before .before .before .before .before .before .before .before .loop .inv .4 ∙ sym (c .before .before .before .before .before .before .before .before .before .before .before .pre)
+same-length c = c .before .before .before .before .read-section .kept .1 .1 .1 .0 ∙ c .before .before .before .before .before .before .before .before .loop .inv .4 ∙ sym (c .before .before .before .before .before .before .before .before .before .before .before .before .pre .1)
 
 returns : tie.Need-returns Inv-loop μ-loop
-returns c = let a = c .before .before .before .before .before .before .before .before .before .before .before .args in let l = c .before .before .before .before .before .before .before .before .loop in let r = c .before .before .before .before .read-section .result in let u = c .before .before .before .before .read-section .last .1 .1 .0 in (part-refused r u (a .text .now) (c .if1 .taken) ∙ sym (sections-refused reading (l .k) (9 - (l .k + 1)) (stageAt (l .table) (l .n) (l .c) (drop (l .at) (a .text .now))) (r .refusal) (sym (section-whole (l .k) (l .n) (l .table) u (l .c) r (a .text .now) (l .at) (c .before .before .before .before .read-section .ensures .0)) ∙ part-refused r u (drop (l .at) (a .text .now)) (c .if1 .taken))) ∙ sym (sections-more reading (l .k) (stageAt (l .table) (l .n) (l .c) (drop (l .at) (a .text .now))) (c .before .before .before .before .before .before .before .loop-test .taken)) ∙ l .inv .5, λ z. absurd (c .if1 .taken z))
+returns c = let a = c .before .before .before .before .before .before .before .before .before .before .before .before .args in let l = c .before .before .before .before .before .before .before .before .loop in let r = c .before .before .before .before .read-section .result in let u = c .before .before .before .before .read-section .last .1 .1 .1 .0 in (part-refused r u (a .text .now) (c .if1 .taken) ∙ sym (sections-refused reading (l .k) (9 - (l .k + 1)) (stageAt (l .table) (l .n) (l .c) (drop (l .at) (a .text .now))) (r .refusal) (sym (section-whole (l .k) (l .n) (l .table) u (l .c) r (a .text .now) (l .at) (c .before .before .before .before .read-section .ensures .0)) ∙ part-refused r u (drop (l .at) (a .text .now)) (c .if1 .taken))) ∙ sym (sections-more reading (l .k) (stageAt (l .table) (l .n) (l .c) (drop (l .at) (a .text .now))) (c .before .before .before .before .before .before .before .loop-test .taken)) ∙ l .inv .5, λ z. absurd (c .if1 .taken z))
 
 add-at : tie.Need-add-at Inv-loop μ-loop
-add-at c = let t = c .before .before .before .before .before .read-section .ensures .1 (c .before .if1 .left) in omega (arith, t .inside, part-length (c .before .before .before .before .before .before .before .before .before .before .before .before .args .text .now) (c .before .before .before .before .before .before .before .before .before .loop .at), c .before .before .before .before .before .before .before .before .before .loop .inv .1, c .before .before .before .before .before .before .before .before .before .before .before .before)
+add-at c = let t = c .before .before .before .before .before .read-section .ensures .1 (c .before .if1 .left) in omega (arith, t .inside, part-length (c .before .before .before .before .before .before .before .before .before .before .before .before .before .args .text .now) (c .before .before .before .before .before .before .before .before .before .loop .at), c .before .before .before .before .before .before .before .before .before .loop .inv .1, c .before .before .before .before .before .before .before .before .before .before .before .before)
 
 add-k : tie.Need-add-k Inv-loop μ-loop
 add-k c = omega arith
@@ -59,21 +58,21 @@ loop-less : tie.Need-loop-less Inv-loop μ-loop
 loop-less c = omega arith
 
 loop-again : tie.Need-loop-again Inv-loop μ-loop
-loop-again c = let a = c .before .before .before .before .before .before .before .before .before .before .before .before .before .args in let l = c .before .before .before .before .before .before .before .before .before .before .loop in let r = c .before .before .before .before .before .before .read-section .result in let u = c .before .before .before .before .before .before .read-section .last .1 .1 .0 in let z = c .before .before .if1 .left in let t = c .before .before .before .before .before .before .read-section .ensures .1 z in (omega arith, omega (arith, t .inside, part-length (a .text .now) (l .at), l .inv .1), placed-next (l .k) (r .cells) (r .counts) (t .rows .placed), omega (arith, room-next (l .k), t .rows .longer, t .rows .most, l .inv .3), c .before .before .before .before .before .before .read-section .kept .1 .1 .0 ∙ l .inv .4, sections-next reading (l .k) (9 - (l .k + 1)) (stageAt (l .table) (l .n) (l .c) (drop (l .at) (a .text .now))) (stageAt u (r .cells) (r .counts) (drop (l .at + r .next) (a .text .now))) (sym (section-whole (l .k) (l .n) (l .table) u (l .c) r (a .text .now) (l .at) (c .before .before .before .before .before .before .read-section .ensures .0)) ∙ part-done r u (drop (l .at) (a .text .now)) z ∙ ap done (stage-part u (r .cells) (r .counts) (a .text .now) (l .at) (r .next))) ∙ sym (sections-more reading (l .k) (stageAt (l .table) (l .n) (l .c) (drop (l .at) (a .text .now))) (c .before .before .before .before .before .before .before .before .before .loop-test .taken)) ∙ l .inv .5)
+loop-again c = let a = c .before .before .before .before .before .before .before .before .before .before .before .before .before .before .args in let l = c .before .before .before .before .before .before .before .before .before .before .loop in let r = c .before .before .before .before .before .before .read-section .result in let u = c .before .before .before .before .before .before .read-section .last .1 .1 .1 .0 in let z = c .before .before .if1 .left in let t = c .before .before .before .before .before .before .read-section .ensures .1 z in (omega arith, omega (arith, t .inside, part-length (a .text .now) (l .at), l .inv .1), placed-next (l .k) (r .cells) (r .counts) (t .rows .placed), omega (arith, room-next (l .k), t .rows .longer, t .rows .most, l .inv .3), c .before .before .before .before .before .before .read-section .kept .1 .1 .1 .0 ∙ l .inv .4, sections-next reading (l .k) (9 - (l .k + 1)) (stageAt (l .table) (l .n) (l .c) (drop (l .at) (a .text .now))) (stageAt u (r .cells) (r .counts) (drop (l .at + r .next) (a .text .now))) (sym (section-whole (l .k) (l .n) (l .table) u (l .c) r (a .text .now) (l .at) (c .before .before .before .before .before .before .read-section .ensures .0)) ∙ part-done r u (drop (l .at) (a .text .now)) z ∙ ap done (stage-part u (r .cells) (r .counts) (a .text .now) (l .at) (r .next))) ∙ sym (sections-more reading (l .k) (stageAt (l .table) (l .n) (l .c) (drop (l .at) (a .text .now))) (c .before .before .before .before .before .before .before .before .before .loop-test .taken)) ∙ l .inv .5)
 
 same-length-2 : tie.Need-same-length-2 Inv-loop μ-loop
-same-length-2 c = c .before .before .loop .inv .4 ∙ sym (c .before .before .before .before .before .pre)
+same-length-2 c = c .before .before .loop .inv .4 ∙ sym (c .before .before .before .before .before .before .pre .1)
 
 returns-2 : tie.Need-returns-2 Inv-loop μ-loop
 unfolding partOutcome refusedOr stageAt
-returns-2 c = let a = c .before .before .before .before .before .args in let l = c .before .before .loop in (sym (sections-left reading (l .k) (stageAt (l .table) (l .n) (l .c) (drop (l .at) (a .text .now))) (c .before .loop-test .left) (getD (a .text .now) (l .at) 0) (drop (suc (l .at)) (a .text .now)) (drop-cons (a .text .now) (l .at) 0 (c .if2 .taken))) ∙ l .inv .5, λ z. absurd (omega arith))
+returns-2 c = let a = c .before .before .before .before .before .before .args in let l = c .before .before .loop in (sym (sections-left reading (l .k) (stageAt (l .table) (l .n) (l .c) (drop (l .at) (a .text .now))) (c .before .loop-test .left) (getD (a .text .now) (l .at) 0) (drop (suc (l .at)) (a .text .now)) (drop-cons (a .text .now) (l .at) 0 (c .if2 .taken))) ∙ l .inv .5, λ z. absurd (omega arith))
 
 same-length-3 : tie.Need-same-length-3 Inv-loop μ-loop
-same-length-3 c = c .before .before .loop .inv .4 ∙ sym (c .before .before .before .before .before .pre)
+same-length-3 c = c .before .before .loop .inv .4 ∙ sym (c .before .before .before .before .before .before .pre .1)
 
 returns-3 : tie.Need-returns-3 Inv-loop μ-loop
 unfolding stageAt
-returns-3 c = let a = c .before .before .before .before .before .args in let l = c .before .before .loop in (part-done _ _ (a .text .now) refl ∙ sym (sections-over reading (l .k) (stageAt (l .table) (l .n) (l .c) (drop (l .at) (a .text .now))) (c .before .loop-test .left) (drop-of-length-le (a .text .now) {i = l .at} (c .if2 .left))) ∙ l .inv .5, λ z. omega (arith, l .inv .3, l .inv .0, room-below (l .k) (l .inv .0)))
+returns-3 c = let a = c .before .before .before .before .before .before .args in let l = c .before .before .loop in (part-done _ _ (a .text .now) refl ∙ sym (sections-over reading (l .k) (stageAt (l .table) (l .n) (l .c) (drop (l .at) (a .text .now))) (c .before .loop-test .left) (drop-of-length-le (a .text .now) {i = l .at} (c .if2 .left))) ∙ l .inv .5, λ z. omega (arith, l .inv .3, l .inv .0, room-below (l .k) (l .inv .0)))
 
 pub read-sections-spec : {M : Type 1} → statement M
 read-sections-spec =

@@ -8,9 +8,9 @@ use Rattle.graph_file.proofs.writer.write_by.Statement.{statement}
 use Rattle.graph_file.proofs.writer.write_by.Tie as tie
 use Rattle.graph_file.proofs.writer.write_by.Reads as reads
 use Rattle.graph_file.proofs.writer.write_by.Lts as lts
+use Rattle.graph_file.proofs.cells.copy_bytes.Reads as copy-bytes-reads
 use Rattle.graph_file.proofs.writer.has_form.Reads as has-form-reads
 use Rattle.graph_file.proofs.writer.write_graph.Reads as write-graph-reads
-use Rattle.text_field.proofs.put_bytes.Reads as put-bytes-reads
 
 has-form-requires : tie.Need-has-form-requires
 has-form-requires c κs = search needs
@@ -36,14 +36,8 @@ returns-3 : tie.Need-returns-3
 unfolding answerOf
 returns-3 c = let a = c .before .before .before .before .before .before .before .before .before .before .before .before .args in told-small (a .table .now) _ (a .out .now) _ (text-written (c .before .before .before .before .before .before .before .before .before .before .before .before .args .table .now) _ (c .before .before .before .before .before .before .before .before .before .before .before .before .args .text .now) (c .before .before .before .before .before .write-graph .result) (sym (c .before .before .before .before .before .before .before .before .has-form .ensures) ∙ not-false _ (c .before .before .before .before .before .before .before .if1 .left)) (c .before .before .before .before .before .write-graph .ensures) (omega (arith, c .before .before .before .before .before .before .before .before .before .before .before .before .pre)) (c .before .if2 .left)) (c .if3 .taken)
 
-slice-reshare-prefix-put-bytes : tie.Need-slice-reshare-prefix-put-bytes
-slice-reshare-prefix-put-bytes c = text-within (c .before .before .before .before .before .before .before .before .before .before .before .before .before .args .table .now) _ _ (text-written (c .before .before .before .before .before .before .before .before .before .before .before .before .before .args .table .now) _ (c .before .before .before .before .before .before .before .before .before .before .before .before .before .args .text .now) (c .before .before .before .before .before .before .write-graph .result) (sym (c .before .before .before .before .before .before .before .before .before .has-form .ensures) ∙ not-false _ (c .before .before .before .before .before .before .before .before .if1 .left)) (c .before .before .before .before .before .before .write-graph .ensures) (omega (arith, c .before .before .before .before .before .before .before .before .before .before .before .before .before .pre)) (c .before .before .if2 .left))
-
-slice-aggregate-put-bytes : tie.Need-slice-aggregate-put-bytes
-slice-aggregate-put-bytes c = sym ((text-written (c .before .before .before .before .before .before .before .before .before .before .before .before .before .before .args .table .now) _ (c .before .before .before .before .before .before .before .before .before .before .before .before .before .before .args .text .now) (c .before .before .before .before .before .before .before .write-graph .result) (sym (c .before .before .before .before .before .before .before .before .before .before .has-form .ensures) ∙ not-false _ (c .before .before .before .before .before .before .before .before .before .if1 .left)) (c .before .before .before .before .before .before .before .write-graph .ensures) (omega (arith, c .before .before .before .before .before .before .before .before .before .before .before .before .before .before .pre)) (c .before .before .before .if2 .left)) .fits)
-
-put-bytes-requires : tie.Need-put-bytes-requires
-put-bytes-requires c κs = search needs
+copy-bytes-requires : tie.Need-copy-bytes-requires
+copy-bytes-requires c κs = (omega (arith, text-within (c .before .before .before .before .before .before .before .before .before .before .before .before .before .before .args .table .now) _ _ (text-written (c .before .before .before .before .before .before .before .before .before .before .before .before .before .before .args .table .now) _ (c .before .before .before .before .before .before .before .before .before .before .before .before .before .before .args .text .now) (c .before .before .before .before .before .before .before .write-graph .result) (sym (c .before .before .before .before .before .before .before .before .before .before .has-form .ensures) ∙ not-false _ (c .before .before .before .before .before .before .before .before .before .if1 .left)) (c .before .before .before .before .before .before .before .write-graph .ensures) (omega (arith, c .before .before .before .before .before .before .before .before .before .before .before .before .before .before .pre)) (c .before .before .before .if2 .left))), omega (arith, c .before .before .if3 .left))
 
 same-length-3 : tie.Need-same-length-3
 same-length-3 c = search needs
@@ -53,7 +47,7 @@ same-length-4 c = search needs
 
 returns-4 : tie.Need-returns-4
 unfolding answerOf
-returns-4 c = let a = c .before .before .before .before .before .before .before .before .before .before .before .before .before .before .before .before .before .args in told-done (a .table .now) _ (a .out .now) _ (text-written (c .before .before .before .before .before .before .before .before .before .before .before .before .before .before .before .before .before .args .table .now) _ (c .before .before .before .before .before .before .before .before .before .before .before .before .before .before .before .before .before .args .text .now) (c .before .before .before .before .before .before .before .before .before .before .write-graph .result) (sym (c .before .before .before .before .before .before .before .before .before .before .before .before .before .has-form .ensures) ∙ not-false _ (c .before .before .before .before .before .before .before .before .before .before .before .before .if1 .left)) (c .before .before .before .before .before .before .before .before .before .before .write-graph .ensures) (omega (arith, c .before .before .before .before .before .before .before .before .before .before .before .before .before .before .before .before .before .pre)) (c .before .before .before .before .before .before .if2 .left)) (c .before .before .before .before .before .if3 .left) _ _ (c .before .before .put-bytes .ensures)
+returns-4 c = let a = c .before .before .before .before .before .before .before .before .before .before .before .before .before .before .before .before .before .args in told-done (a .table .now) _ (a .out .now) _ (text-written (c .before .before .before .before .before .before .before .before .before .before .before .before .before .before .before .before .before .args .table .now) _ (c .before .before .before .before .before .before .before .before .before .before .before .before .before .before .before .before .before .args .text .now) (c .before .before .before .before .before .before .before .before .before .before .write-graph .result) (sym (c .before .before .before .before .before .before .before .before .before .before .before .before .before .has-form .ensures) ∙ not-false _ (c .before .before .before .before .before .before .before .before .before .before .before .before .if1 .left)) (c .before .before .before .before .before .before .before .before .before .before .write-graph .ensures) (omega (arith, c .before .before .before .before .before .before .before .before .before .before .before .before .before .before .before .before .before .pre)) (c .before .before .before .before .before .before .if2 .left)) (c .before .before .before .before .before .if3 .left) _ _ (c .before .before .copy-bytes .ensures)
 
 pub write-by-spec : {M : Type 1} → statement M
 write-by-spec =
@@ -66,9 +60,7 @@ write-by-spec =
     returns-2
     same-length-2
     returns-3
-    slice-reshare-prefix-put-bytes
-    slice-aggregate-put-bytes
-    put-bytes-requires
+    copy-bytes-requires
     same-length-3
     same-length-4
     returns-4)

@@ -1,9 +1,9 @@
 use Rattle.graph_file.proofs.WriteStages.{placed-begun, rows-begun, names-put, section-refused, section-few, section-done}
 use Rattle.graph_file.specs.Writer.{partWritten, refusedOrPoured}
 use Rattle.graph_file.specs.Format.{sectionAt}
-use borrow.Author.Needs.{needs}
 use native.Mathlib.Omega.{arith}
 use Prim.Native.Nat.{_<_, _≤_}
+use borrow.Author.Needs.{needs}
 use Rattle.graph_file.proofs.writer.write_section.Statement.{statement}
 use Rattle.graph_file.proofs.writer.write_section.Tie as tie
 use Rattle.graph_file.proofs.writer.write_section.Reads as reads
@@ -11,8 +11,8 @@ use Rattle.graph_file.proofs.writer.write_section.Lts as lts
 use Rattle.graph_file.proofs.format.least.Reads as least-reads
 use Rattle.graph_file.proofs.format.most.Reads as most-reads
 use Rattle.graph_file.proofs.format.names_place.Reads as names-place-reads
-use Rattle.graph_file.proofs.writer.counts_begun.Reads as counts-begun-reads
 use Rattle.graph_file.proofs.line_text.put_line.Reads as put-line-reads
+use Rattle.graph_file.proofs.writer.counts_begun.Reads as counts-begun-reads
 use Rattle.graph_file.proofs.writer.write_rows.Reads as write-rows-reads
 
 most-requires : tie.Need-most-requires
@@ -21,6 +21,9 @@ most-requires c κs = search needs
 names-place-requires : tie.Need-names-place-requires
 names-place-requires c κs = search needs
 
+slice-aggregate-put-line : tie.Need-slice-aggregate-put-line
+slice-aggregate-put-line c = search needs
+
 put-line-requires : tie.Need-put-line-requires
 put-line-requires c κs = search needs
 
@@ -28,13 +31,13 @@ counts-begun-requires : tie.Need-counts-begun-requires
 counts-begun-requires c κs = search needs
 
 write-rows-requires : tie.Need-write-rows-requires
-write-rows-requires c κs = let a = c .before .before .before .before .before .before .before .before .before .before .args in let q = c .before .before .before .before .before .before .before .before .before .before .pre in (q .0, rw (c .before .counts-begun .ensures) (placed-begun (a .k) (a .p) (a .c) (q .1)), rw (c .before .counts-begun .ensures) (rows-begun (a .c)), c .before .before .before .before .before .before .before .most .ensures)
+write-rows-requires c κs = let a = c .before .before .before .before .before .before .before .before .before .before .before .before .args in let q = c .before .before .before .before .before .before .before .before .before .before .before .before .pre .1 in (c .before .before .before .before .before .before .before .before .before .before .before .before .pre .0, (q .0, rw (c .before .counts-begun .ensures) (placed-begun (a .k) (a .p) (a .c) (q .1)), rw (c .before .counts-begun .ensures) (rows-begun (a .c)), c .before .before .before .before .before .before .before .before .most .ensures))
 
 same-length : tie.Need-same-length
 same-length c = search needs
 
 returns : tie.Need-returns
-returns c = let a = c .before .before .before .before .before .before .before .before .before .before .before .before .before .before .before .args in (section-refused (a .k) (a .table .now) (a .p) (a .c) _ (a .out .now, a .n) _ (c .before .before .before .before .before .before .counts-begun .ensures) (names-put (a .k) _ _ _ _ _ (c .before .before .before .before .before .before .before .before .before .put-line .ensures) (c .before .before .before .before .before .before .before .before .before .before .before .names-place .ensures)) (c .before .before .before .before .write-rows .result) _ (c .before .before .before .before .write-rows .ensures .0) (c .if1 .taken), λ z. absurd (c .if1 .taken z))
+returns c = let a = c .before .before .before .before .before .before .before .before .before .before .before .before .before .before .before .before .before .args in (section-refused (a .k) (a .table .now) (a .p) (a .c) _ (a .out .now, a .n) _ (c .before .before .before .before .before .before .counts-begun .ensures) (names-put (a .k) _ _ _ _ _ (c .before .before .before .before .before .before .before .before .before .put-line .ensures) (c .before .before .before .before .before .before .before .before .before .before .before .before .names-place .ensures)) (c .before .before .before .before .write-rows .result) _ (c .before .before .before .before .write-rows .ensures .0) (c .if1 .taken), λ z. absurd (c .if1 .taken z))
 
 cast-rows : tie.Need-cast-rows
 cast-rows c = search needs
@@ -47,13 +50,13 @@ same-length-2 c = search needs
 
 returns-2 : tie.Need-returns-2
 unfolding partWritten refusedOrPoured
-returns-2 c = let a = c .before .before .before .before .before .before .before .before .before .before .before .before .before .before .before .before .before .before .args in let l : c .before .before .before .before .before .before .before .write-rows .result .counts .rows < sectionAt (a .k) .least = omega (arith, c .if2 .taken, c .before .least .ensures) in (section-few (a .k) (a .table .now) (a .p) (a .c) _ (a .out .now, a .n) _ (c .before .before .before .before .before .before .before .before .before .counts-begun .ensures) (names-put (a .k) _ _ _ _ _ (c .before .before .before .before .before .before .before .before .before .before .before .before .put-line .ensures) (c .before .before .before .before .before .before .before .before .before .before .before .before .before .before .names-place .ensures)) (c .before .before .before .before .before .before .before .write-rows .result) _ (c .before .before .before .before .before .before .before .write-rows .ensures .0) (c .before .before .before .if1 .left) l, λ z. absurd (omega arith))
+returns-2 c = let a = c .before .before .before .before .before .before .before .before .before .before .before .before .before .before .before .before .before .before .before .before .args in let l : c .before .before .before .before .before .before .before .write-rows .result .counts .rows < sectionAt (a .k) .least = omega (arith, c .if2 .taken, c .before .least .ensures) in (section-few (a .k) (a .table .now) (a .p) (a .c) _ (a .out .now, a .n) _ (c .before .before .before .before .before .before .before .before .before .counts-begun .ensures) (names-put (a .k) _ _ _ _ _ (c .before .before .before .before .before .before .before .before .before .before .before .before .put-line .ensures) (c .before .before .before .before .before .before .before .before .before .before .before .before .before .before .before .names-place .ensures)) (c .before .before .before .before .before .before .before .write-rows .result) _ (c .before .before .before .before .before .before .before .write-rows .ensures .0) (c .before .before .before .if1 .left) l, λ z. absurd (omega arith))
 
 same-length-3 : tie.Need-same-length-3
 same-length-3 c = search needs
 
 returns-3 : tie.Need-returns-3
-returns-3 c = let a = c .before .before .before .before .before .before .before .before .before .before .before .before .before .before .before .before .before .before .args in let l : sectionAt (a .k) .least ≤ c .before .before .before .before .before .before .before .write-rows .result .counts .rows = omega (arith, c .if2 .left, c .before .least .ensures) in (section-done (a .k) (a .table .now) (a .p) (a .c) _ (a .out .now, a .n) _ (c .before .before .before .before .before .before .before .before .before .counts-begun .ensures) (names-put (a .k) _ _ _ _ _ (c .before .before .before .before .before .before .before .before .before .before .before .before .put-line .ensures) (c .before .before .before .before .before .before .before .before .before .before .before .before .before .before .names-place .ensures)) (c .before .before .before .before .before .before .before .write-rows .result) _ (c .before .before .before .before .before .before .before .write-rows .ensures .0) (c .before .before .before .if1 .left) l, c .before .before .before .before .before .before .before .write-rows .ensures .1)
+returns-3 c = let a = c .before .before .before .before .before .before .before .before .before .before .before .before .before .before .before .before .before .before .before .before .args in let l : sectionAt (a .k) .least ≤ c .before .before .before .before .before .before .before .write-rows .result .counts .rows = omega (arith, c .if2 .left, c .before .least .ensures) in (section-done (a .k) (a .table .now) (a .p) (a .c) _ (a .out .now, a .n) _ (c .before .before .before .before .before .before .before .before .before .counts-begun .ensures) (names-put (a .k) _ _ _ _ _ (c .before .before .before .before .before .before .before .before .before .before .before .before .put-line .ensures) (c .before .before .before .before .before .before .before .before .before .before .before .before .before .before .before .names-place .ensures)) (c .before .before .before .before .before .before .before .write-rows .result) _ (c .before .before .before .before .before .before .before .write-rows .ensures .0) (c .before .before .before .if1 .left) l, c .before .before .before .before .before .before .before .write-rows .ensures .1)
 
 pub write-section-spec : {M : Type 1} → statement M
 write-section-spec =
@@ -61,6 +64,7 @@ write-section-spec =
     (tie.spec
     most-requires
     names-place-requires
+    slice-aggregate-put-line
     put-line-requires
     counts-begun-requires
     write-rows-requires

@@ -1,63 +1,48 @@
--- `has_edge` meets its contract: the rows of the scope that are left decide. Assumes nothing.
+-- `has_edge` meets its contract: the scope's edges that are left decide. Assumes nothing.
 use Prim.Native.Nat.{_-_}
-use mathlib.Core.Path.{_≡_, refl, sym, _∙_}
+use mathlib.Core.Path.{_≡_, refl, sym, ap, _∙_}
 use native.Mathlib.Omega.{arith}
 use borrow.Author.Needs.{needs}
-use lib.ListN.{length, drop}
-use Rattle.edge_rows.specs.Rows.{hopTo, rowHops}
-use Rattle.edge_rows.proofs.Laws.{next-row}
-use Rattle.judge.specs.Steps.{hasHop}
-use Rattle.judge.proofs.HopLaws.{hop-none, hop-here, hop-on}
+use Rattle.judge.specs.Steps.{hopTo}
+use Rattle.judge.proofs.HopLaws.{hopLeft, hop-all, hop-none, hop-here, hop-on}
 use Rattle.judge.proofs.hops.has_edge.Statement.{statement}
 use Rattle.judge.proofs.hops.has_edge.Tie as tie
 
 abbrev Inv-loop : tie.InvT-loop
-Inv-loop edges s label to p₀ p = hasHop (hopTo label to) (rowHops edges s) ≡ hasHop (hopTo label to) (rowHops (drop p edges) s)
+Inv-loop block s label to end p₀ p = hopLeft block s (hopTo label to) p ≡ hopLeft block s (hopTo label to) p₀
 
 abbrev μ-loop : tie.MeasureT-loop
-μ-loop edges s label to p₀ p = length edges - p
+μ-loop block s label to end p₀ p = end - p
+
+edges-end-requires : tie.Need-edges-end-requires Inv-loop μ-loop
+edges-end-requires c κs = c .before .pre
+
+edges-from-requires : tie.Need-edges-from-requires Inv-loop μ-loop
+edges-from-requires c κs = c .before .before .pre
 
 loop-holds : tie.Need-loop-holds Inv-loop μ-loop
 loop-holds c = refl
 
-next-row-requires : tie.Need-next-row-requires Inv-loop μ-loop
-next-row-requires c κs = search needs
+edge-at-requires : tie.Need-edge-at-requires Inv-loop μ-loop
+edge-at-requires c κs = c .before .before .before .before .before .pre .0
 
-add-same-hop : tie.Need-add-same-hop Inv-loop μ-loop
-add-same-hop c = omega arith
-
-mul-same-hop : tie.Need-mul-same-hop Inv-loop μ-loop
-mul-same-hop c = omega arith
-
-shared-slice-read-same-hop : tie.Need-shared-slice-read-same-hop Inv-loop μ-loop
-shared-slice-read-same-hop c = omega (arith, next-row (c .before .before .next-row .ensures) .whole (c .before .if1 .left))
-
-add-same-hop-2 : tie.Need-add-same-hop-2 Inv-loop μ-loop
-add-same-hop-2 c = omega arith
-
-mul-same-hop-2 : tie.Need-mul-same-hop-2 Inv-loop μ-loop
-mul-same-hop-2 c = omega arith
-
-shared-slice-read-same-hop-2 : tie.Need-shared-slice-read-same-hop-2 Inv-loop μ-loop
-shared-slice-read-same-hop-2 c = omega (arith, next-row (c .before .before .before .next-row .ensures) .whole (c .before .before .if1 .left))
-
-same-hop-requires : tie.Need-same-hop-requires Inv-loop μ-loop
-same-hop-requires c κs = search needs
-
-add-p : tie.Need-add-p Inv-loop μ-loop
-add-p c = omega (arith, next-row (c .before .before .before .before .before .next-row .ensures) .whole (c .before .before .before .before .if1 .left))
-
-loop-less : tie.Need-loop-less Inv-loop μ-loop
-loop-less c = let inside = c .before .before .before .before .if1 .left in omega (arith, next-row (c .before .before .before .before .before .next-row .ensures) .whole inside, next-row (c .before .before .before .before .before .next-row .ensures) .on inside)
-
-loop-again : tie.Need-loop-again Inv-loop μ-loop
-loop-again c = let a = c .before .before .before .before .before .before .before .before .args in c .before .before .before .before .before .before .loop .inv ∙ hop-on (a .edges .now) (a .s) (hopTo (a .label) (a .to)) (c .before .before .before .before .before .before .loop .p) (c .before .before .before .before .before .next-row .result) (c .before .before .before .before .before .next-row .ensures) (c .before .before .before .before .if1 .left) (c .before .same-hop .result) (c .before .same-hop .ensures) (c .if2 .left)
+is-hop-requires : tie.Need-is-hop-requires Inv-loop μ-loop
+is-hop-requires c κs = search needs
 
 returns : tie.Need-returns Inv-loop μ-loop
-returns c = let a = c .before .before .before .before .args in sym (c .before .before .loop .inv ∙ hop-none (a .edges .now) (a .s) (hopTo (a .label) (a .to)) (c .before .before .loop .p) (c .before .next-row .result) (c .before .next-row .ensures) (c .if1 .taken))
+returns c = let a = c .before .before .before .before .before .before .before .before .args in let h = hopTo (a .label) (a .to) in sym (hop-all (a .block .now) (a .s) h (c .before .before .before .before .before .before .before .before .pre .1) ∙ ap (hopLeft (a .block .now) (a .s) h) (sym (c .before .before .before .before .before .edges-from .ensures)) ∙ sym (c .before .before .before .before .loop .inv) ∙ hop-here (a .block .now) (a .s) h (c .before .before .before .before .loop .p) (rw (c .before .before .before .before .before .before .edges-end .ensures) at (c .before .before .before .loop-test .taken)) (c .before .before .edge-at .result) (c .before .before .edge-at .ensures) (c .before .is-hop .result) (c .before .is-hop .ensures) (c .if1 .taken))
+
+add-p : tie.Need-add-p Inv-loop μ-loop
+add-p c = omega arith
+
+loop-less : tie.Need-loop-less Inv-loop μ-loop
+loop-less c = omega arith
+
+loop-again : tie.Need-loop-again Inv-loop μ-loop
+loop-again c = let a = c .before .before .before .before .before .before .before .before .args in let h = hopTo (a .label) (a .to) in sym (hop-on (a .block .now) (a .s) h (c .before .before .before .before .loop .p) (rw (c .before .before .before .before .before .before .edges-end .ensures) at (c .before .before .before .loop-test .taken)) (c .before .before .edge-at .result) (c .before .before .edge-at .ensures) (c .before .is-hop .result) (c .before .is-hop .ensures) (c .if1 .left)) ∙ c .before .before .before .before .loop .inv
 
 returns-2 : tie.Need-returns-2 Inv-loop μ-loop
-returns-2 c = let a = c .before .before .before .before .before .before .before .before .args in sym (c .before .before .before .before .before .before .loop .inv ∙ hop-here (a .edges .now) (a .s) (hopTo (a .label) (a .to)) (c .before .before .before .before .before .before .loop .p) (c .before .before .before .before .before .next-row .result) (c .before .before .before .before .before .next-row .ensures) (c .before .before .before .before .if1 .left) (c .before .same-hop .result) (c .before .same-hop .ensures) (c .if2 .taken))
+returns-2 c = let a = c .before .before .before .before .before .args in let h = hopTo (a .label) (a .to) in sym (hop-all (a .block .now) (a .s) h (c .before .before .before .before .before .pre .1) ∙ ap (hopLeft (a .block .now) (a .s) h) (sym (c .before .before .edges-from .ensures)) ∙ sym (c .before .loop .inv) ∙ hop-none (a .block .now) (a .s) h (c .before .loop .p) (rw (c .before .before .before .edges-end .ensures) at (c .loop-test .left)))
 
 pub has-edge-spec : {M : Type 1} → statement M
 has-edge-spec =
@@ -65,17 +50,13 @@ has-edge-spec =
     (tie.spec
     Inv-loop
     μ-loop
+    edges-end-requires
+    edges-from-requires
     loop-holds
-    next-row-requires
-    add-same-hop
-    mul-same-hop
-    shared-slice-read-same-hop
-    add-same-hop-2
-    mul-same-hop-2
-    shared-slice-read-same-hop-2
-    same-hop-requires
+    edge-at-requires
+    is-hop-requires
+    returns
     add-p
     loop-less
     loop-again
-    returns
     returns-2)

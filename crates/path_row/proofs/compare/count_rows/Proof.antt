@@ -6,12 +6,13 @@ use mathlib.Core.Path.{_≡_, refl, sym, _∙_}
 use borrow.Author.Tests.{not-true, not-false}
 use native.Mathlib.Omega.{arith}
 use Prim.Native.Nat.{_-_}
-use Rattle.path_row.proofs.OrderSteps.{row-inside, Counted, counted-first, counted-on, counted-stops, counted-full}
+use Rattle.graph_table.proofs.RowLaws.{row-inside}
+use Rattle.path_row.proofs.OrderSteps.{Counted, counted-first, counted-on, counted-stops, counted-full}
 use Rattle.path_row.proofs.compare.count_rows.Statement.{statement}
 use Rattle.path_row.proofs.compare.count_rows.Tie as tie
 use Rattle.path_row.proofs.compare.count_rows.Reads as reads
 use Rattle.path_row.proofs.compare.count_rows.Lts as lts
-use Rattle.path_row.proofs.compare.in_section.Reads as in-section-reads
+use Rattle.graph_table.proofs.in_section.Reads as in-section-reads
 
 abbrev Inv-loop : tie.InvT-loop
 Inv-loop cells at k most n₀ p₀ n p = Counted cells at most k n p

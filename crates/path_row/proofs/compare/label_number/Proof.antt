@@ -12,8 +12,8 @@ use Rattle.path_row.proofs.compare.label_number.Statement.{statement}
 use Rattle.path_row.proofs.compare.label_number.Tie as tie
 use Rattle.path_row.proofs.compare.label_number.Reads as reads
 use Rattle.path_row.proofs.compare.label_number.Lts as lts
-use Rattle.path_row.proofs.compare.in_section.Reads as in-section-reads
-use Rattle.text_field.proofs.cell.Reads as cell-reads
+use Rattle.graph_table.proofs.in_section.Reads as in-section-reads
+use Rattle.graph_table.proofs.letter_at.Reads as letter-at-reads
 
 abbrev Inv-loop : tie.InvT-loop
 Inv-loop cells x n₀ p₀ n p = (seek 8 0 x (drop 1 cells) ≡ seek (8 - n) n x (drop p cells)) × (n ≤ 8) × (p ≡ 1 + 6 * n)
@@ -37,17 +37,13 @@ add-result c = omega arith
 returns : tie.Need-returns Inv-loop μ-loop
 returns c = sym (letters-are (now (c .before .before .before .before .before .args .cells)) (c .before .before .before .before .before .args .x) ∙ c .before .before .before .loop .inv .0 ∙ seek-none (now (c .before .before .before .before .before .args .cells)) (c .before .before .before .loop .p) (c .before .before .before .before .before .args .x) (c .before .before .before .loop .n) (c .before .in-section .result) (c .before .in-section .ensures) (not-true _ (c .if1 .taken)))
 
--- src/compare.rt:56:24
-add-cell : tie.Need-add-cell Inv-loop μ-loop
-add-cell c = omega arith
-
 -- src/compare.rt:56:12
-cell-requires : tie.Need-cell-requires Inv-loop μ-loop
-cell-requires c κs = search needs
+letter-at-requires : tie.Need-letter-at-requires Inv-loop μ-loop
+letter-at-requires c κs = search needs
 
 -- src/compare.rt:57:13
 returns-2 : tie.Need-returns-2 Inv-loop μ-loop
-returns-2 c = sym (letters-are (now (c .before .before .before .before .before .before .before .args .cells)) (c .before .before .before .before .before .before .before .args .x) ∙ c .before .before .before .before .before .loop .inv .0 ∙ seek-here (now (c .before .before .before .before .before .before .before .args .cells)) (c .before .before .before .before .before .loop .p) (c .before .before .before .before .before .before .before .args .x) (c .before .before .before .before .before .loop .n) (c .before .before .before .in-section .result) (c .before .before .before .in-section .ensures) (not-false _ (c .before .before .if1 .left)) (c .before .before .before .before .loop-test .taken) (c .before .cell .result) (c .before .cell .ensures) (c .if2 .taken))
+returns-2 c = sym (letters-are (now (c .before .before .before .before .before .before .before .args .cells)) (c .before .before .before .before .before .before .before .args .x) ∙ c .before .before .before .before .before .loop .inv .0 ∙ seek-here (now (c .before .before .before .before .before .before .before .args .cells)) (c .before .before .before .before .before .loop .p) (c .before .before .before .before .before .before .before .args .x) (c .before .before .before .before .before .loop .n) (c .before .before .before .in-section .result) (c .before .before .before .in-section .ensures) (not-false _ (c .before .before .if1 .left)) (c .before .before .before .before .loop-test .taken) (c .before .letter-at .result) (c .before .letter-at .ensures) (c .if2 .taken))
 
 -- src/compare.rt:59:9
 add-p : tie.Need-add-p Inv-loop μ-loop
@@ -63,7 +59,7 @@ loop-less c = omega arith
 
 -- src/compare.rt:52:5
 loop-again : tie.Need-loop-again Inv-loop μ-loop
-loop-again c = (c .before .before .before .before .before .loop .inv .0 ∙ seek-next (now (c .before .before .before .before .before .before .before .args .cells)) (c .before .before .before .before .before .loop .p) (c .before .before .before .before .before .before .before .args .x) (c .before .before .before .before .before .loop .n) (c .before .before .before .in-section .result) (c .before .before .before .in-section .ensures) (not-false _ (c .before .before .if1 .left)) (c .before .before .before .before .loop-test .taken) (c .before .cell .result) (c .before .cell .ensures) (c .if2 .left), omega arith, omega arith)
+loop-again c = (c .before .before .before .before .before .loop .inv .0 ∙ seek-next (now (c .before .before .before .before .before .before .before .args .cells)) (c .before .before .before .before .before .loop .p) (c .before .before .before .before .before .before .before .args .x) (c .before .before .before .before .before .loop .n) (c .before .before .before .in-section .result) (c .before .before .before .in-section .ensures) (not-false _ (c .before .before .if1 .left)) (c .before .before .before .before .loop-test .taken) (c .before .letter-at .result) (c .before .letter-at .ensures) (c .if2 .left), omega arith, omega arith)
 
 -- src/compare.rt:62:5
 add-result-2 : tie.Need-add-result-2 Inv-loop μ-loop
@@ -83,8 +79,7 @@ label-number-spec =
     in-section-requires
     add-result
     returns
-    add-cell
-    cell-requires
+    letter-at-requires
     returns-2
     add-p
     add-n

@@ -7,13 +7,14 @@ use borrow.Author.Tests.{not-true, not-false}
 use native.Mathlib.Omega.{arith}
 use lib.ListN.{drop}
 use Rattle.scope_graph.specs.Order.{meaning, pairMeaning}
-use Rattle.path_row.proofs.OrderSteps.{row-inside, prefer, prefer-none, prefer-found, prefer-next, prefer-full}
+use Rattle.graph_table.proofs.RowLaws.{row-inside}
+use Rattle.path_row.proofs.OrderSteps.{prefer, prefer-none, prefer-found, prefer-next, prefer-full}
 use Rattle.path_row.proofs.compare.preferred_from.Statement.{statement}
 use Rattle.path_row.proofs.compare.preferred_from.Tie as tie
 use Rattle.path_row.proofs.compare.preferred_from.Reads as reads
 use Rattle.path_row.proofs.compare.preferred_from.Lts as lts
-use Rattle.path_row.proofs.compare.in_section.Reads as in-section-reads
-use Rattle.path_row.proofs.compare.pair_row.Reads as pair-row-reads
+use Rattle.graph_table.proofs.in_section.Reads as in-section-reads
+use Rattle.graph_table.proofs.order_pair.Reads as order-pair-reads
 use Rattle.scope_graph.proofs.holds.Reads as holds-reads
 
 abbrev Inv-loop : tie.InvT-loop
@@ -35,8 +36,8 @@ returns : tie.Need-returns Inv-loop μ-loop
 returns c = sym (c .before .before .before .loop .inv ∙ prefer-none (meaning (c .before .before .before .before .before .args .less)) (meaning (c .before .before .before .before .before .args .more)) (now (c .before .before .before .before .before .args .cells)) (c .before .before .before .loop .p) (c .before .before .before .loop .left) (c .before .in-section .result) (c .before .in-section .ensures) (not-true _ (c .if1 .taken)))
 
 -- src/compare.rt:91:18
-pair-row-requires : tie.Need-pair-row-requires Inv-loop μ-loop
-pair-row-requires c κs = search needs
+order-pair-requires : tie.Need-order-pair-requires Inv-loop μ-loop
+order-pair-requires c κs = search needs
 
 -- src/compare.rt:91:12
 holds-requires : tie.Need-holds-requires Inv-loop μ-loop
@@ -44,7 +45,7 @@ holds-requires c κs = search needs
 
 -- src/compare.rt:92:13
 returns-2 : tie.Need-returns-2 Inv-loop μ-loop
-returns-2 c = sym (c .before .before .before .before .before .before .loop .inv ∙ prefer-found (meaning (c .before .before .before .before .before .before .before .before .args .less)) (meaning (c .before .before .before .before .before .before .before .before .args .more)) (now (c .before .before .before .before .before .before .before .before .args .cells)) (c .before .before .before .before .before .before .loop .p) (c .before .before .before .before .before .before .loop .left) (c .before .before .before .before .in-section .result) (c .before .before .before .before .in-section .ensures) (not-false _ (c .before .before .before .if1 .left)) (omega arith) (pairMeaning (c .before .before .pair-row .result)) (c .before .before .pair-row .ensures) (c .before .holds .result) (c .before .holds .ensures) (c .if2 .taken))
+returns-2 c = sym (c .before .before .before .before .before .before .loop .inv ∙ prefer-found (meaning (c .before .before .before .before .before .before .before .before .args .less)) (meaning (c .before .before .before .before .before .before .before .before .args .more)) (now (c .before .before .before .before .before .before .before .before .args .cells)) (c .before .before .before .before .before .before .loop .p) (c .before .before .before .before .before .before .loop .left) (c .before .before .before .before .in-section .result) (c .before .before .before .before .in-section .ensures) (not-false _ (c .before .before .before .if1 .left)) (omega arith) (pairMeaning (c .before .before .order-pair .result)) (c .before .before .order-pair .ensures) (c .before .holds .result) (c .before .holds .ensures) (c .if2 .taken))
 
 -- src/compare.rt:94:9
 add-p : tie.Need-add-p Inv-loop μ-loop
@@ -60,7 +61,7 @@ loop-less c = omega arith
 
 -- src/compare.rt:87:5
 loop-again : tie.Need-loop-again Inv-loop μ-loop
-loop-again c = c .before .before .before .before .before .before .loop .inv ∙ prefer-next (meaning (c .before .before .before .before .before .before .before .before .args .less)) (meaning (c .before .before .before .before .before .before .before .before .args .more)) (now (c .before .before .before .before .before .before .before .before .args .cells)) (c .before .before .before .before .before .before .loop .p) (c .before .before .before .before .before .before .loop .left) (c .before .before .before .before .in-section .result) (c .before .before .before .before .in-section .ensures) (not-false _ (c .before .before .before .if1 .left)) (omega arith) (pairMeaning (c .before .before .pair-row .result)) (c .before .before .pair-row .ensures) (c .before .holds .result) (c .before .holds .ensures) (c .if2 .left)
+loop-again c = c .before .before .before .before .before .before .loop .inv ∙ prefer-next (meaning (c .before .before .before .before .before .before .before .before .args .less)) (meaning (c .before .before .before .before .before .before .before .before .args .more)) (now (c .before .before .before .before .before .before .before .before .args .cells)) (c .before .before .before .before .before .before .loop .p) (c .before .before .before .before .before .before .loop .left) (c .before .before .before .before .in-section .result) (c .before .before .before .before .in-section .ensures) (not-false _ (c .before .before .before .if1 .left)) (omega arith) (pairMeaning (c .before .before .order-pair .result)) (c .before .before .order-pair .ensures) (c .before .holds .result) (c .before .holds .ensures) (c .if2 .left)
 
 -- src/compare.rt:82:1
 returns-3 : tie.Need-returns-3 Inv-loop μ-loop
@@ -75,7 +76,7 @@ preferred-from-spec =
     loop-holds
     in-section-requires
     returns
-    pair-row-requires
+    order-pair-requires
     holds-requires
     returns-2
     add-p

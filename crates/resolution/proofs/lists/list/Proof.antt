@@ -1,96 +1,102 @@
--- `list` meets its contract: the rows alone do not fit, or the head does not fit what they leave, or both are written. Assumes nothing.
+-- `list` meets its contract: the rows alone do not fit, or the head does not fit what they leave, or both
+-- are written, the rows from those that were kept or by another walk. Assumes nothing.
 use Prim.Native.Nat.{ℕ}
-use lib.ListN.{length-replicate}
+use mathlib.Core.Path.{refl, sym, _∙_}
+use native.Mathlib.Omega.{arith}
+use lib.Seq.{length-take-le}
+use lib.ListN.{replicate, length-replicate}
 use Rattle.text_field.specs.Answer.{answerOf}
-use Rattle.resolution.proofs.Heads.{list-short, no-rows, no-head, head-within, list-whole}
+use Rattle.resolution.proofs.Answers.{found-taken}
+use Rattle.resolution.proofs.Heads.{list-over, rows-room, head-within, list-no-head, list-kept, list-again}
 use borrow.Author.Needs.{needs}
 use Rattle.resolution.proofs.lists.list.Statement.{statement}
 use Rattle.resolution.proofs.lists.list.Tie as tie
 
-slice-aggregate-hint-table : tie.Need-slice-aggregate-hint-table
-slice-aggregate-hint-table c = search needs
+slice-aggregate-take-entries : tie.Need-slice-aggregate-take-entries
+slice-aggregate-take-entries c = search needs
 
-hint-table-requires : tie.Need-hint-table-requires
-hint-table-requires c κs = search needs
+take-entries-requires : tie.Need-take-entries-requires
+take-entries-requires c κs = search needs
 
-slice-aggregate-tables-of : tie.Need-slice-aggregate-tables-of
-slice-aggregate-tables-of c = search needs
-
-tables-of-requires : tie.Need-tables-of-requires
-tables-of-requires c κs = search needs
-
-slice-aggregate-rows-room : tie.Need-slice-aggregate-rows-room
-slice-aggregate-rows-room c = search needs
-
-rows-room-requires : tie.Need-rows-room-requires
-rows-room-requires c κs = search needs
-
-enum-known-left : tie.Need-enum-known-left
-enum-known-left c = search needs
-
-enum-told : tie.Need-enum-told
-enum-told c = search needs
+found-by-requires : tie.Need-found-by-requires
+found-by-requires c κs = search needs
 
 returns : tie.Need-returns
 unfolding answerOf
-returns c = let a = c .before .before .before .before .before .before .before .before .before .before .before .args in list-short (a .table .now) (a .start) (a .high) (a .low) (c .before .before .before .before .before .before .before .before .before .before .before .pre) (a .out .now) (no-rows (a .table .now) (a .start) (a .high) (a .low) (c .before .before .before .before .before .before .before .before .before .before .before .pre) _ _ (c .before .before .rows-room .ensures) (c .enum-told .given .1))
+returns c = let a = c .before .before .before .before .before .before .before .before .before .args in let p = c .before .before .before .before .before .before .before .before .before .pre in let t = c .before .before .before .take-entries .ensures in let x = list-over (a .table .now) (a .block .now) (a .ask .now) p (a .out .now) _ _ refl (_, _) t (c .if1 .taken) in (x .0, (x .1, c .before .found-by .ensures ∙ found-taken (a .table .now) _ _ _ (_, _) refl t))
 
 slice-aggregate-put-heading : tie.Need-slice-aggregate-put-heading
 slice-aggregate-put-heading c = search needs
 
-slice-aggregate-put-heading-2 : tie.Need-slice-aggregate-put-heading-2
-slice-aggregate-put-heading-2 c = search needs
-
 put-heading-requires : tie.Need-put-heading-requires
-put-heading-requires c κs = search needs
+put-heading-requires c κs = let a = c .before .before .before .before .before .before .before .before .before .before .args in let p = c .before .before .before .before .before .before .before .before .before .before .pre in let t = c .before .before .before .before .take-entries .ensures in (p, c .before .before .found-by .ensures ∙ found-taken (a .table .now) _ _ _ (_, _) refl t)
+
+sub-if2 : tie.Need-sub-if2
+sub-if2 c = let a = c .before .before .before .before .before .before .before .before .before .before .before .before .args in let p = c .before .before .before .before .before .before .before .before .before .before .before .before .pre in let t = c .before .before .before .before .before .before .take-entries .ensures in rows-room (a .table .now) (a .block .now) (a .ask .now) p (a .out .now) _ _ refl (_, _) t (c .before .before .before .if1 .left)
 
 returns-2 : tie.Need-returns-2
 unfolding answerOf
-returns-2 c = let a = c .before .before .before .before .before .before .before .before .before .before .before .before .before .before .before .before .before .args in list-short (a .table .now) (a .start) (a .high) (a .low) (c .before .before .before .before .before .before .before .before .before .before .before .before .before .before .before .before .before .pre) (a .out .now) (no-head (a .table .now) (a .start) (a .high) (a .low) (c .before .before .before .before .before .before .before .before .before .before .before .before .before .before .before .before .before .pre) _ _ _ _ _ _ (c .before .before .before .before .before .before .before .before .rows-room .ensures) (c .before .before .before .before .before .before .left .given .1) (c .before .before .put-heading .ensures) (length-replicate {A = ℕ} 128 0) (c .if1 .taken))
+returns-2 c = let a = c .before .before .before .before .before .before .before .before .before .before .before .before .before .args in let p = c .before .before .before .before .before .before .before .before .before .before .before .before .before .pre in let t = c .before .before .before .before .before .before .before .take-entries .ensures in let x = list-no-head (a .table .now) (a .block .now) (a .ask .now) p (a .out .now) _ _ refl (_, _) t (c .before .before .before .before .if1 .left) (replicate 128 0) _ _ (length-replicate {A = ℕ} 128 0) (c .before .before .put-heading .ensures) (c .if2 .taken) in (x .0, (x .1, c .before .before .before .before .before .found-by .ensures ∙ found-taken (a .table .now) _ _ _ (_, _) refl t))
+
+add-size : tie.Need-add-size
+add-size c = search needs
 
 array-share-prefix-head : tie.Need-array-share-prefix-head
-array-share-prefix-head c = let a = c .before .before .before .before .before .before .before .before .before .before .before .before .before .before .before .before .before .before .args in head-within (a .table .now) (a .start) (a .high) (a .low) (c .before .before .before .before .before .before .before .before .before .before .before .before .before .before .before .before .before .before .pre) _ _ _ (c .before .before .before .put-heading .ensures) (length-replicate {A = ℕ} 128 0) .0
+array-share-prefix-head c = let a = c .before .before .before .before .before .before .before .before .before .before .before .before .before .before .args in let p = c .before .before .before .before .before .before .before .before .before .before .before .before .before .before .pre in let t = c .before .before .before .before .before .before .before .before .take-entries .ensures in head-within (a .table .now) (a .block .now) (a .ask .now) p (a .out .now) _ _ refl (_, _) t (c .before .before .before .before .before .if1 .left) (replicate 128 0) _ _ (length-replicate {A = ℕ} 128 0) (c .before .before .before .put-heading .ensures) .0
 
 slice-aggregate-put-bytes : tie.Need-slice-aggregate-put-bytes
-slice-aggregate-put-bytes c = let a = c .before .before .before .before .before .before .before .before .before .before .before .before .before .before .before .before .before .before .before .args in head-within (a .table .now) (a .start) (a .high) (a .low) (c .before .before .before .before .before .before .before .before .before .before .before .before .before .before .before .before .before .before .before .pre) _ _ _ (c .before .before .before .before .put-heading .ensures) (length-replicate {A = ℕ} 128 0) .1
+slice-aggregate-put-bytes c = let a = c .before .before .before .before .before .before .before .before .before .before .before .before .before .before .before .args in let p = c .before .before .before .before .before .before .before .before .before .before .before .before .before .before .before .pre in let t = c .before .before .before .before .before .before .before .before .before .take-entries .ensures in head-within (a .table .now) (a .block .now) (a .ask .now) p (a .out .now) _ _ refl (_, _) t (c .before .before .before .before .before .before .if1 .left) (replicate 128 0) _ _ (length-replicate {A = ℕ} 128 0) (c .before .before .before .before .put-heading .ensures) .1
 
 put-bytes-requires : tie.Need-put-bytes-requires
 put-bytes-requires c κs = search needs
 
-slice-aggregate-put-rows : tie.Need-slice-aggregate-put-rows
-slice-aggregate-put-rows c = search needs
+array-share-prefix-kept : tie.Need-array-share-prefix-kept
+array-share-prefix-kept c = search needs
 
-put-rows-requires : tie.Need-put-rows-requires
-put-rows-requires c κs = record { asked = c .before .before .before .before .before .before .before .before .before .before .before .before .before .before .before .before .before .before .before .before .before .before .before .before .pre; ready = c .before .before .before .before .before .before .before .before .before .before .before .before .before .before .before .before .before .tables-of .ensures }
+slice-aggregate-put-bytes-2 : tie.Need-slice-aggregate-put-bytes-2
+slice-aggregate-put-bytes-2 c = sym (length-take-le _ _ (omega arith))
+
+put-bytes-requires-2 : tie.Need-put-bytes-requires-2
+put-bytes-requires-2 c κs = search needs
 
 same-length : tie.Need-same-length
 same-length c = search needs
 
 returns-3 : tie.Need-returns-3
 unfolding answerOf
-returns-3 c = let a = c .before .before .before .before .before .before .before .before .before .before .before .before .before .before .before .before .before .before .before .before .before .before .before .before .before .before .before .args in list-whole (a .table .now) (a .start) (a .high) (a .low) (c .before .before .before .before .before .before .before .before .before .before .before .before .before .before .before .before .before .before .before .before .before .before .before .before .before .before .before .pre) _ _ _ (a .out .now) _ _ _ _ _ _ (c .before .before .before .before .before .before .before .before .before .before .before .before .before .before .before .before .before .before .rows-room .ensures) (c .before .before .before .before .before .before .before .before .before .before .before .before .before .before .before .before .left .given .1) (c .before .before .before .before .before .before .before .before .before .before .before .before .put-heading .ensures) (length-replicate {A = ℕ} 128 0) (c .before .before .before .before .before .before .before .before .before .before .if1 .left) (c .before .before .before .before .before .before .before .put-bytes .ensures) (c .before .before .put-rows .ensures)
+returns-3 c = let a = c .before .before .before .before .before .before .before .before .before .before .before .before .before .before .before .before .before .before .before .before .before .before .before .before .args in let p = c .before .before .before .before .before .before .before .before .before .before .before .before .before .before .before .before .before .before .before .before .before .before .before .before .pre in let t = c .before .before .before .before .before .before .before .before .before .before .before .before .before .before .before .before .before .before .take-entries .ensures in let x = list-kept (a .table .now) (a .block .now) (a .ask .now) p (a .out .now) _ _ refl (_, _) t (c .before .before .before .before .before .before .before .before .before .before .before .before .before .before .before .if1 .left) (replicate 128 0) _ _ (length-replicate {A = ℕ} 128 0) (c .before .before .before .before .before .before .before .before .before .before .before .before .before .put-heading .ensures) (c .before .before .before .before .before .before .before .before .before .before .before .if2 .left) (_, _) (c .before .before .before .before .before .before .before .before .put-bytes .ensures) (omega arith) (omega arith) (_, _) (c .before .before .put-bytes2 .ensures) in (x .0, (x .1, c .before .before .before .before .before .before .before .before .before .before .before .before .before .before .before .before .found-by .ensures ∙ found-taken (a .table .now) _ _ _ (_, _) refl t))
+
+take-entries-requires-2 : tie.Need-take-entries-requires-2
+take-entries-requires-2 c κs = search needs
+
+same-length-2 : tie.Need-same-length-2
+same-length-2 c = search needs
+
+returns-4 : tie.Need-returns-4
+unfolding answerOf
+returns-4 c = let a = c .before .before .before .before .before .before .before .before .before .before .before .before .before .before .before .before .before .before .before .before .before .before .before .args in let p = c .before .before .before .before .before .before .before .before .before .before .before .before .before .before .before .before .before .before .before .before .before .before .before .pre in let t = c .before .before .before .before .before .before .before .before .before .before .before .before .before .before .before .before .before .take-entries .ensures in let x = list-again (a .table .now) (a .block .now) (a .ask .now) p (a .out .now) _ _ refl (_, _) t (c .before .before .before .before .before .before .before .before .before .before .before .before .before .before .if1 .left) (replicate 128 0) _ _ (length-replicate {A = ℕ} 128 0) (c .before .before .before .before .before .before .before .before .before .before .before .before .put-heading .ensures) (c .before .before .before .before .before .before .before .before .before .before .if2 .left) (_, _) (c .before .before .before .before .before .before .before .put-bytes .ensures) _ refl refl (_, _) (c .before .before .take-entries2 .ensures) in (x .0, (x .1, c .before .before .before .before .before .before .before .before .before .before .before .before .before .before .before .found-by .ensures ∙ found-taken (a .table .now) _ _ _ (_, _) refl t))
 
 pub list-spec : {M : Type 1} → statement M
 list-spec =
     tie.close
     (tie.spec
-    slice-aggregate-hint-table
-    hint-table-requires
-    slice-aggregate-tables-of
-    tables-of-requires
-    slice-aggregate-rows-room
-    rows-room-requires
-    enum-known-left
-    enum-told
+    slice-aggregate-take-entries
+    take-entries-requires
+    found-by-requires
     returns
     slice-aggregate-put-heading
-    slice-aggregate-put-heading-2
     put-heading-requires
+    sub-if2
     returns-2
+    add-size
     array-share-prefix-head
     slice-aggregate-put-bytes
     put-bytes-requires
-    slice-aggregate-put-rows
-    put-rows-requires
+    array-share-prefix-kept
+    slice-aggregate-put-bytes-2
+    put-bytes-requires-2
     same-length
-    returns-3)
+    returns-3
+    take-entries-requires-2
+    same-length-2
+    returns-4)

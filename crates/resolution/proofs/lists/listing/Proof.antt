@@ -1,53 +1,39 @@
 use Prim.Native.Nat.{ℕ}
 use Rattle.text_field.specs.Answer.{answerOf}
-use Rattle.resolution.proofs.Heads.{read-refused, read-written, made-read, made-listed}
+use Rattle.resolution.proofs.Reading.{read-refused, read-written, made-read, made-listed}
 use lib.ListN.{length-replicate}
 use borrow.Author.Needs.{needs}
 use Rattle.resolution.proofs.lists.listing.Statement.{statement}
 use Rattle.resolution.proofs.lists.listing.Tie as tie
-use Rattle.resolution.proofs.lists.listing.Reads as reads
-use Rattle.resolution.proofs.lists.listing.Lts as lts
-use Rattle.graph_file.proofs.read.Reads as read-reads
-use Rattle.resolution.proofs.lists.listing_of.Reads as listing-of-reads
 
--- src/lists.rt:69:24
 slice-aggregate-read : tie.Need-slice-aggregate-read
 slice-aggregate-read c = search needs
 
--- src/lists.rt:69:9
 read-requires : tie.Need-read-requires
 read-requires c κs = search needs
 
--- src/lists.rt:71:25
 enum-known-a : tie.Need-enum-known-a
 enum-known-a c = search needs
 
--- src/lists.rt:72:25
 enum-known-a-2 : tie.Need-enum-known-a-2
 enum-known-a-2 c = search needs
 
--- src/lists.rt:72:42
 array-share-prefix-table : tie.Need-array-share-prefix-table
 array-share-prefix-table c = let a = c .before .before .before .before .before .before .before .before .args in read-written (a .text .now) _ _ _ _ (length-replicate {A = ℕ} 12271 0) (c .before .before .before .before .read .ensures .0) (c .before .before .before .before .read .ensures .1) (c .before .a2 .given .1) .within
 
--- src/lists.rt:72:42
 slice-aggregate-listing-of : tie.Need-slice-aggregate-listing-of
 slice-aggregate-listing-of c = let a = c .before .before .before .before .before .before .before .before .before .args in read-written (a .text .now) _ _ _ _ (length-replicate {A = ℕ} 12271 0) (c .before .before .before .before .before .read .ensures .0) (c .before .before .before .before .before .read .ensures .1) (c .before .before .a2 .given .1) .taken
 
--- src/lists.rt:72:31
 listing-of-requires : tie.Need-listing-of-requires
 listing-of-requires c κs = let a = c .before .before .before .before .before .before .before .before .before .before .args in made-read (a .text .now) _ _ (read-written (a .text .now) _ _ _ _ (length-replicate {A = ℕ} 12271 0) (c .before .before .before .before .before .before .read .ensures .0) (c .before .before .before .before .before .before .read .ensures .1) (c .before .before .before .a2 .given .1))
 
--- src/lists.rt:64:1
 returns : tie.Need-returns
 unfolding answerOf
 returns c = let a = c .before .before .before .before .before .before .before .before .args in read-refused (a .text .now) (a .query) _ _ _ (a .out .now) (length-replicate {A = ℕ} 12271 0) (c .before .before .before .before .read .ensures .0) (c .before .a .given .1)
 
--- src/lists.rt:64:1
 same-length : tie.Need-same-length
 same-length c = search needs
 
--- src/lists.rt:64:1
 returns-2 : tie.Need-returns-2
 returns-2 c = let a = c .before .before .before .before .before .before .before .before .before .before .before .before .before .args in made-listed (a .text .now) (a .query) _ _ (read-written (a .text .now) _ _ _ _ (length-replicate {A = ℕ} 12271 0) (c .before .before .before .before .before .before .before .before .before .read .ensures .0) (c .before .before .before .before .before .before .before .before .before .read .ensures .1) (c .before .before .before .before .before .before .a2 .given .1)) _ _ (a .out .now) (c .before .before .listing-of .ensures)
 

@@ -1,61 +1,43 @@
--- `figures_of` meets its contract: what is counted so far, and the queries from here on, give the whole. Assumes nothing.
-use Prim.Native.Nat.{_+_, _-_, _≤_}
-use mathlib.Core.Path.{_≡_, refl, _∙_}
+-- `figures_of` meets its contract. The loop's invariant: what is counted so far, with the queries that are
+-- left, gives the whole. Assumes nothing.
+use Prim.Native.Nat.{_-_, _≤_}
+use mathlib.Core.Path.{ap, _∙_}
 use native.Mathlib.Omega.{arith}
 use borrow.Author.Needs.{needs}
-use lib.ListN.{drop}
-use Rattle.graph_file.specs.Decode.{queriesOf}
-use Rattle.resolution.specs.Figures.{noFigures, figuresOver}
-use Rattle.resolution.proofs.Heads.{count-is, query-asked}
-use Rattle.resolution.proofs.Counts.{after-sum, queries-few, figures-next, figures-end}
+use Rattle.resolution.specs.Listing.{foundFor}
+use Rattle.resolution.proofs.Counts.{Counted, counted-none, counted-turn, counted-all, queries-few}
 use Rattle.resolution.proofs.sums.figures_of.Statement.{statement}
 use Rattle.resolution.proofs.sums.figures_of.Tie as tie
 
 abbrev Inv-loop : tie.InvT-loop
-Inv-loop table queries n hint c₀ i₀ c i = (i ≤ n) × (c .one + c .several + c .none ≡ i) × (figuresOver table c (drop i (queriesOf table)) ≡ figuresOver table noFigures (queriesOf table))
+Inv-loop table block n c₀ i₀ c i = (i ≤ n) × Counted table i c
 
 abbrev μ-loop : tie.MeasureT-loop
-μ-loop table queries n hint c₀ i₀ c i = n - i
+μ-loop table block n c₀ i₀ c i = n - i
 
-section-requires : tie.Need-section-requires Inv-loop μ-loop
-section-requires c κs = search needs
+query-count-requires : tie.Need-query-count-requires Inv-loop μ-loop
+query-count-requires c κs = search needs
 
-row-count-requires : tie.Need-row-count-requires Inv-loop μ-loop
-row-count-requires c κs = search needs
-
-slice-aggregate-hint-table : tie.Need-slice-aggregate-hint-table Inv-loop μ-loop
-slice-aggregate-hint-table c = search needs
-
-hint-table-requires : tie.Need-hint-table-requires Inv-loop μ-loop
-hint-table-requires c κs = search needs
+no-figures-requires : tie.Need-no-figures-requires Inv-loop μ-loop
+no-figures-requires c κs = search needs
 
 loop-holds : tie.Need-loop-holds Inv-loop μ-loop
-unfolding noFigures
-loop-holds c = (omega arith, refl, refl)
+loop-holds c = (omega arith, counted-none (c .before .before .before .before .args .table .now) _ (c .no-figures .ensures))
 
-row-value-requires : tie.Need-row-value-requires Inv-loop μ-loop
-row-value-requires c κs = search needs
+query-at-requires : tie.Need-query-at-requires Inv-loop μ-loop
+query-at-requires c κs = let a = c .before .before .before .before .before .before .args in let p = c .before .before .before .before .before .before .pre in let n = c .before .before .before .query-count .ensures in (p .0, (p .1, omega arith))
 
-row-value-requires-2 : tie.Need-row-value-requires-2 Inv-loop μ-loop
-row-value-requires-2 c κs = search needs
-
-row-value-requires-3 : tie.Need-row-value-requires-3 Inv-loop μ-loop
-row-value-requires-3 c κs = search needs
-
-slice-aggregate-tables-of : tie.Need-slice-aggregate-tables-of Inv-loop μ-loop
-slice-aggregate-tables-of c = search needs
-
-tables-of-requires : tie.Need-tables-of-requires Inv-loop μ-loop
-tables-of-requires c κs = search needs
+ask-of-requires : tie.Need-ask-of-requires Inv-loop μ-loop
+ask-of-requires c κs = (c .before .before .before .before .before .before .before .pre .1, c .query-at .ensures .1)
 
 slice-aggregate-found-of : tie.Need-slice-aggregate-found-of Inv-loop μ-loop
 slice-aggregate-found-of c = search needs
 
 found-of-requires : tie.Need-found-of-requires Inv-loop μ-loop
-found-of-requires c κs = record { asked = query-asked (c .before .before .before .before .before .before .before .before .before .before .before .before .before .before .args .table .now) (c .before .before .before .before .before .before .before .before .before .before .before .before .before .before .pre) _ (c .before .before .before .before .before .before .before .loop .i) _ (c .before .before .before .before .before .before .before .before .before .before .before .before .section .ensures) (c .before .before .before .before .before .before .before .before .before .before .before .row-count .ensures) (c .before .before .before .before .before .before .loop-test .taken) _ _ _ (c .before .before .before .before .before .row-value .ensures) (c .before .before .before .before .row-value2 .ensures) (c .before .before .before .row-value3 .ensures); ready = c .before .tables-of .ensures }
+found-of-requires c κs = c .before .ask-of .ensures .ready
 
 counted-requires : tie.Need-counted-requires Inv-loop μ-loop
-counted-requires c κs = let k = count-is (c .before .before .before .before .before .before .before .before .before .before .before .before .before .before .before .args .table .now) (c .before .before .before .before .before .before .before .before .before .before .before .before .before .before .before .pre) _ (c .before .before .before .before .before .before .before .before .loop .i) _ (c .before .before .before .before .before .before .before .before .before .before .before .before .before .section .ensures) (c .before .before .before .before .before .before .before .before .before .before .before .before .row-count .ensures) in let f = queries-few (c .before .before .before .before .before .before .before .before .before .before .before .before .before .before .before .args .table .now) (c .before .before .before .before .before .before .before .before .before .before .before .before .before .before .before .pre) in let s = c .before .before .before .before .before .before .before .before .loop .inv .1 in let l = c .before .before .before .before .before .before .before .loop-test .taken in omega arith
+counted-requires c κs = let a = c .before .before .before .before .before .before .before .before .before .before .args in let p = c .before .before .before .before .before .before .before .before .before .before .pre in let q = queries-few (a .table .now) (p .0) in let n = c .before .before .before .before .before .before .before .query-count .ensures in let t = c .before .before .before .before .before .loop .inv .1 .0 in omega arith
 
 add-i : tie.Need-add-i Inv-loop μ-loop
 add-i c = omega arith
@@ -64,10 +46,10 @@ loop-less : tie.Need-loop-less Inv-loop μ-loop
 loop-less c = omega arith
 
 loop-again : tie.Need-loop-again Inv-loop μ-loop
-loop-again c = let s = after-sum _ _ _ (c .counted .ensures) in let v = c .before .before .before .before .before .before .before .before .before .loop .inv .1 in let l = c .before .before .before .before .before .before .before .before .loop-test .taken in (omega arith, omega arith, figures-next (c .before .before .before .before .before .before .before .before .before .before .before .before .before .before .before .before .args .table .now) (c .before .before .before .before .before .before .before .before .before .before .before .before .before .before .before .before .pre) _ (c .before .before .before .before .before .before .before .before .before .loop .i) _ (c .before .before .before .before .before .before .before .before .before .before .before .before .before .before .section .ensures) (c .before .before .before .before .before .before .before .before .before .before .before .before .before .row-count .ensures) (c .before .before .before .before .before .before .before .before .loop-test .taken) _ _ _ (c .before .before .before .before .before .before .before .row-value .ensures) (c .before .before .before .before .before .before .row-value2 .ensures) (c .before .before .before .before .before .row-value3 .ensures) _ _ _ (c .before .found-of .ensures) (c .counted .ensures) ∙ c .before .before .before .before .before .before .before .before .before .loop .inv .2)
+loop-again c = let a = c .before .before .before .before .before .before .before .before .before .before .before .args in let p = c .before .before .before .before .before .before .before .before .before .before .before .pre in let n = c .before .before .before .before .before .before .before .before .query-count .ensures in let l = c .before .before .before .before .before .before .loop in (omega arith, counted-turn (a .table .now) (l .i) (l .c) _ _ (omega arith) (c .before .found-of .ensures ∙ ap (foundFor (a .table .now)) (c .before .before .before .ask-of .ensures .query ∙ c .before .before .before .before .query-at .ensures .0)) (c .counted .ensures) (l .inv .1))
 
 returns : tie.Need-returns Inv-loop μ-loop
-returns c = let k = count-is (c .before .before .before .before .before .before .before .before .args .table .now) (c .before .before .before .before .before .before .before .before .pre) _ (c .before .loop .i) _ (c .before .before .before .before .before .before .section .ensures) (c .before .before .before .before .before .row-count .ensures) in let l = c .loop-test .left in figures-end (c .before .before .before .before .before .before .before .before .args .table .now) _ (queriesOf (c .before .before .before .before .before .before .before .before .args .table .now)) (c .before .loop .i) (omega arith) ∙ c .before .loop .inv .2
+returns c = let a = c .before .before .before .before .before .before .args in let p = c .before .before .before .before .before .before .pre in let n = c .before .before .before .query-count .ensures in counted-all (a .table .now) (c .before .loop .i) _ (omega arith) (c .before .loop .inv .1)
 
 pub figures-of-spec : {M : Type 1} → statement M
 figures-of-spec =
@@ -75,16 +57,11 @@ figures-of-spec =
     (tie.spec
     Inv-loop
     μ-loop
-    section-requires
-    row-count-requires
-    slice-aggregate-hint-table
-    hint-table-requires
+    query-count-requires
+    no-figures-requires
     loop-holds
-    row-value-requires
-    row-value-requires-2
-    row-value-requires-3
-    slice-aggregate-tables-of
-    tables-of-requires
+    query-at-requires
+    ask-of-requires
     slice-aggregate-found-of
     found-of-requires
     counted-requires

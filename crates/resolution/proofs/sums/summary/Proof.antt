@@ -1,53 +1,39 @@
 use Prim.Native.Nat.{ℕ}
 use lib.ListN.{length-replicate}
 use Rattle.text_field.specs.Answer.{answerOf}
-use Rattle.resolution.proofs.Heads.{sum-refused, read-written, made-read, made-summed}
+use Rattle.resolution.proofs.Reading.{sum-refused, read-written, made-read, made-summed}
 use borrow.Author.Needs.{needs}
 use Rattle.resolution.proofs.sums.summary.Statement.{statement}
 use Rattle.resolution.proofs.sums.summary.Tie as tie
-use Rattle.resolution.proofs.sums.summary.Reads as reads
-use Rattle.resolution.proofs.sums.summary.Lts as lts
-use Rattle.graph_file.proofs.read.Reads as read-reads
-use Rattle.resolution.proofs.sums.summary_of.Reads as summary-of-reads
 
--- src/sums.rt:126:24
 slice-aggregate-read : tie.Need-slice-aggregate-read
 slice-aggregate-read c = search needs
 
--- src/sums.rt:126:9
 read-requires : tie.Need-read-requires
 read-requires c κs = search needs
 
--- src/sums.rt:128:25
 enum-known-a : tie.Need-enum-known-a
 enum-known-a c = search needs
 
--- src/sums.rt:129:25
 enum-known-a-2 : tie.Need-enum-known-a-2
 enum-known-a-2 c = search needs
 
--- src/sums.rt:129:42
 array-share-prefix-table : tie.Need-array-share-prefix-table
 array-share-prefix-table c = let a = c .before .before .before .before .before .before .before .before .args in read-written (a .text .now) _ _ _ _ (length-replicate {A = ℕ} 12271 0) (c .before .before .before .before .read .ensures .0) (c .before .before .before .before .read .ensures .1) (c .before .a2 .given .1) .within
 
--- src/sums.rt:129:42
 slice-aggregate-summary-of : tie.Need-slice-aggregate-summary-of
 slice-aggregate-summary-of c = let a = c .before .before .before .before .before .before .before .before .before .args in read-written (a .text .now) _ _ _ _ (length-replicate {A = ℕ} 12271 0) (c .before .before .before .before .before .read .ensures .0) (c .before .before .before .before .before .read .ensures .1) (c .before .before .a2 .given .1) .taken
 
--- src/sums.rt:129:31
 summary-of-requires : tie.Need-summary-of-requires
 summary-of-requires c κs = let a = c .before .before .before .before .before .before .before .before .before .before .args in made-read (a .text .now) _ _ (read-written (a .text .now) _ _ _ _ (length-replicate {A = ℕ} 12271 0) (c .before .before .before .before .before .before .read .ensures .0) (c .before .before .before .before .before .before .read .ensures .1) (c .before .before .before .a2 .given .1))
 
--- src/sums.rt:121:1
 returns : tie.Need-returns
 unfolding answerOf
 returns c = let a = c .before .before .before .before .before .before .before .before .args in sum-refused (a .text .now) _ _ _ (a .out .now) (length-replicate {A = ℕ} 12271 0) (c .before .before .before .before .read .ensures .0) (c .before .a .given .1)
 
--- src/sums.rt:121:1
 same-length : tie.Need-same-length
 same-length c = search needs
 
--- src/sums.rt:121:1
 returns-2 : tie.Need-returns-2
 returns-2 c = let a = c .before .before .before .before .before .before .before .before .before .before .before .before .before .args in made-summed (a .text .now) _ _ (read-written (a .text .now) _ _ _ _ (length-replicate {A = ℕ} 12271 0) (c .before .before .before .before .before .before .before .before .before .read .ensures .0) (c .before .before .before .before .before .before .before .before .before .read .ensures .1) (c .before .before .before .before .before .before .a2 .given .1)) _ _ (a .out .now) (c .before .before .summary-of .ensures)
 

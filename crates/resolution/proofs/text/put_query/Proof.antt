@@ -1,45 +1,41 @@
+-- `put_query` meets its contract. Assumes nothing.
 use Rattle.resolution.proofs.Texts.{query-puts}
 use borrow.Author.Needs.{needs}
 use Rattle.resolution.proofs.text.put_query.Statement.{statement}
 use Rattle.resolution.proofs.text.put_query.Tie as tie
-use Rattle.resolution.proofs.text.put_query.Reads as reads
-use Rattle.resolution.proofs.text.put_query.Lts as lts
-use Rattle.text_field.proofs.put_byte.Reads as put-byte-reads
-use Rattle.text_field.proofs.put_bytes.Reads as put-bytes-reads
-use Rattle.text_field.proofs.put_name.Reads as put-name-reads
-use Rattle.text_field.proofs.put_number.Reads as put-number-reads
 
--- src/text.rt:54:31
 slice-aggregate-put-bytes : tie.Need-slice-aggregate-put-bytes
 slice-aggregate-put-bytes c = search needs
 
--- src/text.rt:54:9
 put-bytes-requires : tie.Need-put-bytes-requires
 put-bytes-requires c κs = search needs
 
--- src/text.rt:55:9
+ask-start-requires : tie.Need-ask-start-requires
+ask-start-requires c κs = search needs
+
 put-number-requires : tie.Need-put-number-requires
 put-number-requires c κs = search needs
 
--- src/text.rt:56:9
 put-byte-requires : tie.Need-put-byte-requires
 put-byte-requires c κs = search needs
 
--- src/text.rt:57:9
+ask-high-requires : tie.Need-ask-high-requires
+ask-high-requires c κs = search needs
+
+ask-low-requires : tie.Need-ask-low-requires
+ask-low-requires c κs = search needs
+
 put-name-requires : tie.Need-put-name-requires
 put-name-requires c κs = search needs
 
--- src/text.rt:58:5
 put-byte-requires-2 : tie.Need-put-byte-requires-2
 put-byte-requires-2 c κs = search needs
 
--- src/text.rt:51:1
 same-length : tie.Need-same-length
 same-length c = search needs
 
--- src/text.rt:51:1
 returns : tie.Need-returns
-returns c = query-puts _ _ _ _ _ _ _ _ _ (c .before .before .before .before .before .before .before .before .before .before .before .before .before .before .before .before .before .before .put-bytes .ensures) (c .before .before .before .before .before .before .before .before .before .before .before .before .before .before .put-number .ensures) (c .before .before .before .before .before .before .before .before .before .before .put-byte .ensures) (c .before .before .before .before .before .before .put-name .ensures) (c .before .before .put-byte2 .ensures)
+returns c = query-puts (c .before .before .before .before .before .before .before .before .before .before .before .before .before .before .before .before .before .before .before .before .before .before .before .before .before .before .args .ask .now) _ _ _ _ _ _ _ _ _ (c .before .before .before .before .before .before .before .before .before .before .before .before .before .before .before .before .before .ask-start .ensures) (c .before .before .before .before .before .before .before .before .ask-high .ensures) (c .before .before .before .before .before .before .before .ask-low .ensures) (c .before .before .before .before .before .before .before .before .before .before .before .before .before .before .before .before .before .before .before .before .before .put-bytes .ensures) (c .before .before .before .before .before .before .before .before .before .before .before .before .before .before .before .before .put-number .ensures) (c .before .before .before .before .before .before .before .before .before .before .before .before .put-byte .ensures) (c .before .before .before .before .before .before .put-name .ensures) (c .before .before .put-byte2 .ensures)
 
 pub put-query-spec : {M : Type 1} → statement M
 put-query-spec =
@@ -47,8 +43,11 @@ put-query-spec =
     (tie.spec
     slice-aggregate-put-bytes
     put-bytes-requires
+    ask-start-requires
     put-number-requires
     put-byte-requires
+    ask-high-requires
+    ask-low-requires
     put-name-requires
     put-byte-requires-2
     same-length

@@ -1,30 +1,24 @@
-use Rattle.resolution.proofs.Answers.{found-walk}
-use mathlib.Core.Path.{_∙_}
+use mathlib.Core.Path.{refl, _∙_}
+use Rattle.resolution.proofs.Answers.{found-taken}
 use borrow.Author.Needs.{needs}
 use Rattle.resolution.proofs.walks.found_of.Statement.{statement}
 use Rattle.resolution.proofs.walks.found_of.Tie as tie
-use Rattle.resolution.proofs.walks.found_of.Reads as reads
-use Rattle.resolution.proofs.walks.found_of.Lts as lts
-use Rattle.resolution.proofs.walks.room_number.Reads as room-number-reads
-use Rattle.resolution.proofs.walks.walk_entries.Reads as walk-entries-reads
 
--- src/walks.rt:93:54
-slice-aggregate-walk-entries : tie.Need-slice-aggregate-walk-entries
-slice-aggregate-walk-entries c = search needs
+-- `found_of` meets its contract. Assumes nothing.
 
--- src/walks.rt:93:9
-walk-entries-requires : tie.Need-walk-entries-requires
-walk-entries-requires c κs = search needs
+slice-aggregate-take-entries : tie.Need-slice-aggregate-take-entries
+slice-aggregate-take-entries c = search needs
 
--- src/walks.rt:95:5
-room-number-requires : tie.Need-room-number-requires
-room-number-requires c κs = search needs
+take-entries-requires : tie.Need-take-entries-requires
+take-entries-requires c κs = search needs
 
--- src/walks.rt:87:1
+found-by-requires : tie.Need-found-by-requires
+found-by-requires c κs = search needs
+
 returns : tie.Need-returns
-returns c = let a = c .before .before .before .before .before .before .args in c .room-number .ensures ∙ found-walk (a .table .now) (a .start) (a .high) (a .low) (c .before .before .before .before .before .before .pre .asked) _ _ (c .before .before .walk-entries .ensures)
+returns c = let a = c .before .before .before .before .before .before .before .args in c .found-by .ensures ∙ found-taken (a .table .now) _ _ _ (_, _) refl (c .before .before .take-entries .ensures)
 
 pub found-of-spec : {M : Type 1} → statement M
 found-of-spec =
     tie.close
-    (tie.spec slice-aggregate-walk-entries walk-entries-requires room-number-requires returns)
+    (tie.spec slice-aggregate-take-entries take-entries-requires found-by-requires returns)

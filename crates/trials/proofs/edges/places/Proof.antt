@@ -4,7 +4,7 @@ use Prim.Native.Nat.{_-_}
 use borrow.Author.Needs.{needs}
 use native.Mathlib.Omega.{arith}
 use lib.ListN.{length}
-use Rattle.edge_rows.proofs.Laws.{next-row}
+use Rattle.graph_table.proofs.Laws.{next-row}
 use Rattle.trials.proofs.edges.places.Statement.{statement}
 use Rattle.trials.proofs.edges.places.Tie as tie
 

@@ -1,0 +1,15 @@
+-- `ask_high` meets its contract. Assumes nothing.
+use borrow.Author.Needs.{needs}
+use Rattle.block.specs.Ask.{askHigh}
+use Rattle.block.proofs.ask.ask_high.Statement.{statement}
+use Rattle.block.proofs.ask.ask_high.Tie as tie
+
+shared-slice-read-result : tie.Need-shared-slice-read-result
+shared-slice-read-result c = search needs
+
+returns : tie.Need-returns
+unfolding askHigh
+returns c = search needs
+
+pub ask-high-spec : {M : Type 1} → statement M
+ask-high-spec = tie.close (tie.spec shared-slice-read-result returns)

@@ -1,0 +1,15 @@
+-- `ask_low` meets its contract. Assumes nothing.
+use borrow.Author.Needs.{needs}
+use Rattle.block.specs.Ask.{askLow}
+use Rattle.block.proofs.ask.ask_low.Statement.{statement}
+use Rattle.block.proofs.ask.ask_low.Tie as tie
+
+shared-slice-read-result : tie.Need-shared-slice-read-result
+shared-slice-read-result c = search needs
+
+returns : tie.Need-returns
+unfolding askLow
+returns c = search needs
+
+pub ask-low-spec : {M : Type 1} → statement M
+ask-low-spec = tie.close (tie.spec shared-slice-read-result returns)

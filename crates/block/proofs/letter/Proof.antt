@@ -1,0 +1,21 @@
+-- `letter` meets its contract. Assumes nothing.
+use borrow.Author.Needs.{needs}
+use Rattle.block.specs.Block.{letterCell}
+use Rattle.block.proofs.letter.Statement.{statement}
+use Rattle.block.proofs.letter.Tie as tie
+
+add-result : tie.Need-add-result
+add-result c = search needs
+
+mul-result : tie.Need-mul-result
+mul-result c = search needs
+
+shared-slice-read-result : tie.Need-shared-slice-read-result
+shared-slice-read-result c = search needs
+
+returns : tie.Need-returns
+unfolding letterCell
+returns c = search needs
+
+pub letter-spec : {M : Type 1} → statement M
+letter-spec = tie.close (tie.spec add-result mul-result shared-slice-read-result returns)

@@ -1,0 +1,76 @@
+-- What is read of the board's block, whatever its cells hold. Assumes nothing: these are
+-- definitions.
+use Prim.Native.Nat.{ℕ, zero, suc, _+_, _-_, _*_, _/_, _%_, _≤_}
+use mathlib.Core.Bool.{Bool, true, false, _&&_}
+use mathlib.Core.Option.{Option, some, none}
+use mathlib.Core.List.{List, [], _∷_}
+use lib.Dec.{ltb}
+use lib.ListN.{getD, take, drop}
+use Rattle.scope_graph.specs.Path.{HopOf}
+use Rattle.block.specs.Sets.{hasBit}
+use Rattle.block.specs.Layout.{DELTA, BETTER, ACCEPT, SCOPES, USABLE, LETTER, FIRST, EDGE, DECL, STATES}
+
+-- a state, or 16 and above for none
+unfoldable pub stateOf : ℕ → Option ℕ
+stateOf r = elim (ltb r 16) [ true ↦ some r | false ↦ none ]
+
+-- the next state's cell; 16 for a state or label past the table
+unfoldable pub nextCell : List ℕ → ℕ → ℕ → ℕ
+nextCell block q l = elim (ltb q 16 && ltb l 8) [ true ↦ getD block (DELTA + (q * 8 + l)) 16 | false ↦ 16 ]
+
+-- the accepting states, the states in which an end is usable, and a label's letter
+unfoldable pub acceptSet : List ℕ → ℕ
+acceptSet block = getD block ACCEPT 0
+
+unfoldable pub usableSet : List ℕ → ℕ → ℕ
+usableSet block e = getD block (USABLE + e) 0
+
+unfoldable pub letterCell : List ℕ → ℕ → ℕ
+letterCell block l = getD block (LETTER + l) 0
+
+-- the number of scopes
+unfoldable pub scopesCell : List ℕ → ℕ
+scopesCell block = getD block SCOPES 0
+
+-- one past the last state from which a label leads on; that it is: no label leads on from there
+unfoldable pub statesCell : List ℕ → ℕ
+statesCell block = getD block STATES 0
+
+abbrev pub Still : List ℕ → Type 0
+Still block = (q l : ℕ) → statesCell block ≤ q → 16 ≤ nextCell block q l
+
+-- is the end with number a preferred to the one with number c? Ends past the table are not
+-- compared.
+unfoldable pub pairFlag : List ℕ → ℕ → ℕ → Bool
+pairFlag block a c = elim (ltb a 9 && ltb c 9) [ true ↦ hasBit (getD block (BETTER + c) 0) a | false ↦ false ]
+
+-- the number of the scope's first edge; edge number p; the hop of an edge
+unfoldable pub firstEdge : List ℕ → ℕ → ℕ
+firstEdge block s = getD block (FIRST + s) 0
+
+unfoldable pub edgeCell : List ℕ → ℕ → ℕ
+edgeCell block p = getD block (EDGE + p % 512) 0
+
+unfoldable pub hopOf : ℕ → HopOf ℕ
+hopOf x = record { step = x / 64 % 8; to = x % 64 }
+
+-- the hops of n edges from number p on
+unfoldable pub hopsFrom : List ℕ → ℕ → ℕ → List (HopOf ℕ)
+hopsFrom block p zero = []
+hopsFrom block p (suc n) = hopOf (edgeCell block p) ∷ hopsFrom block (suc p) n
+
+-- the hops that leave the scope by its edges from number p on
+unfoldable pub hopsOn : List ℕ → ℕ → ℕ → List (HopOf ℕ)
+hopsOn block s p = hopsFrom block p (firstEdge block (suc s) - p)
+
+-- all hops that leave a scope; one past the last scope has none
+unfoldable pub blockHops : List ℕ → ℕ → List (HopOf ℕ)
+blockHops block s = elim (ltb s 64) [ true ↦ hopsOn block s (firstEdge block s) | false ↦ [] ]
+
+-- where a scope's declarations start in the graph table, and the part of the table that they are
+unfoldable pub firstDeclaration : List ℕ → ℕ → ℕ
+firstDeclaration block s = getD block (DECL + s) 0
+
+unfoldable pub declaredPart : List ℕ → List ℕ → ℕ → List ℕ
+declaredPart block table s =
+    take (firstDeclaration block (suc s) - firstDeclaration block s) (drop (firstDeclaration block s) table)

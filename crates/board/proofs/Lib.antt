@@ -1,0 +1,21 @@
+-- The laws that the proofs of this crate share. Assumes nothing.
+pub mod Fill
+pub mod Sets
+pub mod Passes
+pub mod StateCells
+pub mod CellLaws
+pub mod EdgeCells
+pub mod EdgeLaws
+pub mod DeclaringLaws
+pub mod FillLaws
+pub mod SectionLaws
+pub mod Ascending
+pub mod Accepted
+pub mod Capitals
+pub mod Queries
+pub mod Texts
+pub mod Example
+pub mod Declared
+pub mod Hops
+pub mod States
+pub mod Board

@@ -1,0 +1,62 @@
+// The declarations: which scopes declare a name, and where each scope's rows stand.
+use graph_table::DeclarationRow;
+use graph_table::SCOPE;
+use graph_table::declaration_row;
+use graph_table::rows_from;
+ghost use mathlib.Core.Path.{_≡_};
+ghost use mathlib.Core.Bool.{Bool, _&&_};
+ghost use mathlib.Core.List.{List};
+ghost use Prim.Native.Nat.{ℕ, _+_, _≤_, _<_};
+ghost use lib.Dec.{eqb};
+ghost use lib.ListN.{length};
+ghost use Rattle.board.specs.Tables.{tabulate};
+ghost use Rattle.board.specs.Marks.{DeclaringIs, declaredCell};
+
+// Does the row declare the name?
+fn has_name(row: DeclarationRow, high: u64, low: u64) -> bool
+    ensures answer { λ r. ⌜ r ≡ (eqb (row .high) high && eqb (row .low) low) ⌝ }
+{
+    if row.high == high {
+        row.low == low
+    } else {
+        false
+    }
+}
+
+// The scopes that declare the name, as a set.
+pub fn declaring(rows: &[u64], high: u64, low: u64) -> u64
+    ensures answer { λ r. ⌜ DeclaringIs (now (rows .entry)) (record { high = high; low = low }) r ⌝ }
+{
+    let mut out: u64 = 0;
+    let mut p = 0;
+    while 6 <= rows.len() - p {
+        let row = declaration_row(rows, p);
+        p += 6;
+        if !has_name(row, high, low) {
+            continue;
+        }
+        let at = row.at;
+        if 64 <= at {
+            continue;
+        }
+        out = out | (1 << at);
+    }
+    out
+}
+
+// Where each scope's declarations start in the table, in which the rows stand at `from`; and where
+// the last one's end. One pass, as each is looked for from the one before it on.
+pub fn declared_table(rows: &[u64], from: usize) -> [u64; 65]
+    requires room { ⌜ from + length (now rows) < 18446744073709551616 ⌝ }
+    ensures answer { λ r. ⌜ r ≡ tabulate (declaredCell from (now (rows .entry))) 65 ⌝ }
+{
+    let mut t = [0; 65];
+    let mut p: usize = 0;
+    let mut s: u64 = 0;
+    while s < 65 {
+        p = rows_from(rows, SCOPE, s, p);
+        t[s as usize] = (from + p) as u64;
+        s += 1;
+    }
+    t
+}

@@ -1,0 +1,14 @@
+// The board: a file's tables, made of its graph table once and put into the lent block.
+mod automaton;
+mod cells;
+mod declarations;
+mod edges;
+mod hints;
+mod letters;
+mod making;
+mod order;
+mod sections;
+
+pub use declarations::declaring;
+pub use making::put_board;
+pub use sections::part;

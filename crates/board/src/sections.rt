@@ -1,0 +1,37 @@
+// Where the sections' rows stand: found once, and kept in the block.
+use block::START;
+use graph_table::SECTION;
+use graph_table::first_row;
+use graph_table::rows_from;
+ghost use mathlib.Core.Path.{_≡_};
+ghost use Prim.Native.Nat.{_<_};
+ghost use Rattle.graph_table.specs.Sections.{startCell, partOf};
+ghost use Rattle.board.specs.Tables.{tabulate};
+ghost use Rattle.board.specs.Made.{Made};
+
+// Where each section's rows start, and where the last one's end: one pass, as each is looked for
+// from the one before it on.
+pub fn starts(table: &[u64]) -> [u64; 10]
+    ensures answer { λ r. ⌜ r ≡ tabulate (startCell (now (table .entry))) 10 ⌝ }
+{
+    let mut t = [0; 10];
+    let mut p = first_row(table);
+    let mut k: u64 = 0;
+    while k < 10 {
+        p = rows_from(table, SECTION, k, p);
+        t[k as usize] = p as u64;
+        k += 1;
+    }
+    t
+}
+
+// The rows of section k, found by the places that the board's block has.
+pub fn part<'a>(table: &'a [u64], block: &[u64], k: usize) -> &'a [u64]
+    requires made { ⌜ Made (now table) (now block) ⌝ }
+    requires section { ⌜ k < 9 ⌝ }
+    ensures answer { λ r. ⌜ now r ≡ partOf k (now (table .entry)) ⌝ }
+{
+    let from = block[START + k] as usize;
+    let to = block[START + k + 1] as usize;
+    &table[from..to]
+}

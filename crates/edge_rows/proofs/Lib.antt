@@ -1,4 +1,0 @@
--- Laws of the rows of a scope, the promises, worked examples.
-pub mod Laws
-pub mod Promises
-pub mod Examples

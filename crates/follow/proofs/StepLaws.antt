@@ -1,0 +1,61 @@
+-- Laws of the hops that the walk passes over on the way to the next that it follows. Assumes
+-- nothing.
+use mathlib.Core.Path.{_≡_, sym, ap, _∙_}
+use mathlib.Core.Bool.{Bool, true, false}
+use mathlib.Core.Logic.{_⊎_, inl, inr, ⊎-elim}
+use mathlib.Core.List.{List, _∷_, _++_, append-assoc, List·Memᴰ·cases-cons, List·Memᴰ·append-cases}
+use Prim.Native.Nat.{ℕ, suc, _+_, _/_, _%_, _≤_, _<_}
+use native.Mathlib.Omega.{arith}
+use native.Mathlib.Numerals.{add-one}
+use Rattle.scope_graph.specs.Order.{endOf}
+use Rattle.scope_graph.specs.Path.{HopOf}
+use Rattle.block.specs.Sets.{hasScope}
+use Rattle.block.specs.Block.{firstEdge, edgeCell, hopOf, hopsOn}
+use Rattle.block.specs.Ask.{askGoal}
+use Rattle.search.specs.Board.{cutHere}
+use Rattle.search.specs.Tables.{tableOrder, tableBoard}
+use Rattle.search.specs.Steps.{worthState, NextHop}
+use Rattle.search.specs.declared.Node.{Node}
+use Rattle.follow.specs.Steps.{endCut, Skipped, NextFollowed}
+
+module _ (block ask onward : List ℕ) (n : Node) (p : ℕ) where
+  -- hops that are worth nothing
+  pub skip-idle : (r : ℕ) → NextHop block onward n 8 p r → Skipped block ask onward n p r
+  skip-idle r next = record { on = next .on; skipped = next .skipped; split = next .split; idle = λ h m. inl (next .idle h m) }
+
+  -- one more whose label is cut, and again hops that are worth nothing
+  pub skip-cut : (k i r : ℕ) → Skipped block ask onward n p i → NextHop block onward n 8 k i → i < firstEdge block (suc (n .scope))
+      → endCut block ask n (hopOf (edgeCell block i) .step) ≡ true → NextHop block onward n 8 (i + 1) r
+      → Skipped block ask onward n p r
+  skip-cut k i r past here inside cut next = record {
+    on = omega (arith, past .on, next .on);
+    skipped = past .skipped ++ (hopOf (edgeCell block i) ∷ next .skipped);
+    split =
+        past .split
+        ∙ ap (λ (z : List (HopOf ℕ)). past .skipped ++ z)
+        (here .found inside ∙ ap (λ (z : List (HopOf ℕ)). hopOf (edgeCell block i) ∷ z) (rw (add-one i) at (next .split)))
+        ∙ sym (append-assoc (past .skipped) (hopOf (edgeCell block i) ∷ next .skipped) (hopsOn block (n .scope) r));
+    idle = λ h m. ⊎-elim (past .idle h) (λ t. ⊎-elim (first h) (λ u. inl (next .idle h u)) (List·Memᴰ·cases-cons t))
+        (List·Memᴰ·append-cases (past .skipped) m);
+  }
+    where
+      first : (h : HopOf ℕ) → h ≡ hopOf (edgeCell block i)
+          → (16 ≤ worthState block onward (n .free) (n .state) 8 h) ⊎ (endCut block ask n (h .step) ≡ true)
+      first h e = inr (rw e cut)
+
+  -- the next that is followed
+  pub next-is : (k r : ℕ) → Skipped block ask onward n p r → NextHop block onward n 8 k r
+      → (r < firstEdge block (suc (n .scope)) → endCut block ask n (hopOf (edgeCell block r) .step) ≡ false)
+      → NextFollowed block ask onward n p r
+  next-is k r past here uncut = record {
+    past = past;
+    found = λ inside. record { inside = inside; worth = here .worth inside; uncut = uncut inside };
+    none = here .none;
+  }
+
+-- what was learnt of an edge's label, as the code asks about it
+pub label-cut : (block ask : List ℕ) (n : Node) (i x goal : ℕ) (cut : Bool) → x ≡ edgeCell block i → goal ≡ askGoal ask
+    → cut ≡ cutHere (tableBoard block goal) (tableOrder block) (n .left) (hasScope (n .free)) (n .scope) (n .state) (endOf (x / 64 % 8 + 1))
+    → endCut block ask n (hopOf (edgeCell block i) .step) ≡ cut
+unfolding endOf hopOf
+label-cut block ask n i x goal cut e g says = sym (rw (add-one (edgeCell block i / 64 % 8)) at (rw (e, g) at says))

@@ -1,0 +1,163 @@
+// The rows of a graph table by their values. Every read of a row's cell is here: the first cell is
+// the section's number, then come the values.
+use scope_graph::Pair;
+use scope_graph::end_of;
+use text_field::cell;
+ghost use mathlib.Core.Path.{_≡_};
+ghost use Prim.Native.Nat.{_+_, _≤_};
+ghost use lib.ListN.{length, getD, drop};
+ghost use Rattle.scope_graph.specs.Order.{pairMeaning};
+ghost use Rattle.graph_file.specs.Admission.{rowOf};
+ghost use Rattle.graph_file.specs.Decode.{orderPairOf};
+ghost use Rattle.graph_file.specs.Line.{startsWith};
+ghost use Rattle.graph_table.specs.Values.{pairRow, transitionRow, edgeRow, declarationRow, openRow, queryRow};
+
+// `less more`: ends by their numbers
+pub struct PairRow {
+    pub less: u64,
+    pub more: u64,
+}
+
+// `state label next`
+pub struct TransitionRow {
+    pub state: u64,
+    pub label: u64,
+    pub next: u64,
+}
+
+// `from label to`
+pub struct EdgeRow {
+    pub from: u64,
+    pub label: u64,
+    pub to: u64,
+}
+
+// `at name mark`: the name's two numbers
+pub struct DeclarationRow {
+    pub at: u64,
+    pub high: u64,
+    pub low: u64,
+    pub mark: u64,
+}
+
+// `at open`: the end by its number
+pub struct OpenRow {
+    pub at: u64,
+    pub end: u64,
+}
+
+// `start seek`
+pub struct QueryRow {
+    pub start: u64,
+    pub high: u64,
+    pub low: u64,
+}
+
+// The first value of the row at place p: all that a row `label`, `accept` or `scopes` has.
+pub fn first_value(rows: &[u64], p: usize) -> u64
+    requires whole { ⌜ p + 6 ≤ length (now rows) ⌝ }
+    ensures answer { λ r. ⌜ r ≡ getD (now (rows .entry)) (p + 1) 0 ⌝ }
+{
+    rows[p + 1]
+}
+
+pub fn pair_row(rows: &[u64], p: usize) -> PairRow
+    requires whole { ⌜ p + 6 ≤ length (now rows) ⌝ }
+    ensures answer { λ r. ⌜ r ≡ pairRow (now (rows .entry)) p ⌝ }
+{
+    PairRow {
+        less: rows[p + 1],
+        more: rows[p + 2],
+    }
+}
+
+pub fn transition_row(rows: &[u64], p: usize) -> TransitionRow
+    requires whole { ⌜ p + 6 ≤ length (now rows) ⌝ }
+    ensures answer { λ r. ⌜ r ≡ transitionRow (now (rows .entry)) p ⌝ }
+{
+    TransitionRow {
+        state: rows[p + 1],
+        label: rows[p + 2],
+        next: rows[p + 3],
+    }
+}
+
+pub fn edge_row(rows: &[u64], p: usize) -> EdgeRow
+    requires whole { ⌜ p + 6 ≤ length (now rows) ⌝ }
+    ensures answer { λ r. ⌜ r ≡ edgeRow (now (rows .entry)) p ⌝ }
+{
+    EdgeRow {
+        from: rows[p + 1],
+        label: rows[p + 2],
+        to: rows[p + 3],
+    }
+}
+
+pub fn declaration_row(rows: &[u64], p: usize) -> DeclarationRow
+    requires whole { ⌜ p + 6 ≤ length (now rows) ⌝ }
+    ensures answer { λ r. ⌜ r ≡ declarationRow (now (rows .entry)) p ⌝ }
+{
+    DeclarationRow {
+        at: rows[p + 1],
+        high: rows[p + 2],
+        low: rows[p + 3],
+        mark: rows[p + 4],
+    }
+}
+
+pub fn open_row(rows: &[u64], p: usize) -> OpenRow
+    requires whole { ⌜ p + 6 ≤ length (now rows) ⌝ }
+    ensures answer { λ r. ⌜ r ≡ openRow (now (rows .entry)) p ⌝ }
+{
+    OpenRow {
+        at: rows[p + 1],
+        end: rows[p + 2],
+    }
+}
+
+pub fn query_row(rows: &[u64], p: usize) -> QueryRow
+    requires whole { ⌜ p + 6 ≤ length (now rows) ⌝ }
+    ensures answer { λ r. ⌜ r ≡ queryRow (now (rows .entry)) p ⌝ }
+{
+    QueryRow {
+        start: rows[p + 1],
+        high: rows[p + 2],
+        low: rows[p + 3],
+    }
+}
+
+// Does a row of section k stand at a place of the table?
+pub fn in_section(table: &[u64], at: usize, k: u64) -> bool
+    ensures answer { λ r. ⌜ r ≡ startsWith k (drop at (now (table .entry))) ⌝ }
+{
+    if table.len() <= at {
+        return false;
+    }
+    table[at] == k
+}
+
+// The letter of the label whose row stands at a place.
+pub fn letter_at(table: &[u64], at: usize) -> u64
+    ensures answer { λ r. ⌜ r ≡ getD (now (table .entry)) (at + 1) 0 ⌝ }
+{
+    if table.len() <= at {
+        return 0;
+    }
+    cell(table, at + 1, 0)
+}
+
+// The order pair whose row stands at a place.
+pub fn order_pair(table: &[u64], at: usize) -> Pair
+    ensures answer { λ r. ⌜ pairMeaning r ≡ orderPairOf (rowOf (drop at (now (table .entry)))) ⌝ }
+{
+    if table.len() <= at {
+        let stop = end_of(0);
+        return Pair {
+            less: stop,
+            more: stop,
+        };
+    }
+    let less = end_of(cell(table, at + 1, 0));
+    let more = end_of(cell(table, at + 2, 0));
+    Pair { less, more }
+}

@@ -1,0 +1,80 @@
+// Is some end on the way of a path row's path cut?
+use crate::hops::behind;
+use crate::hops::state_on;
+use crate::limits::LABELS;
+use crate::limits::NO_STATE;
+use crate::limits::NOTHING_KNOWN;
+use crate::limits::STOP;
+use path_row::compare::label_number;
+use path_row::form::MOST_STEPS;
+use path_row::form::StepRead;
+use path_row::form::next_step;
+use search::Node;
+use search::learn;
+ghost use mathlib.Core.Path.{_≡_};
+ghost use Rattle.scope_graph.specs.Language.{by};
+ghost use Rattle.scope_graph.specs.Order.{endOf};
+ghost use Rattle.path_row.specs.Form.{mostSteps};
+ghost use Rattle.judge.specs.Steps.{Ready, stepHops, endCut, rowCut};
+
+// Is the end with this number cut at the node?
+fn end_cut(block: &[u64], goal: u64, live: &[u64], n: Node, e: u64) -> bool
+    requires ready { ⌜ Ready (now block) goal (now live) n ⌝ }
+    ensures answer { λ r. ⌜ r ≡ endCut (now (block .entry)) goal n (endOf e) ⌝ }
+{
+    let told = learn(block, goal, live, n, NOTHING_KNOWN, e);
+    told.cut
+}
+
+// Is the label with this number, as an end, cut at the node? One past the labels is not.
+fn label_cut(block: &[u64], goal: u64, live: &[u64], n: Node, label: u64) -> bool
+    requires ready { ⌜ Ready (now block) goal (now live) n ⌝ }
+    ensures answer { λ r. ⌜ r ≡ endCut (now (block .entry)) goal n (by label) ⌝ }
+{
+    if LABELS <= label {
+        return false;
+    }
+    end_cut(block, goal, live, n, label + 1)
+}
+
+// Is some end cut where the steps from place `at` of the row on go by it, or `$` where they end?
+// The table of places worth entering serves all the way: a closed one stays closed with fewer free
+// scopes.
+pub fn is_cut(
+    table: &[u64],
+    block: &[u64],
+    goal: u64,
+    live: &[u64],
+    from: Node,
+    row: &[u8],
+    at: usize,
+) -> bool
+    requires ready { ⌜ Ready (now block) goal (now live) from ⌝ }
+    ensures answer { λ r. ⌜ r
+        ≡ rowCut (now (block .entry)) goal from (stepHops (now (table .entry)) (now (row .entry)) mostSteps at) ⌝ }
+{
+    let mut left: usize = MOST_STEPS;
+    let mut i = at;
+    let mut n = from;
+    while left > 0 {
+        let StepRead::Taken(x, v, next) = next_step(row, i) else {
+            return end_cut(block, goal, live, n, STOP);
+        };
+        let to = v as u64;
+        let label = label_number(table, x);
+        if label_cut(block, goal, live, n, label) {
+            return true;
+        }
+        let state = state_on(block, n, label, to);
+        if NO_STATE <= state {
+            return false;
+        }
+        if n.left == 0 {
+            return false;
+        }
+        n = behind(n, to, state, n.left - 1);
+        i = next;
+        left -= 1;
+    }
+    end_cut(block, goal, live, n, STOP)
+}

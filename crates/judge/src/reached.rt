@@ -1,0 +1,101 @@
+// Is a path row's path reached, and is its mark that of a declaration where it ends?
+use crate::hops::behind;
+use crate::hops::state_along;
+use crate::limits::NO_STATE;
+use crate::limits::ROW_CELLS;
+use graph_table::DeclarationRow;
+use graph_table::QueryRow;
+use graph_table::declaration_row;
+use path_row::compare::label_number;
+use path_row::form::MOST_STEPS;
+use path_row::form::StepRead;
+use path_row::form::next_step;
+use search::Node;
+use search::is_goal;
+ghost use mathlib.Core.Path.{_≡_};
+ghost use mathlib.Core.List.{[]};
+ghost use Rattle.block.specs.Layout.{IsBlock};
+ghost use Rattle.search.specs.Conditions.{Inside};
+ghost use Rattle.graph_table.specs.Sections.{rowsOf};
+ghost use Rattle.path_row.specs.Form.{mostSteps};
+ghost use Rattle.judge.specs.Steps.{isMarked, hasMark, stepHops, rowReached};
+
+// Is the declaration that of what is sought, at the scope, with the mark?
+fn is_marked(d: DeclarationRow, sought: QueryRow, mark: u64, s: u64) -> bool
+    ensures answer { λ r. ⌜ r ≡ isMarked sought mark s d ⌝ }
+{
+    if d.at != s {
+        return false;
+    }
+    if d.high != sought.high {
+        return false;
+    }
+    if d.low != sought.low {
+        return false;
+    }
+    mark == d.mark
+}
+
+// Is what is sought declared at the scope with the mark?
+fn has_mark(decls: &[u64], sought: QueryRow, mark: u64, s: u64) -> bool
+    ensures answer { λ r. ⌜ r ≡ hasMark sought mark s (rowsOf (now (decls .entry))) ⌝ }
+{
+    let mut p: usize = 0;
+    while ROW_CELLS <= decls.len() - p {
+        if is_marked(declaration_row(decls, p), sought, mark, s) {
+            return true;
+        }
+        p += ROW_CELLS;
+    }
+    false
+}
+
+// Is what is sought at the node, and declared there with the mark?
+fn ends_here(block: &[u64], decls: &[u64], goal: u64, sought: QueryRow, mark: u64, n: Node) -> bool
+    requires block { ⌜ IsBlock (now block) ⌝ }
+    requires inside { ⌜ Inside n ⌝ }
+    ensures answer { λ r. ⌜ r ≡ rowReached (now (block .entry)) (now (decls .entry)) goal sought mark n [] ⌝ }
+{
+    if !is_goal(block, goal, n.scope, n.state) {
+        return false;
+    }
+    has_mark(decls, sought, mark, n.scope)
+}
+
+// Do the steps from place `at` of the row on lead from the node, along edges and by free scopes, to
+// what is sought, declared with the mark?
+pub fn is_reached(
+    table: &[u64],
+    block: &[u64],
+    decls: &[u64],
+    goal: u64,
+    sought: QueryRow,
+    mark: u64,
+    from: Node,
+    row: &[u8],
+    at: usize,
+) -> bool
+    requires block { ⌜ IsBlock (now block) ⌝ }
+    requires inside { ⌜ Inside from ⌝ }
+    ensures answer { λ r. ⌜ r
+        ≡ rowReached (now (block .entry)) (now (decls .entry)) goal sought mark from
+        (stepHops (now (table .entry)) (now (row .entry)) mostSteps at) ⌝ }
+{
+    let mut left: usize = MOST_STEPS;
+    let mut i = at;
+    let mut n = from;
+    while left > 0 {
+        let StepRead::Taken(x, v, next) = next_step(row, i) else {
+            return ends_here(block, decls, goal, sought, mark, n);
+        };
+        let to = v as u64;
+        let state = state_along(block, n, label_number(table, x), to);
+        if NO_STATE <= state {
+            return false;
+        }
+        n = behind(n, to, state, n.left);
+        i = next;
+        left -= 1;
+    }
+    ends_here(block, decls, goal, sought, mark, n)
+}

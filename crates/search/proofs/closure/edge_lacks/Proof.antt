@@ -1,0 +1,60 @@
+-- `edge_lacks` meets its contract: no place leads on to an empty set, and else the states that
+-- matter are tested. Assumes nothing.
+use mathlib.Core.Path.{sym, _∙_}
+use mathlib.Core.Bool.{true≢false}
+use borrow.Author.Needs.{needs}
+use borrow.Author.Tests.{not-true}
+use Rattle.block.specs.Sets.{hasScope}
+use Rattle.block.specs.Block.{hopOf}
+use Rattle.block.proofs.BlockLaws.{hop-to}
+use Rattle.search.proofs.Closing.{empty-closed, hop-closed}
+use Rattle.search.proofs.closure.edge_lacks.Statement.{statement}
+use Rattle.search.proofs.closure.edge_lacks.Tie as tie
+
+mul-set : tie.Need-mul-set
+mul-set c = search needs
+
+shared-slice-read-set : tie.Need-shared-slice-read-set
+shared-slice-read-set c = search needs
+
+returns : tie.Need-returns
+unfolding hopOf
+returns c = λ e. empty-closed _ _ _ (hasScope (c .before .before .before .before .args .free)) _ (c .before .before .before .before .pre .1 .0) _ (c .before .before .before .before .pre .1 .1 .1) (hopOf (c .before .before .before .before .args .x)) (c .if1 .taken)
+
+has-requires : tie.Need-has-requires
+has-requires c κs = search needs
+
+returns-2 : tie.Need-returns-2
+unfolding hopOf
+returns-2 c = λ e f. absurd (true≢false (sym f ∙ sym (c .before .has .ensures) ∙ not-true _ (c .if2 .taken)))
+
+mul-have : tie.Need-mul-have
+mul-have c = search needs
+
+shared-slice-read-have : tie.Need-shared-slice-read-have
+shared-slice-read-have c = search needs
+
+barred-requires : tie.Need-barred-requires
+barred-requires c κs = search needs
+
+leads-into-requires : tie.Need-leads-into-requires
+leads-into-requires c κs = search needs
+
+returns-3 : tie.Need-returns-3
+unfolding hopOf
+returns-3 c = λ e. hop-closed _ _ _ (hasScope (c .before .before .before .before .before .before .before .before .before .args .free)) _ (c .before .before .before .before .before .before .before .before .before .pre .1 .0) _ (c .before .before .before .before .before .before .before .before .before .pre .1 .1 .1) (hopOf (c .before .before .before .before .before .before .before .before .before .args .x)) (c .before .barred .result) (hop-to (c .before .before .before .before .before .before .before .before .before .args .x)) (c .before .barred .ensures) (c .leads-into .ensures e)
+
+pub edge-lacks-spec : {M : Type 1} → statement M
+edge-lacks-spec =
+    tie.close
+    (tie.spec
+    mul-set
+    shared-slice-read-set
+    returns
+    has-requires
+    returns-2
+    mul-have
+    shared-slice-read-have
+    barred-requires
+    leads-into-requires
+    returns-3)
