@@ -11,7 +11,7 @@ use lib.Bits.{bitAnd, bitOr, bitXor, and-lt, and-shr, and-mod, or-shr, or-mod, x
 use lib.Dec.{eqb, ltb}
 use lib.Pow.{shr-le, shr-lt, shl-exact, split, pow-pos}
 use Rattle.scope_graph.proofs.Lists.{Two, and-left, and-right, and-both}
-use Rattle.block.specs.Sets.{hasBit, hasScope, hasState, placesOf}
+use Rattle.block.specs.Sets.{hasBit, hasScope, hasState, hasLabel, ALL_LABELS, placesOf}
 
 -- an operation on bits that goes digit by digit, by its four answers
 module _
@@ -112,7 +112,7 @@ bits-one k u h below =
 pub one-shifted : (k : ℕ) → k < 64 → 1 * 2 ^ k % 18446744073709551616 ≡ 2 ^ k
 one-shifted k h = shl-exact 1 k 64 (omega arith) (omega arith) ∙ omega arith
 
--- all numbers below 64, and below 16
+-- all numbers below 64, below 16, and below 8
 pub bits-all : (u : ℕ) → u < 64 → hasBit 18446744073709551615 u ≡ true
 unfolding hasBit upTo
 bits-all u h = up-all (λ k. eqb (18446744073709551615 / 2 ^ k % 2) 1) 64 refl u h
@@ -120,6 +120,10 @@ bits-all u h = up-all (λ k. eqb (18446744073709551615 / 2 ^ k % 2) 1) 64 refl u
 bits-states : (u : ℕ) → u < 16 → hasBit 65535 u ≡ true
 unfolding hasBit upTo
 bits-states u h = up-all (λ k. eqb (65535 / 2 ^ k % 2) 1) 16 refl u h
+
+bits-labels : (u : ℕ) → u < 8 → hasBit ALL_LABELS u ≡ true
+unfolding hasBit upTo
+bits-labels u h = up-all (λ k. eqb (ALL_LABELS / 2 ^ k % 2) 1) 8 refl u h
 
 -- a set that is not empty holds a number
 bit-top : (n k : ℕ) → n < 2 ^ suc k → hasBit n k ≡ false → n < 2 ^ k
@@ -277,6 +281,28 @@ states-less = in-less 16
 pub states-one : (k q : ℕ) → k < 16 → hasState (2 ^ k) q ≡ eqb q k
 unfolding hasState within
 states-one = in-one 16 (omega arith)
+
+-- labels: what a set of them holds, and the sets of all and of one
+pub label-in : (set l : ℕ) → l < 8 → hasLabel set l ≡ hasScope set l
+unfolding hasLabel within
+label-in set l h = in-below 8 set l h ∙ sym (scope-in set l (omega arith))
+
+pub labels-all : (l : ℕ) → l < 8 → hasLabel ALL_LABELS l ≡ true
+unfolding hasLabel within
+labels-all l h = in-below 8 ALL_LABELS l h ∙ bits-labels l h
+
+pub label-lacked : (l : ℕ) → hasLabel ALL_LABELS l ≡ false → 8 ≤ l
+label-lacked l h = at (Two (ltb l 8))
+  where
+    at : (ltb l 8 ≡ true) ⊎ (ltb l 8 ≡ false) → 8 ≤ l
+    at (inl e) = absurd (false≢true (sym h ∙ labels-all l (ltb-true l 8 e)))
+    at (inr e) = ltb-false l 8 e
+
+pub labels-single : (set k : ℕ) → k < 8 → ((u : ℕ) → hasScope set u ≡ eqb u k) → (l : ℕ) → hasLabel set l ≡ eqb l k
+unfolding hasLabel within
+labels-single set k h one l =
+    in-is 8 set l (eqb l k) (λ m. sym (scope-in set l (omega arith)) ∙ one l)
+    (λ m. let other : l ≡ k → ⊥ = λ e. omega arith in ne-eqb l k other)
 
 -- places of a set of scopes and a set of states
 module _ (scopes states s q : ℕ) where

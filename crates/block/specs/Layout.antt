@@ -49,7 +49,7 @@ DECL = 743
 abbrev pub STATES : ℕ
 STATES = 808
 
--- 1,602 cells of hints, from here on
+-- 1,090 cells of hints, from here on
 abbrev pub HINT : ℕ
 HINT = 809
 
@@ -58,25 +58,30 @@ HINT = 809
 abbrev pub INTO : ℕ
 INTO = 809
 
--- 512 cells: the scope that an edge comes from * 8 + its label, by the scope that it leads to
+-- 512 cells with two hints each, so that there are fewer to clear: in the lowest `LEAVING` bits the
+-- scope that an edge comes from * 8 + its label, by the scope that it leads to; in those above the
+-- states that a label leads to from a set, by label * 64 + quarter * 16 + the set's part in that
+-- quarter of the 16 states
 abbrev pub BACK : ℕ
 BACK = 874
 
--- 512 cells each: the states from which a label leads into a set, and those that it leads to from a
--- set, by label * 64 + quarter * 16 + the set's part in that quarter of the 16 states
+abbrev pub AFTER : ℕ
+AFTER = 874
+
+abbrev pub LEAVING : ℕ
+LEAVING = 9
+
+-- 512 cells: the states from which a label leads into a set, by the same
 abbrev pub BEFORE : ℕ
 BEFORE = 1386
 
-abbrev pub AFTER : ℕ
-AFTER = 1898
-
 -- how many edges there are
 abbrev pub EDGES : ℕ
-EDGES = 2410
+EDGES = 1898
 
 -- all cells
 abbrev pub SIZE : ℕ
-SIZE = 2411
+SIZE = 1899
 
 -- a block of the board's size
 abbrev pub IsBlock : List ℕ → Type 0

@@ -27,10 +27,12 @@ pub const INTO: usize = 809;
 
 pub const BACK: usize = 874;
 
+pub const AFTER: usize = 874;
+
+pub const LEAVING: u64 = 9;
+
 pub const BEFORE: usize = 1386;
 
-pub const AFTER: usize = 1898;
+pub const EDGES: usize = 1898;
 
-pub const EDGES: usize = 2410;
-
-pub const SIZE: usize = 2411;
+pub const SIZE: usize = 1899;

@@ -25,6 +25,7 @@ pub use layout::EDGES;
 pub use layout::FIRST;
 pub use layout::HINT;
 pub use layout::INTO;
+pub use layout::LEAVING;
 pub use layout::LETTER;
 pub use layout::SCOPES;
 pub use layout::SIZE;

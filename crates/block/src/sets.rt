@@ -1,4 +1,4 @@
-// Sets of scopes and of states, as the bits of a number.
+// Sets of scopes and of states, as the bits of a number; so are those of ends and of labels.
 ghost use mathlib.Core.Path.{_≡_};
 ghost use mathlib.Core.Bool.{Bool, not, _&&_};
 ghost use Prim.Native.Nat.{ℕ, _<_};

@@ -7,7 +7,7 @@ use native.Mathlib.Numerals.{add-one}
 use lib.ListN.{length, getD, set, drop, length-set, drop-of-length-le}
 use lib.Seq.{getD-set-same, getD-set-other, drop-cons}
 use Rattle.block.specs.Layout.{HINT, SIZE}
-use Rattle.board.specs.Cells.{puts, Only, HintsOnly}
+use Rattle.board.specs.Cells.{puts, Only, HINTS, HintsOnly}
 
 pub puts-size : (xs b : List ℕ) (i : ℕ) → length (puts b i xs) ≡ length b
 unfolding puts
@@ -93,10 +93,10 @@ module _ (old : List ℕ) (at : ℕ) (xs block : List ℕ) (i : ℕ) (so : Putti
 
 -- hints: one cell more is put
 pub hints-none : (b : List ℕ) → HintsOnly b b
-hints-none b = only-none HINT 1602 b
+hints-none b = only-none HINT HINTS b
 
 pub hints-set : (old b : List ℕ) (i v : ℕ) → HintsOnly old b → HINT ≤ i → i < SIZE → HintsOnly old (set b i v)
-hints-set old b i v so h k = only-then HINT 1602 old b (set b i v) so (only-set HINT 1602 b i v h (omega arith))
+hints-set old b i v so h k = only-then HINT HINTS old b (set b i v) so (only-set HINT HINTS b i v h (omega arith))
 
 pub hints-then : (a b c : List ℕ) → HintsOnly a b → HintsOnly b c → HintsOnly a c
-hints-then a b c x y = only-then HINT 1602 a b c x y
+hints-then a b c x y = only-then HINT HINTS a b c x y

@@ -20,7 +20,7 @@ use Rattle.board.specs.Tables.{tabulate, stateCell, transitionCell, tran
 use Rattle.board.specs.Cells.{puts, Only, HintsOnly}
 use Rattle.board.specs.Edges.{placed, EdgesPut}
 use Rattle.board.specs.Marks.{declaredCell}
-use Rattle.board.specs.Made.{sectionRows, deltaOf, RulesPut, GraphPut, Made}
+use Rattle.board.specs.Made.{sectionRows, deltaOf, Starts, RulesPut, GraphPut, Made}
 use Rattle.graph_table.proofs.Tests.{below-or}
 use Rattle.board.proofs.Fill.{tabulate-length, tabulate-at}
 use Rattle.board.proofs.StateCells.{next-at}
@@ -178,12 +178,12 @@ hops-same old new same s h =
     ∙ sym (blockHops-in old s h)
 
 -- the graph's tables
-pub graph-put : (cells old c1 c2 at declared : List ℕ) → length old ≡ SIZE → at ≡ tabulate (startCell cells) 10 → c1 ≡ puts old START at
+pub graph-put : (cells old c1 c2 at declared : List ℕ) → length old ≡ SIZE → Starts cells at → c1 ≡ puts old START at
     → EdgesPut (partOf edgeSection cells) c1 c2
     → declared ≡ tabulate (declaredCell (startOf declarationSection cells) (partOf declarationSection cells)) 65
     → GraphPut cells old (puts c2 DECL declared)
-graph-put cells old c1 c2 at declared size starts-are e1 edges declared-are =
-    let at-size : length at ≡ 10 = ap length starts-are ∙ tabulate-length (startCell cells) 10 in
+graph-put cells old c1 c2 at declared size at-is e1 edges declared-are =
+    let at-size : length at ≡ 10 = at-is .size in
     let declared-size : length declared ≡ 65 =
     ap length declared-are ∙ tabulate-length (declaredCell (startOf declarationSection cells) (partOf declarationSection cells)) 65 in
     let z1 : length c1 ≡ SIZE = ap length e1 ∙ puts-size at old START ∙ size in
@@ -201,12 +201,20 @@ graph-put cells old c1 c2 at declared size starts-are e1 edges declared-are =
       starts = λ k h.
           puts-before declared c2 DECL (START + k) (omega arith) ∙ edges .only .before (START + k) (omega arith)
           ∙ ap (λ (x : List ℕ). getD x (START + k) 0) e1 ∙ puts-at at old START k (omega arith) (omega arith)
-          ∙ ap (λ (x : List ℕ). getD x k 0) starts-are ∙ tabulate-at (startCell cells) 10 k 0 h;
+          ∙ at-is .places k h;
       edges = λ s h. hops-same c2 (puts c2 DECL declared) (λ j k. puts-before declared c2 DECL j k) s h ∙ edges .hops s h;
       declared = λ s h.
           puts-at declared c2 DECL s (omega arith) (omega arith) ∙ ap (λ (x : List ℕ). getD x s 0) declared-are
           ∙ tabulate-at (declaredCell (startOf declarationSection cells) (partOf declarationSection cells)) 65 s 0 h;
     }
+
+-- the table of the places is that
+pub starts-are : (cells at : List ℕ) → at ≡ tabulate (startCell cells) 10 → Starts cells at
+unfolding startCell
+starts-are cells at e = record {
+  size = ap length e ∙ tabulate-length (startCell cells) 10;
+  places = λ k h. ap (λ (x : List ℕ). getD x k 0) e ∙ tabulate-at (startCell cells) 10 k 0 h;
+}
 
 -- all of it, read through the graph's tables and the hints
 module _ (cells a b d : List ℕ) (rules : RulesPut cells a) (graph : GraphPut cells a b) (hints : HintsOnly b d) where

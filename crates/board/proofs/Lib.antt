@@ -13,7 +13,6 @@ pub mod Ascending
 pub mod Accepted
 pub mod Capitals
 pub mod Queries
-pub mod Texts
 pub mod Example
 pub mod Declared
 pub mod Hops

@@ -5,14 +5,15 @@ use mathlib.Core.Bool.{Bool, true, false, _||_}
 use mathlib.Core.List.{List}
 use mathlib.Core.Logic.{⊎-elim}
 use native.Mathlib.Omega.{arith}
-use lib.Dec.{eqb}
+use lib.Dec.{eqb, ltb}
 use lib.ListN.{length, getD}
 use borrow.Author.Tests.{eqb-true, eqb-false}
 use Rattle.scope_graph.specs.Computed.{anyBelow}
 use Rattle.scope_graph.proofs.Lists.{Two}
-use Rattle.block.specs.Sets.{hasState}
+use Rattle.block.specs.Sets.{hasBit, hasState}
 use Rattle.block.specs.Layout.{DELTA}
 use Rattle.block.specs.Block.{nextCell}
+use Rattle.block.proofs.SetLaws.{bits-none}
 use Rattle.block.proofs.BlockLaws.{getD-any, next-in, next-no-state, next-no-label}
 use Rattle.board.specs.Tables.{leadsInto, roundFlag, roundSet, hopesAfter, hopefulSet, usableFlag}
 use Rattle.graph_table.proofs.Tests.{below-or, or-rest}
@@ -42,6 +43,24 @@ pub below-none : (f : ℕ → Bool) (n : ℕ) → n ≤ 0 → anyBelow f n ≡ f
 unfolding anyBelow
 below-none f zero h = refl
 below-none f (suc n) h = absurd (omega arith)
+
+-- no state leads into the empty set
+below-false : (f : ℕ → Bool) (n : ℕ) → ((k : ℕ) → f k ≡ false) → anyBelow f n ≡ false
+unfolding anyBelow
+below-false f zero h = refl
+below-false f (suc n) h = above-miss f n (h n) ∙ below-false f n h
+
+state-none : (q : ℕ) → hasState 0 q ≡ false
+unfolding hasState
+state-none q = by (ltb q 16)
+  where
+    by : (t : Bool) → (elim t as (λ _. Bool) [ true ↦ hasBit 0 q | false ↦ false ]) ≡ false
+    by true = bits-none q
+    by false = refl
+
+pub leads-none : (next : ℕ → ℕ → ℕ) (set q : ℕ) → set ≡ 0 → leadsInto next set q ≡ false
+unfolding leadsInto
+leads-none next set q e = below-false (λ l. hasState set (next q l)) 8 (λ l. rw e (state-none (next q l)))
 
 module _ (next : ℕ → ℕ → ℕ) (accept : ℕ) where
   pub round-accepts : (set q : ℕ) → hasState accept q ≡ true → roundFlag next accept set q ≡ true

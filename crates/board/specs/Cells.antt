@@ -17,6 +17,10 @@ pub record Only (at n : ℕ) (old new : List ℕ) : Type 0 where
   pub before : (j : ℕ) → j < at → getD new j 0 ≡ getD old j 0
   pub behind : (j : ℕ) → at + n ≤ j → getD new j 0 ≡ getD old j 0
 
+-- how many cells of hints there are
+abbrev pub HINTS : ℕ
+HINTS = 1090
+
 -- nothing but hints differs
 abbrev pub HintsOnly : List ℕ → List ℕ → Type 0
-HintsOnly old new = Only HINT 1602 old new
+HintsOnly old new = Only HINT HINTS old new

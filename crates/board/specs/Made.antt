@@ -13,7 +13,7 @@ use Rattle.graph_file.specs.Decode.{orderPairOf, transitionOf}
 use Rattle.block.specs.Sets.{hasBit, hasState}
 use Rattle.block.specs.Layout.{DELTA, BETTER, ACCEPT, SCOPES, USABLE, LETTER, START, DECL, STATES, IsBlock}
 use Rattle.block.specs.Block.{nextCell, acceptSet, usableSet, letterCell, scopesCell, Still, blockHops, firstDeclaration}
-use Rattle.graph_table.specs.Sections.{startOf, startCell, partOf, rowsOf}
+use Rattle.graph_table.specs.Sections.{startOf, partOf, rowsOf}
 use Rattle.board.specs.Tables.{stateCell, transitionCell, transitionCells, accepted, letterOf, hopefulSet, usableStates}
 use Rattle.board.specs.Cells.{Only}
 use Rattle.board.specs.Edges.{placed}
@@ -26,6 +26,11 @@ sectionRows cells k = rowsOf (partOf k cells)
 -- the next states of the file's automaton, as 128 cells
 abbrev pub deltaOf : List ℕ → List ℕ
 deltaOf cells = transitionCells (sectionRows cells transitionSection)
+
+-- where the sections' rows start, and where the last one's end
+pub record Starts (cells at : List ℕ) : Type 0 where
+  pub size : length at ≡ 10
+  pub places : (k : ℕ) → k < 10 → getD at k 0 ≡ startOf k cells
 
 pub record RulesPut (cells block : List ℕ) : Type 0 where
   pub size : IsBlock block
@@ -43,7 +48,7 @@ pub record RulesPut (cells block : List ℕ) : Type 0 where
 -- the rules' cells stay as they were: those before START, and STATES
 pub record GraphPut (cells old block : List ℕ) : Type 0 where
   pub only : Only START 652 old block
-  pub starts : (k : ℕ) → k < 10 → getD block (START + k) 0 ≡ startCell cells k
+  pub starts : (k : ℕ) → k < 10 → getD block (START + k) 0 ≡ startOf k cells
   pub edges : (s : ℕ) → s < 64 → blockHops block s ≡ placed (partOf edgeSection cells) s
   pub declared : (s : ℕ) → s < 65
       → getD block (DECL + s) 0 ≡ declaredCell (startOf declarationSection cells) (partOf declarationSection cells) s

@@ -1,6 +1,7 @@
 // The automaton's tables, made of its rows: the next states, the states that accept, those from
 // which transitions lead on, and those in which an end is usable.
 use block::has_state;
+use graph_table::ROW;
 use graph_table::TransitionRow;
 use graph_table::first_value;
 use graph_table::transition_row;
@@ -33,9 +34,9 @@ pub fn transition_table(rows: &[u64]) -> [u64; 128]
     ensures answer { λ r. ⌜ r ≡ transitionCells (rowsOf (now (rows .entry))) ⌝ }
 {
     let mut t = [16; 128];
-    let mut p = rows.len() / 6 * 6;
-    while 6 <= p {
-        p -= 6;
+    let mut p = rows.len() / ROW * ROW;
+    while ROW <= p {
+        p -= ROW;
         let row = transition_row(rows, p);
         let i = place_of(row);
         if 128 <= i {
@@ -52,9 +53,9 @@ pub fn accept_set(rows: &[u64]) -> u64
 {
     let mut out: u64 = 0;
     let mut p = 0;
-    while 6 <= rows.len() - p {
+    while ROW <= rows.len() - p {
         let q = first_value(rows, p);
-        p += 6;
+        p += ROW;
         if 16 <= q {
             continue;
         }
@@ -73,12 +74,16 @@ fn next_of(delta: &[u64], q: u64, l: u64) -> u64
     delta[(q * 8 + l) as usize]
 }
 
-// Does a transition lead from the state into the set?
+// Does a transition lead from the state into the set? None leads into the empty one, which every
+// file's first round asks for.
 fn leads(delta: &[u64], set: u64, q: u64) -> bool
     requires table { ⌜ length (now delta) ≡ 128 ⌝ }
     requires state { ⌜ q < 16 ⌝ }
     ensures answer { λ r. ⌜ r ≡ leadsInto (nextCell (now (delta .entry))) set q ⌝ }
 {
+    if set == 0 {
+        return false;
+    }
     let mut l: u64 = 8;
     while 0 < l {
         l -= 1;

@@ -2,6 +2,7 @@
 // through edge rows.
 use block::EDGE;
 use block::FIRST;
+use graph_table::ROW;
 use graph_table::edge_row;
 use graph_table::next_row;
 ghost use mathlib.Core.Path.{_≡_};
@@ -47,7 +48,7 @@ fn put_scope(rows: &[u64], s: u64, p: usize, n: usize, block: &mut [u64]) -> Put
         }
         block[EDGE + k] = hop_cell(rows, found);
         k += 1;
-        at = found + 6;
+        at = found + ROW;
     }
     Put {
         edges: k,

@@ -1,4 +1,5 @@
 // What rows of one value say: the labels' letters, the number of scopes.
+use graph_table::ROW;
 use graph_table::first_value;
 ghost use mathlib.Core.Path.{_≡_};
 ghost use mathlib.Core.List.{List};
@@ -12,10 +13,10 @@ ghost use Rattle.board.specs.Tables.{tabulate, letterOf};
 pub fn value_of(rows: &[u64], i: usize) -> u64
     ensures answer { λ r. ⌜ r ≡ value (getD (rowsOf (now (rows .entry))) i blank) 0 ⌝ }
 {
-    if rows.len() / 6 <= i {
+    if rows.len() / ROW <= i {
         return 0;
     }
-    first_value(rows, 6 * i)
+    first_value(rows, ROW * i)
 }
 
 // The labels' letters; 0 past the last one.

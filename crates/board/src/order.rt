@@ -1,4 +1,5 @@
 // The order of ends, made of its rows.
+use graph_table::ROW;
 use graph_table::pair_row;
 ghost use mathlib.Core.Path.{_≡_};
 ghost use mathlib.Core.List.{List};
@@ -12,11 +13,11 @@ pub fn better_table(rows: &[u64]) -> [u64; 9]
 {
     let mut t = [0; 9];
     let mut p = 0;
-    while 6 <= rows.len() - p {
+    while ROW <= rows.len() - p {
         let row = pair_row(rows, p);
         let less = row.less;
         let more = row.more;
-        p += 6;
+        p += ROW;
         if 9 <= less {
             continue;
         }

@@ -7,11 +7,14 @@ ghost use mathlib.Core.Path.{_≡_};
 ghost use Prim.Native.Nat.{_<_};
 ghost use Rattle.graph_table.specs.Sections.{startCell, partOf};
 ghost use Rattle.board.specs.Tables.{tabulate};
-ghost use Rattle.board.specs.Made.{Made};
+ghost use Rattle.board.specs.Made.{Starts, Made};
+
+// Nine sections start somewhere, and the last one ends somewhere.
+const SECTIONS: usize = 10;
 
 // Where each section's rows start, and where the last one's end: one pass, as each is looked for
 // from the one before it on.
-pub fn starts(table: &[u64]) -> [u64; 10]
+pub fn starts(table: &[u64]) -> [u64; SECTIONS]
     ensures answer { λ r. ⌜ r ≡ tabulate (startCell (now (table .entry))) 10 ⌝ }
 {
     let mut t = [0; 10];
@@ -25,13 +28,22 @@ pub fn starts(table: &[u64]) -> [u64; 10]
     t
 }
 
-// The rows of section k, found by the places that the board's block has.
+// The rows of section k, by the places of all sections.
+pub fn rows_at<'a>(table: &'a [u64], at: &[u64], k: usize) -> &'a [u64]
+    requires places { ⌜ Starts (now table) (now at) ⌝ }
+    requires section { ⌜ k < 9 ⌝ }
+    ensures answer { λ r. ⌜ now r ≡ partOf k (now (table .entry)) ⌝ }
+{
+    let from = at[k] as usize;
+    let to = at[k + 1] as usize;
+    &table[from..to]
+}
+
+// The same by the places that the board's block has.
 pub fn part<'a>(table: &'a [u64], block: &[u64], k: usize) -> &'a [u64]
     requires made { ⌜ Made (now table) (now block) ⌝ }
     requires section { ⌜ k < 9 ⌝ }
     ensures answer { λ r. ⌜ now r ≡ partOf k (now (table .entry)) ⌝ }
 {
-    let from = block[START + k] as usize;
-    let to = block[START + k + 1] as usize;
-    &table[from..to]
+    rows_at(table, &block[START..START + SECTIONS], k)
 }

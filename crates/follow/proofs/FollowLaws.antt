@@ -11,21 +11,21 @@ use native.Mathlib.Numerals.{add-one}
 use Rattle.scope_graph.specs.Order.{endOf}
 use Rattle.scope_graph.specs.Path.{HopOf}
 use Rattle.scope_graph.specs.Computed.{NodeOf}
-use Rattle.scope_graph.proofs.Lists.{Two, true-false}
-use Rattle.block.specs.Sets.{hasScope, placesOf}
+use Rattle.scope_graph.proofs.Lists.{Two}
+use Rattle.block.specs.Sets.{hasScope, ALL_LABELS, placesOf}
 use Rattle.block.specs.Block.{stateOf, nextCell, firstEdge, edgeCell, hopOf, hopsOn, blockHops}
 use Rattle.block.specs.Ask.{askStart, askGoal}
 use Rattle.block.proofs.BlockLaws.{state-cell, state-some, on-more, blockHops-in}
 use Rattle.search.specs.Board.{Board, without, cutHere, nodeAt, after, ownHit, hopHits, hitsFrom}
 use Rattle.search.specs.Live.{open-way}
 use Rattle.search.specs.Tables.{placeFlag, tableOrder, tableBoard}
-use Rattle.search.specs.Conditions.{WorthAt, wayOf, wantedHop}
+use Rattle.search.specs.Conditions.{WorthAt, wayOf}
 use Rattle.search.specs.Steps.{worthState, Entered}
 use Rattle.search.specs.declared.Node.{Node}
 use Rattle.search.proofs.RulesLists.{flatMap-no}
 use Rattle.search.proofs.Closed.{closed-hits, without-within}
 use Rattle.search.proofs.Cells.{place-state}
-use Rattle.search.proofs.HopLaws.{hop-yes, wanted-all, worthy, idle}
+use Rattle.search.proofs.HopLaws.{hop-yes, worthy, idle, all-dead}
 use Rattle.search.proofs.Leads.{taken-is, Behind}
 use Rattle.follow.specs.declared.Task.{Task}
 use Rattle.follow.specs.declared.Task.the-variants.{Entries, Place}
@@ -196,25 +196,25 @@ module _ (block table ask : List ℕ) (aim : Aim) where
                 (without-within (hasScope (n .free)) (hasScope (n .free)) (h .to) (λ t y. y)) f
                 (rw (state-cell (nextCell block (n .state) (h .step)) r k) at d))
 
-        hop-idle : 16 ≤ worthState block onward (n .free) (n .state) 8 h → along h ≡ []
-        hop-idle w = nothing (⊎-elim unwanted (⊎-elim hit-taken hit-dead) (idle block onward (n .free) (n .state) 8 h w))
-          where
-            unwanted : wantedHop 8 h ≡ false → found ≡ []
-            unwanted e = absurd (true-false (wanted-all 8 h (omega arith)) e)
+        hop-idle : 16 ≤ worthState block onward (n .free) (n .state) ALL_LABELS h → along h ≡ []
+        hop-idle w =
+            nothing
+            (⊎-elim (λ e. hit-dead (all-dead block (n .state) h e onward)) (⊎-elim hit-taken hit-dead)
+            (idle block onward (n .free) (n .state) ALL_LABELS h w))
 
       hop-cut : endCut block ask n (h .step) ≡ true → along h ≡ []
       hop-cut c = nothing (hit-cut c)
 
       -- any other is entered
       hop-enter : (onward : List ℕ) (m : Node) → endCut block ask n (h .step) ≡ false
-          → worthState block onward (n .free) (n .state) 8 h < 16
-          → Entered n h (worthState block onward (n .free) (n .state) 8 h) m
+          → worthState block onward (n .free) (n .state) ALL_LABELS h < 16
+          → Entered n h (worthState block onward (n .free) (n .state) ALL_LABELS h) m
           → along h ≡ from (hops ++ (h ∷ [])) (suc (m .left)) (hasScope (m .free)) (m .scope) (m .state)
       unfolding hopRows rowsFrom
       hop-enter onward m uncut good in-m =
-          let w = worthy block onward (n .free) (n .state) 8 h good in
+          let w = worthy block onward (n .free) (n .state) ALL_LABELS h good in
           let cell = nextCell block (n .state) (h .step) in
-          let is = hop-yes block onward (n .free) (n .state) 8 h (w .asked) (w .free-to) (w .held) in
+          let is = hop-yes block onward (n .free) (n .state) ALL_LABELS h (w .asked) (w .free-to) (w .held) in
           ap (flatMap (share hops))
           (hit-enter uncut (w .free-to) cell (state-some cell (place-state onward (h .to) cell (w .held))))
           ∙ flatMap-map (share hops) (after board h) (share (hops ++ (h ∷ [])))
@@ -239,7 +239,7 @@ module _ (block table ask : List ℕ) (aim : Aim) where
             at (inr c) (inl f) (some r) k = hit-enter h c f r k ∙ rw e
 
     -- the hop of edge p, which is followed, and those after it
-    pub rest-enter : (onward : List ℕ) (p : ℕ) → FollowedEdge block ask onward n p → (m : Node) → Behind block onward n 8 p m
+    pub rest-enter : (onward : List ℕ) (p : ℕ) → FollowedEdge block ask onward n p → (m : Node) → Behind block onward n ALL_LABELS p m
         → (deeper : List (HopOf ℕ)) (x : ℕ) → x ≡ edgeCell block p → deeper ≡ hops ++ (hopOf x ∷ [])
         → rest p ≡ from deeper (suc (m .left)) (hasScope (m .free)) (m .scope) (m .state) ++ rest (p + 1)
     unfolding flatMap

@@ -9,7 +9,7 @@ use native.Mathlib.Omega.{arith}
 use native.Mathlib.Numerals.{add-one}
 use Rattle.scope_graph.specs.Order.{endOf}
 use Rattle.scope_graph.specs.Path.{HopOf}
-use Rattle.block.specs.Sets.{hasScope}
+use Rattle.block.specs.Sets.{hasScope, ALL_LABELS}
 use Rattle.block.specs.Block.{firstEdge, edgeCell, hopOf, hopsOn}
 use Rattle.block.specs.Ask.{askGoal}
 use Rattle.search.specs.Board.{cutHere}
@@ -20,12 +20,12 @@ use Rattle.follow.specs.Steps.{endCut, Skipped, NextFollowed}
 
 module _ (block ask onward : List ℕ) (n : Node) (p : ℕ) where
   -- hops that are worth nothing
-  pub skip-idle : (r : ℕ) → NextHop block onward n 8 p r → Skipped block ask onward n p r
+  pub skip-idle : (r : ℕ) → NextHop block onward n ALL_LABELS p r → Skipped block ask onward n p r
   skip-idle r next = record { on = next .on; skipped = next .skipped; split = next .split; idle = λ h m. inl (next .idle h m) }
 
   -- one more whose label is cut, and again hops that are worth nothing
-  pub skip-cut : (k i r : ℕ) → Skipped block ask onward n p i → NextHop block onward n 8 k i → i < firstEdge block (suc (n .scope))
-      → endCut block ask n (hopOf (edgeCell block i) .step) ≡ true → NextHop block onward n 8 (i + 1) r
+  pub skip-cut : (k i r : ℕ) → Skipped block ask onward n p i → NextHop block onward n ALL_LABELS k i → i < firstEdge block (suc (n .scope))
+      → endCut block ask n (hopOf (edgeCell block i) .step) ≡ true → NextHop block onward n ALL_LABELS (i + 1) r
       → Skipped block ask onward n p r
   skip-cut k i r past here inside cut next = record {
     on = omega (arith, past .on, next .on);
@@ -40,11 +40,11 @@ module _ (block ask onward : List ℕ) (n : Node) (p : ℕ) where
   }
     where
       first : (h : HopOf ℕ) → h ≡ hopOf (edgeCell block i)
-          → (16 ≤ worthState block onward (n .free) (n .state) 8 h) ⊎ (endCut block ask n (h .step) ≡ true)
+          → (16 ≤ worthState block onward (n .free) (n .state) ALL_LABELS h) ⊎ (endCut block ask n (h .step) ≡ true)
       first h e = inr (rw e cut)
 
   -- the next that is followed
-  pub next-is : (k r : ℕ) → Skipped block ask onward n p r → NextHop block onward n 8 k r
+  pub next-is : (k r : ℕ) → Skipped block ask onward n p r → NextHop block onward n ALL_LABELS k r
       → (r < firstEdge block (suc (n .scope)) → endCut block ask n (hopOf (edgeCell block r) .step) ≡ false)
       → NextFollowed block ask onward n p r
   next-is k r past here uncut = record {

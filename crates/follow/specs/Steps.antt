@@ -10,7 +10,7 @@ use Rattle.scope_graph.specs.Language.{_∈_, by}
 use Rattle.scope_graph.specs.Order.{endOf}
 use Rattle.scope_graph.specs.Path.{HopOf}
 use Rattle.text_field.specs.Number.{numberText}
-use Rattle.block.specs.Sets.{hasScope, placesOf}
+use Rattle.block.specs.Sets.{hasScope, ALL_LABELS, placesOf}
 use Rattle.block.specs.Block.{firstEdge, edgeCell, hopOf, hopsOn}
 use Rattle.block.specs.Ask.{askGoal}
 use Rattle.search.specs.Board.{without, cutHere, hopHits}
@@ -62,13 +62,13 @@ pub record Skipped (block ask onward : List ℕ) (n : Node) (p r : ℕ) : Type 0
   pub skipped : List (HopOf ℕ)
   pub split : hopsOn block (n .scope) p ≡ skipped ++ hopsOn block (n .scope) r
   pub idle : (h : HopOf ℕ) → h ∈ skipped
-      → (16 ≤ worthState block onward (n .free) (n .state) 8 h) ⊎ (endCut block ask n (h .step) ≡ true)
+      → (16 ≤ worthState block onward (n .free) (n .state) ALL_LABELS h) ⊎ (endCut block ask n (h .step) ≡ true)
 
 -- Edge number p is followed: it stands before the end of the node's edges, its hop is worth
 -- entering, and its label is not cut.
 pub record FollowedEdge (block ask onward : List ℕ) (n : Node) (p : ℕ) : Type 0 where
   pub inside : p < firstEdge block (suc (n .scope))
-  pub worth : worthState block onward (n .free) (n .state) 8 (hopOf (edgeCell block p)) < 16
+  pub worth : worthState block onward (n .free) (n .state) ALL_LABELS (hopOf (edgeCell block p)) < 16
   pub uncut : endCut block ask n (hopOf (edgeCell block p) .step) ≡ false
 
 -- Edge number r is the next that is followed, or none is left.

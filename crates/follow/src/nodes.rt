@@ -12,8 +12,9 @@ use block::edges_end;
 use block::edges_from;
 use block::has;
 use block::has_state;
-use search::ANY;
+use search::ALL_LABELS;
 use search::Learnt;
+use search::NOTHING_KNOWN;
 use search::Node;
 use search::Table;
 use search::entered;
@@ -85,11 +86,11 @@ fn own_end(block: &[u64], ask: &[u64], aim: Aim, n: Node) -> Learnt
 {
     if !is_asked(aim, n) {
         return Learnt {
-            known: 0,
+            known: NOTHING_KNOWN,
             cut: true,
         };
     }
-    learn(block, ask_goal(ask), ask, n, 0, aim.end)
+    learn(block, ask_goal(ask), ask, n, NOTHING_KNOWN, aim.end)
 }
 
 // The node's own rows, unless it is passed over: those of its entries, or one where places are
@@ -143,7 +144,7 @@ fn next_followed(block: &[u64], ask: &[u64], onward: &[u64], n: Node, known: u64
     let end = edges_end(block, n.scope);
     let goal = ask_goal(ask);
     let mut more = known;
-    let mut i = next_hop(block, onward, n, ANY, p);
+    let mut i = next_hop(block, onward, n, ALL_LABELS, p);
     while i < end {
         let label = edge_at(block, i) / 64 % 8;
         let learnt = learn(block, goal, ask, n, more, label + 1);
@@ -151,7 +152,7 @@ fn next_followed(block: &[u64], ask: &[u64], onward: &[u64], n: Node, known: u64
         if !learnt.cut {
             return Next { at: i, known: more };
         }
-        i = next_hop(block, onward, n, ANY, i + 1);
+        i = next_hop(block, onward, n, ALL_LABELS, i + 1);
     }
     Next { at: i, known: more }
 }
@@ -265,7 +266,7 @@ fn follow_from(
     ensures taken { λ r. ⌜ _≡_ {A = State} (now (out .exit), r) (takeRows (aim .bounds) (now (out .entry), tally) (flatMap (hopRows (now (block .entry)) (now (table .entry)) (now (ask .entry)) aim (pathHops path) node) (hopsOn (now (block .entry)) (node .scope) p))) ⌝ }
 {
     let x = edge_at(block, p);
-    let behind = entered(node, x, worth(block, onward, node, ANY, x));
+    let behind = entered(node, x, worth(block, onward, node, ALL_LABELS, x));
     let t = follow_at(
         block,
         table,

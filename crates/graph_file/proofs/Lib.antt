@@ -26,6 +26,8 @@ pub mod WriteLaws
 pub mod WriteStages
 pub mod WriteText
 pub mod SoughtLaws
+pub mod RoomLaws
+pub mod TableLaws
 pub mod DecodeWay
 pub mod DecodeRows
 pub mod DecodeSections

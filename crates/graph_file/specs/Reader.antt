@@ -4,6 +4,7 @@ use Prim.Native.Nat.{ℕ, zero, suc, _+_, _*_, _≤_, _<_}
 use mathlib.Core.Path.{_≡_}
 use mathlib.Core.List.{List, [], _∷_}
 use mathlib.Core.Bool.{Bool, true, false}
+use mathlib.Core.Logic.{_⊎_}
 use lib.ListN.{length, take, drop}
 use lib.Seq.{sets}
 use Rattle.graph_file.specs.declared.line.Took.{Took}
@@ -14,12 +15,13 @@ use Rattle.graph_file.specs.declared.reader.Part.{Part}
 use Rattle.text_field.specs.declared.answer.Answer.{Answer}
 use Rattle.text_field.specs.declared.answer.Answer.the-variants.{Refused, Written}
 use lib.Dec.{eqb}
-use Rattle.graph_file.specs.Format.{Item, labelSection, pairSection, countSection, sectionAt}
+use Rattle.graph_file.specs.Format.{Item, labelSection, pairSection, countSection, sectionAt, ownCells}
 use Rattle.text_field.specs.Outcome.{Outcome, refused, done, andThen}
 use Rattle.graph_file.specs.Admission.{Row, counted}
 use Rattle.graph_file.specs.Line.{Reading, readItem, placeOf}
 use Rattle.graph_file.specs.File.{Stage}
 use Rattle.graph_file.specs.Table.{sofarAt}
+use Rattle.graph_file.specs.NameSought.{lineCount}
 
 -- what an item gives, with the place after it for the text from there on; nothing is refusal 2
 unfoldable pub took : Took → List ℕ → Outcome Reading
@@ -94,3 +96,26 @@ pub record SectionTaken (k n size : ℕ) (r : Part) : Type 0 where
 unfoldable pub roomBefore : ℕ → ℕ
 roomBefore zero = 1
 roomBefore (suc k) = roomBefore k + 6 * sectionAt k .most
+
+-- Behind the first n cells the table has room for rows of section k: for one more than the section
+-- admits, or for one more than there are lines left, since each row takes a line.
+abbrev pub RowsRoom : ℕ → ℕ → List ℕ → ℕ → Type 0
+RowsRoom k n rest size = (n + 6 * suc (sectionAt k .most) ≤ size) ⊎ (n + 6 * suc (lineCount rest) ≤ size)
+
+-- A table of this size has room to read the text in: as any text needs it, or as this one's lines
+-- do, six cells each behind the form and six more.
+abbrev pub TextRoom : List ℕ → ℕ → Type 0
+TextRoom text size = (ownCells ≤ size) ⊎ (1 + 6 * suc (lineCount text) ≤ size)
+
+-- the cells of a table for a short text
+abbrev pub shortCells : ℕ
+shortCells = 253
+
+-- what reading a text over a table answers: its refusal, or the cells that it made
+unfoldable pub tableRead : Answer → List ℕ → Outcome (List ℕ)
+tableRead (Refused n) table = refused n
+tableRead (Written n) table = done (take n table)
+
+-- the cells that were written are in the table
+abbrev pub WrittenIn : Answer → List ℕ → Type 0
+WrittenIn a table = (n : ℕ) → a ≡ Written n → n ≤ length table

@@ -9,11 +9,15 @@ mod order;
 mod reader;
 mod rows;
 mod sought;
+mod tables;
 mod writer;
 
-pub use reader::read;
-pub use rows::TABLE_CELLS;
+pub use rows::OWN_CELLS;
+pub use rows::SHORT_CELLS;
 pub use sought::NamePlace;
 pub use sought::name_place;
 pub use sought::name_sought;
+pub use tables::is_short;
+pub use tables::read;
+pub use tables::read_over;
 pub use writer::write;

@@ -1,6 +1,5 @@
 // The file's text read into a table, section by section.
 use crate::admission::admitted;
-use crate::cells::copy_cells;
 use crate::cells::put_row;
 use crate::format::FORMAT;
 use crate::format::TEXT_BYTES;
@@ -11,19 +10,16 @@ use crate::format::row_place;
 use crate::line::read_line;
 use crate::order::order_fault;
 use crate::rows::Counts;
-use crate::rows::OWN_CELLS;
-use text_field::Answer;
 use text_field::byte_at;
 use text_field::is_lower;
 ghost use mathlib.Core.Path.{_≡_};
 ghost use mathlib.Core.List.{List, [], _∷_};
 ghost use Prim.Native.Nat.{ℕ, suc, _+_, _*_, _<_, _≤_};
 ghost use lib.ListN.{length, drop};
-ghost use Rattle.graph_file.specs.Format.{sectionAt, form, tableCells, ownCells};
+ghost use Rattle.graph_file.specs.Format.{sectionAt, form, tableCells};
 ghost use Rattle.graph_file.specs.Table.{formatBytes};
-ghost use Rattle.graph_file.specs.File.{oneRow, throughRows, throughSection, throughSections, atStart, rowFollows, reading, readStage, readCells};
-ghost use Rattle.text_field.specs.Answer.{answer, leaves, answerOf};
-ghost use Rattle.graph_file.specs.Reader.{stageAt, partOutcome, Placed, RowTaken, RowsTaken, SectionTaken, countsAfter};
+ghost use Rattle.graph_file.specs.File.{oneRow, throughRows, throughSection, throughSections, atStart, rowFollows, reading, readStage};
+ghost use Rattle.graph_file.specs.Reader.{stageAt, partOutcome, Placed, RowTaken, RowsTaken, SectionTaken, countsAfter, RowsRoom, TextRoom};
 
 // What a part of the way answers: a refusal or 0, the place after it in the text (read, or
 // written), the place after it in the table, and what the rows count.
@@ -143,7 +139,7 @@ fn read_rows(
     c: Counts,
 ) -> Part
     requires format { ⌜ now format ≡ formatBytes ⌝ }
-    requires room { ⌜ (n + 6 * suc (sectionAt k .most) ≤ length (now table))
+    requires room { ⌜ RowsRoom k n (drop at (now part)) (length (now table))
         × (n + 6 * sectionAt k .most ≤ tableCells) × Placed k n c × (c .rows ≡ 0) × (limit ≡ sectionAt k .most) ⌝ }
     ensures answer { λ r. ⌜ partOutcome r (now (table .exit)) (now (part .entry))
         ≡ throughRows reading (suc (sectionAt k .most)) k
@@ -191,7 +187,7 @@ fn read_section(
     c: Counts,
 ) -> Part
     requires format { ⌜ now format ≡ formatBytes ⌝ }
-    requires room { ⌜ (n + 6 * suc (sectionAt k .most) ≤ length (now table))
+    requires room { ⌜ RowsRoom k n (now part) (length (now table))
         × (n + 6 * sectionAt k .most ≤ tableCells) × Placed k n c ⌝ }
     ensures answer { λ r. ⌜ partOutcome r (now (table .exit)) (now (part .entry))
         ≡ throughSection reading k (stageAt (now (table .entry)) n c (now (part .entry))) ⌝ }
@@ -237,10 +233,10 @@ fn read_section(
 // The nine sections, each handed the rest of the text from its start.
 fn read_sections(format: &[u8], text: &[u8], table: &mut [u64]) -> Part
     requires format { ⌜ now format ≡ formatBytes ⌝ }
-    requires room { ⌜ length (now table) ≡ ownCells ⌝ }
+    requires room { ⌜ TextRoom (now text) (length (now table)) ⌝ }
     ensures answer { λ r. ⌜ partOutcome r (now (table .exit)) (now (text .entry))
         ≡ throughSections reading 9 0 (atStart (form ∷ []) (now (text .entry))) ⌝ }
-    ensures size { λ r. ⌜ (r .refusal ≡ 0 → r .cells ≤ tableCells) ⌝ }
+    ensures size { λ r. ⌜ (r .refusal ≡ 0 → r .cells ≤ length (now (table .entry))) ⌝ }
 {
     table[0] = 0;
     let mut k: usize = 0;
@@ -280,10 +276,10 @@ fn read_sections(format: &[u8], text: &[u8], table: &mut [u64]) -> Part
 
 // The whole file: its length, its sections, its order.
 pub fn read_whole(text: &[u8], table: &mut [u64]) -> Part
-    requires room { ⌜ length (now table) ≡ ownCells ⌝ }
+    requires room { ⌜ TextRoom (now text) (length (now table)) ⌝ }
     ensures answer { λ r. ⌜ partOutcome r (now (table .exit)) (now (text .entry))
         ≡ readStage (now (text .entry)) ⌝ }
-    ensures size { λ r. ⌜ (r .refusal ≡ 0 → r .cells ≤ tableCells) ⌝ }
+    ensures size { λ r. ⌜ (r .refusal ≡ 0 → r .cells ≤ length (now (table .entry))) ⌝ }
 {
     let none = Counts {
         labels: 0,
@@ -314,23 +310,4 @@ pub fn read_whole(text: &[u8], table: &mut [u64]) -> Part
         };
     }
     r
-}
-
-// The text read into the lent table: how many cells were written, or the refusal. After a refusal
-// the table is as it was.
-pub fn read(text: &[u8], table: &mut [u64]) -> Answer
-    ensures answer { λ r. ⌜ answerOf r ≡ answer (readCells (now (text .entry))) (length (now (table .entry))) ⌝ }
-    ensures memory { λ _. ⌜ now (table .exit) ≡ leaves (readCells (now (text .entry))) (now (table .entry)) ⌝ }
-{
-    let mut own = [0u64; OWN_CELLS];
-    let r = read_whole(text, &mut own);
-    if r.refusal != 0 {
-        return Answer::Refused(r.refusal);
-    }
-    let n = r.cells;
-    if table.len() < n {
-        return Answer::Refused(9);
-    }
-    copy_cells(&own, n, table);
-    Answer::Written(n)
 }

@@ -7,12 +7,12 @@ ghost use Rattle.graph_file.specs.Admission.{rowOf, value};
 ghost use Rattle.graph_file.specs.Line.{place};
 ghost use Rattle.graph_file.specs.Table.{lettersAt};
 
-// The cells of a table at most: the form, and six for each of the 2,045 rows that the nine sections
-// admit.
-pub const TABLE_CELLS: usize = 12271;
-
-// The reader's own table: the row past a limit needs six cells more while it is tested.
+// A table to read any text in: the form, six cells for each of the 2,045 rows that the nine sections
+// admit, and six more for a row past a limit while it is tested.
 pub const OWN_CELLS: usize = 12277;
+
+// A table to read a text of few lines in. Tables below 2 KiB are cleared in a few steps.
+pub const SHORT_CELLS: usize = 253;
 
 // The values of a row, which follow its section's number.
 const VALUES: usize = 5;

@@ -27,7 +27,7 @@ fn ends_line(b: u8) -> usize
 }
 
 // How many lines the text has.
-fn line_count(text: &[u8]) -> usize
+pub fn line_count(text: &[u8]) -> usize
     ensures answer { λ r. ⌜ r ≡ lineCount (now (text .entry)) ⌝ }
 {
     let mut n: usize = 0;

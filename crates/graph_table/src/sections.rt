@@ -2,7 +2,29 @@
 ghost use mathlib.Core.Path.{_≡_};
 ghost use Prim.Native.Nat.{_+_, _≤_, _<_};
 ghost use lib.ListN.{length, drop};
-ghost use Rattle.graph_table.specs.Sections.{leading, firstRow, startOf, partOf, rowsOf};
+ghost use Rattle.graph_table.specs.Sections.{leading, firstRow, rowsOf};
+
+// The nine sections by their numbers (01, "The gym file").
+pub const LABELS: usize = 0;
+
+pub const PAIRS: usize = 1;
+
+pub const TRANSITIONS: usize = 2;
+
+pub const ACCEPTS: usize = 3;
+
+pub const COUNT: usize = 4;
+
+pub const EDGES: usize = 5;
+
+pub const DECLARATIONS: usize = 6;
+
+pub const OPENS: usize = 7;
+
+pub const QUERIES: usize = 8;
+
+// The cells of a row: its section's number and five values.
+pub const ROW: usize = 6;
 
 // The cells of a row that rows are looked for by: its section's number, and the scope that it
 // stands at.
@@ -32,23 +54,6 @@ pub fn first_row(table: &[u64]) -> usize
     ensures answer { λ r. ⌜ r ≡ firstRow (now (table .entry)) ⌝ }
 {
     if table.len() == 0 { 0 } else { 1 }
-}
-
-// The place of the first row whose section number is k or more; where the whole rows end, if there
-// is none.
-pub fn rows_start(table: &[u64], k: u64) -> usize
-    ensures answer { λ r. ⌜ r ≡ startOf k (now (table .entry)) ⌝ }
-{
-    rows_from(table, SECTION, k, first_row(table))
-}
-
-// The rows of section k.
-pub fn section(table: &[u64], k: u32) -> &[u64]
-    ensures answer { λ r. ⌜ now r ≡ partOf k (now (table .entry)) ⌝ }
-{
-    let from = rows_start(table, k as u64);
-    let to = rows_from(table, SECTION, k as u64 + 1, from);
-    &table[from..to]
 }
 
 // How many rows there are.

@@ -14,10 +14,7 @@ use Rattle.scope_graph.specs.Computed.{Standing, judged}
 use Rattle.graph_file.specs.Format.{querySection}
 use Rattle.text_field.specs.Outcome.{Outcome, refused, done, andThen, refuseIf}
 use Rattle.graph_file.specs.File.{readCells}
-use Rattle.text_field.specs.Answer.{answer, answerOf}
 use Rattle.graph_file.specs.Decode.{rulesOf, graphOf, queriesOf, WasRead}
-use Rattle.text_field.specs.declared.answer.Answer.{Answer}
-use Rattle.text_field.specs.declared.answer.Answer.the-variants.{Refused}
 use Rattle.graph_table.specs.Sections.{partOf, rowsOf}
 use Rattle.path_row.specs.declared.form.Step.{Step}
 use Rattle.path_row.specs.declared.form.RowRead.{RowRead}
@@ -28,7 +25,7 @@ use Rattle.graph_table.specs.declared.rows.QueryRow.{QueryRow}
 use Rattle.graph_table.specs.Values.{queryRow}
 use Rattle.board.specs.Queries.{queryAt}
 use Rattle.board.proofs.Queries.{count-is, query-is}
-use Rattle.board.proofs.Texts.{ReadInto, read-refused}
+use Rattle.graph_file.proofs.TableLaws.{ReadInto}
 use Rattle.judge.specs.declared.standing.Judged.{Judged}
 use Rattle.judge.specs.declared.standing.Judged.the-variants.{Refused as No}
 use Rattle.judge.specs.Judge.{meaning, ruled, judgeOf, judgeAnswer}
@@ -157,10 +154,9 @@ module _ (cells : List ℕ) (was : WasRead cells) (queries : List ℕ) (i n : �
 
 -- a text that is refused, and one that is read
 module _ (text : List ℕ) (i : ℕ) (row : List ℕ) (records : ℕ) where
-  pub text-refused : (a : Answer) (o : List ℕ) → length o ≡ 12271 → answerOf a ≡ answer (readCells text) (length o) → (n : ℕ)
-      → a ≡ Refused n → meaning (No n) ≡ judgeAnswer text i row records
+  pub text-refused : (n : ℕ) → readCells text ≡ refused n → meaning (No n) ≡ judgeAnswer text i row records
   unfolding meaning judgeAnswer andThen
-  text-refused a o size told n b = rw (read-refused text a o size told n b)
+  text-refused n e = rw e
 
   pub text-judged : (n : ℕ) (t : List ℕ) → ReadInto text n t → (r : Judged) → meaning r ≡ judgeOf (take n t) i row records
       → meaning r ≡ judgeAnswer text i row records

@@ -2,9 +2,9 @@
 use crate::hops::behind;
 use crate::hops::state_along;
 use crate::limits::NO_STATE;
-use crate::limits::ROW_CELLS;
 use graph_table::DeclarationRow;
 use graph_table::QueryRow;
+use graph_table::ROW;
 use graph_table::declaration_row;
 use path_row::compare::label_number;
 use path_row::form::MOST_STEPS;
@@ -41,11 +41,11 @@ fn has_mark(decls: &[u64], sought: QueryRow, mark: u64, s: u64) -> bool
     ensures answer { λ r. ⌜ r ≡ hasMark sought mark s (rowsOf (now (decls .entry))) ⌝ }
 {
     let mut p: usize = 0;
-    while ROW_CELLS <= decls.len() - p {
+    while ROW <= decls.len() - p {
         if is_marked(declaration_row(decls, p), sought, mark, s) {
             return true;
         }
-        p += ROW_CELLS;
+        p += ROW;
     }
     false
 }

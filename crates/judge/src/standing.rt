@@ -1,11 +1,11 @@
 // The standing of a path row's path: is it reached, with its mark, and is it cut on its way?
 use crate::cut::is_cut;
-use crate::limits::DECLARATIONS;
 use crate::reached::is_reached;
 use block::scope_count;
 use block::taken;
 use board::declaring;
 use board::part;
+use graph_table::DECLARATIONS;
 use graph_table::QueryRow;
 use path_row::compare::first_step;
 use search::ALL;

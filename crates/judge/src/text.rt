@@ -3,22 +3,26 @@ use crate::limits::NO_FAULT;
 use crate::limits::NO_QUERY;
 use crate::limits::NO_ROOM;
 use crate::limits::NO_ROW;
-use crate::limits::QUERIES;
-use crate::limits::ROW_CELLS;
 use crate::standing::Judged;
 use crate::standing::standing;
 use block::SIZE;
 use board::part;
 use board::put_board;
-use graph_file::TABLE_CELLS;
-use graph_file::read;
+use graph_file::OWN_CELLS;
+use graph_file::SHORT_CELLS;
+use graph_file::is_short;
+use graph_file::read_over;
+use graph_table::QUERIES;
+use graph_table::ROW;
 use graph_table::query_row;
 use graph_table::row_count;
 use path_row::form::RowRead;
 use path_row::form::read_row;
 use text_field::Answer;
 ghost use mathlib.Core.Path.{_≡_};
+ghost use lib.ListN.{length};
 ghost use Rattle.graph_file.specs.Decode.{WasRead};
+ghost use Rattle.graph_file.specs.Reader.{TextRoom};
 ghost use Rattle.board.specs.Made.{Made};
 ghost use Rattle.judge.specs.Judge.{meaning, judgeOf, judgeAnswer};
 ghost use Rattle.judge.specs.Steps.{queryFault, roomFault, firstFault};
@@ -70,7 +74,7 @@ fn judge_on(table: &[u64], block: &[u64], query: usize, row: &[u8], room: usize)
     if fault != NO_FAULT {
         return Judged::Refused(fault);
     }
-    let sought = query_row(queries, ROW_CELLS * query);
+    let sought = query_row(queries, ROW * query);
     standing(table, block, sought, mark, from, row)
 }
 
@@ -85,15 +89,32 @@ pub fn judge_of(table: &[u64], query: usize, row: &[u8], room: usize) -> Judged
     judge_on(table, &block, query, row, room)
 }
 
-// The standing of a row for a query of a text: refusals 1 to 6, then those of `judge_of`. No file
-// makes more than 12,271 cells.
-pub fn judge_text<'s>(text: &'s [u8], query: usize, row: &'s [u8], room: usize) -> Judged
+// The standing of a row for a query of a text, which is read over a table that has room for it.
+fn judge_over<'s>(
+    text: &'s [u8],
+    table: &mut [u64],
+    query: usize,
+    row: &'s [u8],
+    room: usize,
+) -> Judged
+    requires room { ⌜ TextRoom (now text) (length (now table)) ⌝ }
     ensures answer { λ r. ⌜ meaning r ≡ judgeAnswer (now (text .entry)) query (now (row .entry)) room ⌝ }
 {
-    let mut table = [0u64; TABLE_CELLS];
-    let a = read(text, &mut table);
+    let a = read_over(text, table);
     match a {
         Answer::Refused(n) => Judged::Refused(n),
         Answer::Written(n) => judge_of(&table[..n], query, row, room),
     }
+}
+
+// The standing of a row for a query of a text: refusals 1 to 6, then those of `judge_of`.
+pub fn judge_text<'s>(text: &'s [u8], query: usize, row: &'s [u8], room: usize) -> Judged
+    ensures answer { λ r. ⌜ meaning r ≡ judgeAnswer (now (text .entry)) query (now (row .entry)) room ⌝ }
+{
+    if is_short(text) {
+        let mut table = [0u64; SHORT_CELLS];
+        return judge_over(text, &mut table, query, row, room);
+    }
+    let mut table = [0u64; OWN_CELLS];
+    judge_over(text, &mut table, query, row, room)
 }

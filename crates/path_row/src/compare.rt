@@ -7,6 +7,7 @@ use crate::form::next_step;
 use crate::form::read_head;
 use crate::form::read_row;
 use crate::form::walk;
+use graph_table::ROW;
 use graph_table::in_section;
 use graph_table::letter_at;
 use graph_table::order_pair;
@@ -27,8 +28,6 @@ ghost use Rattle.path_row.specs.Lent.{stepsDue};
 ghost use Rattle.path_row.specs.Scan.{rowsFrom, scannedLetters, scannedOrder};
 ghost use Rattle.path_row.specs.Scan.{stepsPreferred, stepsCompared, endHere};
 
-// A row of the graph table takes six cells: its section's number and five values.
-const ROW_CELLS: usize = 6;
 // A file has no more label rows: a look through the table goes past no more.
 const MOST_LABELS: usize = 8;
 // A file has no more order pairs, which stand behind the label rows.
@@ -52,7 +51,7 @@ fn count_rows(cells: &[u64], at: usize, k: u64, most: usize) -> usize
         if !in_section(cells, p, k) {
             return n;
         }
-        p += ROW_CELLS;
+        p += ROW;
         n += 1;
     }
     n
@@ -72,7 +71,7 @@ pub fn label_number(cells: &[u64], x: u8) -> u64
         if letter_at(cells, p) == x as u64 {
             return n;
         }
-        p += ROW_CELLS;
+        p += ROW;
         n += 1;
     }
     n + x as u64
@@ -92,7 +91,7 @@ fn preferred_from(cells: &[u64], at: usize, less: End, more: End) -> bool
         if holds(order_pair(cells, p), less, more) {
             return true;
         }
-        p += ROW_CELLS;
+        p += ROW;
         left -= 1;
     }
     false
@@ -102,7 +101,7 @@ fn preferred_from(cells: &[u64], at: usize, less: End, more: End) -> bool
 fn preferred(cells: &[u64], less: End, more: End) -> bool
     ensures answer { λ r. ⌜ r ≡ preferredBy (scannedOrder (now (cells .entry))) (endMeaning less) (endMeaning more) ⌝ }
 {
-    let at = 1 + ROW_CELLS * count_rows(cells, 1, 0, MOST_LABELS);
+    let at = 1 + ROW * count_rows(cells, 1, 0, MOST_LABELS);
     preferred_from(cells, at, less, more)
 }
 

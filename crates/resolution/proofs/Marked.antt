@@ -17,32 +17,25 @@ use Rattle.scope_graph.specs.Listing.{Pairwise, RowBefore, FoundIs}
 use Rattle.scope_graph.specs.Completion.{Settled, Awaits}
 use Rattle.scope_graph.specs.Promises.{QueryPromises}
 use Rattle.scope_graph.proofs.Promises.{promises}
-use Rattle.text_field.specs.Bytes.{within, isDigit, isCapital, isLower, isNameByte}
-use Rattle.text_field.specs.Number.{digitsOf, numberText, growing, digitsFrom, numberHere, numberMeaning}
-use Rattle.text_field.specs.Name.{packed, packHigh, packLow, bytesOf, beforeZero, nameText, nameRun, nameOf, nameHere, nameMeaning}
-use Rattle.graph_file.specs.Format.{labels, pairs, transitions, accepts, scopeCount, edges, declarations, openPairs, queries, sections, sectionAt, everyItem}
-use Rattle.text_field.specs.Outcome.{Outcome, refused, done, andThen, refuseIf}
-use Rattle.graph_file.specs.Admission.{nothing, begun, joined, counted, taken, kindInRange, itemInRange, inRange, keyLess, listed, follows, unless, admission}
-use Rattle.graph_file.specs.Line.{numberTaken, nameTaken, byteTaken, place, endTaken, readField, startsWith, readItem, placeOf, readItems}
-use Rattle.graph_file.specs.Order.{someRow, sameEnds, gap, pairFault, orderFault}
-use Rattle.graph_file.specs.File.{ifAdmitted, afterRow, oneRow, throughRows, afterNames, enough, throughSection, isEmpty, throughSections, ordered, atStart, whole, readNames, rowFollows, readRow, reading, readStage, madeOf, readCells}
+use Rattle.text_field.specs.Number.{digitsOf, numberText}
+use Rattle.text_field.specs.Name.{packed, packHigh, packLow, bytesOf, beforeZero, nameText}
+use Rattle.text_field.specs.Outcome.{Outcome, done}
+use Rattle.graph_file.specs.File.{readCells}
 use Rattle.graph_file.specs.Decode.{keptIf, rowsAmong, rowsIn, lettersOf, orderPairOf, transitionOf, rulesOf, nameAt, edgeOf, declarationOf, openPairOf, queryOf, scopesOf, graphOf, opensOf, queriesOf}
 use Rattle.graph_file.specs.Accepted.{AcceptedTable}
 use Rattle.graph_file.proofs.DecodeAccepted.{read-accepted}
 use Rattle.follow.specs.Text.{foundText, letterOf, hopsText, rowText, endText}
 use Rattle.resolution.specs.Listing.{awaitsText, foundFor, entriesText, listingText}
 use Rattle.board.specs.Queries.{queryAt}
+use Rattle.board.specs.Example.{hours, service, exampleText}
 use Rattle.resolution.specs.Demand.{shownText}
-use Rattle.resolution.specs.Marked.{hours, service, serviceAt2, serviceAt3Awaits3, hoursAt2, serviceAt3, serviceAt3Awaits1, hoursAt2AwaitsI, hoursTwice, serviceAt0, exampleText, closedText, open1Text, open2PText, open2IText, twoMarksText, turnedText, I, P, Shown, pathRow, openPair, queryFor, Dash, Lists, Judges, Marked}
+use Rattle.resolution.specs.Marked.{serviceAt2, serviceAt3Awaits3, hoursAt2, serviceAt3, serviceAt3Awaits1, hoursAt2AwaitsI, hoursTwice, serviceAt0, closedText, open1Text, open2PText, open2IText, twoMarksText, turnedText, I, P, Shown, pathRow, openPair, queryFor, Dash, Lists, Judges, Marked}
 use Rattle.resolution.proofs.Demand.{listing-is}
 use Rattle.board.proofs.Queries.{getD-in}
+use Rattle.board.proofs.Example.{reads, exampleCells, example-read}
 
--- what reading a text computes with, and what a query's answers and their text do: each trial names
--- one of these alone on its `unfolding` line
-reads : Unit {0}
-unfolding labels pairs transitions accepts scopeCount edges declarations openPairs queries sections sectionAt andThen refuseIf nothing begun joined counted taken everyItem kindInRange itemInRange inRange keyLess listed follows unless admission someRow sameEnds gap pairFault orderFault ifAdmitted afterRow oneRow throughRows afterNames enough throughSection isEmpty throughSections ordered atStart whole madeOf within isDigit isCapital isLower isNameByte numberTaken numberMeaning nameTaken nameMeaning byteTaken place endTaken readField startsWith readItem placeOf readItems growing digitsFrom numberHere packed packHigh packLow nameRun nameOf nameHere readNames rowFollows readRow reading readStage readCells
-reads = tt
-
+-- what a query's answers and their text compute with: each trial names it alone on its `unfolding`
+-- line
 unfoldable pub answers : Unit {0}
 unfolding flatMap sameEnd sameName anyOf preferredBy nextBy keep firstOf anyBelow foundOf hopsAt marksAt declaresAny behind hopOn nodesFrom leadsOn usable sameHop sameHops preferredTo nodes reachedNodes cut rowsAt entries found isReached standing judged openEnd followedAt awaits endOf keptIf rowsAmong rowsIn lettersOf orderPairOf transitionOf rulesOf nameAt edgeOf declarationOf openPairOf queryOf scopesOf graphOf opensOf queriesOf queryAt packed packHigh packLow shownText awaitsText foundText letterOf hopsText rowText endText digitsOf numberText bytesOf beforeZero nameText
 answers = tt
@@ -88,13 +81,6 @@ module _ (text cells : List ℕ) (e : readCells text ≡ done cells) (i : ℕ) (
     settled = dash o w;
     printed = listing-is text cells e i h ∙ ap {B = Outcome (List ℕ)} (λ (t : List ℕ). done t) (shown-parts (queryFor (rulesOf cells) start name) f (openPair (rulesOf cells) o) (map (pathRow (rulesOf cells)) rows) s d w r ∙ shown);
   }
-
-abbrev pub exampleCells : List ℕ
-exampleCells = 0 ∷ 0 ∷ 73 ∷ 0 ∷ 0 ∷ 0 ∷ 0 ∷ 0 ∷ 80 ∷ 0 ∷ 0 ∷ 0 ∷ 0 ∷ 1 ∷ 0 ∷ 1 ∷ 0 ∷ 0 ∷ 0 ∷ 1 ∷ 0 ∷ 2 ∷ 0 ∷ 0 ∷ 0 ∷ 1 ∷ 1 ∷ 2 ∷ 0 ∷ 0 ∷ 0 ∷ 2 ∷ 0 ∷ 0 ∷ 1 ∷ 0 ∷ 0 ∷ 2 ∷ 0 ∷ 1 ∷ 0 ∷ 0 ∷ 0 ∷ 2 ∷ 1 ∷ 0 ∷ 1 ∷ 0 ∷ 0 ∷ 3 ∷ 0 ∷ 0 ∷ 0 ∷ 0 ∷ 0 ∷ 3 ∷ 1 ∷ 0 ∷ 0 ∷ 0 ∷ 0 ∷ 4 ∷ 5 ∷ 0 ∷ 0 ∷ 0 ∷ 0 ∷ 5 ∷ 1 ∷ 1 ∷ 0 ∷ 0 ∷ 0 ∷ 5 ∷ 2 ∷ 0 ∷ 4 ∷ 0 ∷ 0 ∷ 5 ∷ 2 ∷ 1 ∷ 1 ∷ 0 ∷ 0 ∷ 5 ∷ 3 ∷ 1 ∷ 1 ∷ 0 ∷ 0 ∷ 6 ∷ 0 ∷ 7525362636775489536 ∷ 0 ∷ 5 ∷ 0 ∷ 6 ∷ 1 ∷ 8315178139909317888 ∷ 0 ∷ 10 ∷ 0 ∷ 6 ∷ 2 ∷ 8315178139909317888 ∷ 0 ∷ 21 ∷ 0 ∷ 6 ∷ 4 ∷ 7525362636775489536 ∷ 0 ∷ 40 ∷ 0 ∷ 7 ∷ 3 ∷ 0 ∷ 0 ∷ 0 ∷ 0 ∷ 8 ∷ 2 ∷ 8315178139909317888 ∷ 0 ∷ 0 ∷ 0 ∷ 8 ∷ 3 ∷ 8315178139909317888 ∷ 0 ∷ 0 ∷ 0 ∷ 8 ∷ 2 ∷ 7525362636775489536 ∷ 0 ∷ 0 ∷ 0 ∷ []
-
-pub example-read : readCells exampleText ≡ done exampleCells
-unfolding reads
-example-read = refl
 
 abbrev closedCells : List ℕ
 closedCells = 0 ∷ 0 ∷ 73 ∷ 0 ∷ 0 ∷ 0 ∷ 0 ∷ 0 ∷ 80 ∷ 0 ∷ 0 ∷ 0 ∷ 0 ∷ 1 ∷ 0 ∷ 1 ∷ 0 ∷ 0 ∷ 0 ∷ 1 ∷ 0 ∷ 2 ∷ 0 ∷ 0 ∷ 0 ∷ 1 ∷ 1 ∷ 2 ∷ 0 ∷ 0 ∷ 0 ∷ 2 ∷ 0 ∷ 0 ∷ 1 ∷ 0 ∷ 0 ∷ 2 ∷ 0 ∷ 1 ∷ 0 ∷ 0 ∷ 0 ∷ 2 ∷ 1 ∷ 0 ∷ 1 ∷ 0 ∷ 0 ∷ 3 ∷ 0 ∷ 0 ∷ 0 ∷ 0 ∷ 0 ∷ 3 ∷ 1 ∷ 0 ∷ 0 ∷ 0 ∷ 0 ∷ 4 ∷ 5 ∷ 0 ∷ 0 ∷ 0 ∷ 0 ∷ 5 ∷ 1 ∷ 1 ∷ 0 ∷ 0 ∷ 0 ∷ 5 ∷ 2 ∷ 0 ∷ 4 ∷ 0 ∷ 0 ∷ 5 ∷ 2 ∷ 1 ∷ 1 ∷ 0 ∷ 0 ∷ 5 ∷ 3 ∷ 1 ∷ 1 ∷ 0 ∷ 0 ∷ 6 ∷ 0 ∷ 7525362636775489536 ∷ 0 ∷ 5 ∷ 0 ∷ 6 ∷ 1 ∷ 8315178139909317888 ∷ 0 ∷ 10 ∷ 0 ∷ 6 ∷ 2 ∷ 8315178139909317888 ∷ 0 ∷ 21 ∷ 0 ∷ 6 ∷ 4 ∷ 7525362636775489536 ∷ 0 ∷ 40 ∷ 0 ∷ 8 ∷ 2 ∷ 8315178139909317888 ∷ 0 ∷ 0 ∷ 0 ∷ 8 ∷ 3 ∷ 8315178139909317888 ∷ 0 ∷ 0 ∷ 0 ∷ 8 ∷ 2 ∷ 7525362636775489536 ∷ 0 ∷ 0 ∷ 0 ∷ []

@@ -1,5 +1,4 @@
 // The ask of a query: its own block, made once for all that is asked about it.
-use crate::queries::DECLARATIONS;
 use block::ASKSIZE;
 use block::FROM;
 use block::GOAL;
@@ -8,6 +7,7 @@ use block::LOW;
 use block::taken;
 use board::declaring;
 use board::part;
+use graph_table::DECLARATIONS;
 use graph_table::QueryRow;
 use search::ALL;
 use search::goal_table;

@@ -1,6 +1,4 @@
 // `awaits`: the first open pair, in the order of the open rows, that is followed.
-use crate::queries::OPENS;
-use crate::queries::ROW;
 use crate::text::Awaits;
 use block::accept_set;
 use block::ask_goal;
@@ -11,6 +9,8 @@ use block::single;
 use block::usable_set;
 use board::part;
 use follow::is_followed;
+use graph_table::OPENS;
+use graph_table::ROW;
 use graph_table::open_row;
 use search::away_table;
 use search::place;

@@ -12,8 +12,10 @@ use crate::walks::take_entries;
 use block::SIZE;
 use board::put_board;
 use follow::Bounds;
-use graph_file::TABLE_CELLS;
-use graph_file::read;
+use graph_file::OWN_CELLS;
+use graph_file::SHORT_CELLS;
+use graph_file::is_short;
+use graph_file::read_over;
 use text_field::Answer;
 use text_field::put_bytes;
 ghost use mathlib.Core.Path.{_≡_};
@@ -24,6 +26,7 @@ ghost use Rattle.text_field.specs.Buffer.{Buf, puts};
 ghost use Rattle.text_field.specs.Outcome.{done};
 ghost use Rattle.text_field.specs.Answer.{answer, leaves, answerOf};
 ghost use Rattle.graph_file.specs.Decode.{queriesOf, WasRead};
+ghost use Rattle.graph_file.specs.Reader.{TextRoom};
 ghost use Rattle.board.specs.Made.{Made};
 ghost use Rattle.board.specs.Queries.{queryAt};
 ghost use Rattle.resolution.specs.Listing.{foundFor, listingText, listingOf, listingFor};
@@ -136,16 +139,29 @@ pub fn listing_of(table: &[u64], query: usize, out: &mut [u8]) -> Answer
     l.answer
 }
 
+// The listing of a query of a text, which is read over a table that has room for it.
+fn listing_over(text: &[u8], table: &mut [u64], query: usize, out: &mut [u8]) -> Answer
+    requires room { ⌜ TextRoom (now text) (length (now table)) ⌝ }
+    ensures answer { λ r. ⌜ answerOf r ≡ answer (listingFor (now (text .entry)) query) (length (now (out .entry))) ⌝ }
+    ensures memory { λ r. ⌜ now (out .exit) ≡ leaves (listingFor (now (text .entry)) query) (now (out .entry)) ⌝ }
+{
+    let a = read_over(text, table);
+    match a {
+        Answer::Refused(n) => Answer::Refused(n),
+        Answer::Written(n) => listing_of(&table[..n], query, out),
+    }
+}
+
 // The listing of a query of a text: refusals 1 to 6, then 7, then 9. After a refusal the buffer is
 // as it was.
 pub fn listing(text: &[u8], query: usize, out: &mut [u8]) -> Answer
     ensures answer { λ r. ⌜ answerOf r ≡ answer (listingFor (now (text .entry)) query) (length (now (out .entry))) ⌝ }
     ensures memory { λ r. ⌜ now (out .exit) ≡ leaves (listingFor (now (text .entry)) query) (now (out .entry)) ⌝ }
 {
-    let mut table = [0u64; TABLE_CELLS];
-    let a = read(text, &mut table);
-    match a {
-        Answer::Refused(n) => Answer::Refused(n),
-        Answer::Written(n) => listing_of(&table[..n], query, out),
+    if is_short(text) {
+        let mut table = [0u64; SHORT_CELLS];
+        return listing_over(text, &mut table, query, out);
     }
+    let mut table = [0u64; OWN_CELLS];
+    listing_over(text, &mut table, query, out)
 }

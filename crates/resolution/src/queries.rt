@@ -1,6 +1,8 @@
 // The queries of a table, by number.
 use board::part;
+use graph_table::QUERIES;
 use graph_table::QueryRow;
+use graph_table::ROW;
 use graph_table::query_row;
 use graph_table::row_count;
 ghost use mathlib.Core.Path.{_≡_};
@@ -11,16 +13,6 @@ ghost use Rattle.board.specs.Made.{Made};
 ghost use Rattle.board.specs.Queries.{queryAt};
 ghost use Rattle.resolution.specs.Asked.{queryOn};
 ghost use Rattle.board.specs.Queries.{Asked};
-
-// The sections of a graph table that a query looks at, by their numbers (01, "The gym file").
-pub const DECLARATIONS: usize = 6;
-
-pub const OPENS: usize = 7;
-
-const QUERIES: usize = 8;
-
-// The cells of a row: its section's number and five values.
-pub const ROW: usize = 6;
 
 // How many queries there are.
 pub fn query_count(table: &[u64], block: &[u64]) -> usize

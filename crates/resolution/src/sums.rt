@@ -7,8 +7,10 @@ use crate::text::Found;
 use crate::walks::found_of;
 use block::SIZE;
 use board::put_board;
-use graph_file::TABLE_CELLS;
-use graph_file::read;
+use graph_file::OWN_CELLS;
+use graph_file::SHORT_CELLS;
+use graph_file::is_short;
+use graph_file::read_over;
 use text_field::Answer;
 use text_field::put_byte;
 use text_field::put_bytes;
@@ -20,6 +22,7 @@ ghost use Rattle.text_field.specs.Buffer.{Buf, puts};
 ghost use Rattle.text_field.specs.Outcome.{done};
 ghost use Rattle.text_field.specs.Answer.{answer, leaves, answerOf};
 ghost use Rattle.graph_file.specs.Decode.{queriesOf, WasRead};
+ghost use Rattle.graph_file.specs.Reader.{TextRoom};
 ghost use Rattle.board.specs.Made.{Made};
 ghost use Rattle.resolution.specs.Summary.{shareText};
 ghost use Rattle.resolution.specs.Listing.{summaryOf, summaryFor};
@@ -156,15 +159,28 @@ pub fn summary_of(table: &[u64], out: &mut [u8]) -> Answer
     summary_by(c, out)
 }
 
+// The summary of a text, which is read over a table that has room for it.
+fn summary_over(text: &[u8], table: &mut [u64], out: &mut [u8]) -> Answer
+    requires room { ⌜ TextRoom (now text) (length (now table)) ⌝ }
+    ensures answer { λ r. ⌜ answerOf r ≡ answer (summaryFor (now (text .entry))) (length (now (out .entry))) ⌝ }
+    ensures memory { λ r. ⌜ now (out .exit) ≡ leaves (summaryFor (now (text .entry))) (now (out .entry)) ⌝ }
+{
+    let a = read_over(text, table);
+    match a {
+        Answer::Refused(n) => Answer::Refused(n),
+        Answer::Written(n) => summary_of(&table[..n], out),
+    }
+}
+
 // The summary of a text: refusals 1 to 6, then 9. After a refusal the buffer is as it was.
 pub fn summary(text: &[u8], out: &mut [u8]) -> Answer
     ensures answer { λ r. ⌜ answerOf r ≡ answer (summaryFor (now (text .entry))) (length (now (out .entry))) ⌝ }
     ensures memory { λ r. ⌜ now (out .exit) ≡ leaves (summaryFor (now (text .entry))) (now (out .entry)) ⌝ }
 {
-    let mut table = [0u64; TABLE_CELLS];
-    let a = read(text, &mut table);
-    match a {
-        Answer::Refused(n) => Answer::Refused(n),
-        Answer::Written(n) => summary_of(&table[..n], out),
+    if is_short(text) {
+        let mut table = [0u64; SHORT_CELLS];
+        return summary_over(text, &mut table, out);
     }
+    let mut table = [0u64; OWN_CELLS];
+    summary_over(text, &mut table, out)
 }

@@ -30,7 +30,7 @@ use Rattle.graph_file.specs.Decode.{WasRead}
 use Rattle.resolution.specs.declared.sums.Figures.{Figures}
 use Rattle.resolution.specs.Figures.{noFigures, figuresOver, figuresText}
 use Rattle.resolution.proofs.Buffers.{head-fits, short-answer, short-leaves, whole-answer, whole-leaves, own-within}
-use Rattle.resolution.proofs.Reading.{ReadInto, made-read}
+use Rattle.graph_file.proofs.TableLaws.{ReadInto, made-read}
 use Rattle.resolution.proofs.Counts.{queries-few, figures-few, figures-text, summary-short}
 use Rattle.resolve.specs.Printed.{refusedLine, inPlace, lent, tableText, outcomeText, programText, Due}
 use Rattle.resolve.specs.Parts.{answered, partText, partsText}
@@ -258,26 +258,16 @@ module _ (cells : List ℕ) (was : WasRead cells) where
         due-turn next e = subst (λ (k : ℕ). Due text k (left (i + 1))) (sym e) (due-rest text sent (partText lent cells i) (left (i + 1)) split)
 
 -- a text that is refused, and one that is read
-pub for-refused : (text : List ℕ) (a : Answer) (n room : ℕ) → room ≡ 12271 → answerOf a ≡ answer (readCells text) room → a ≡ Refused n → programText text ≡ refusedLine n
-unfolding answerOf answer andThen programText outcomeText
-for-refused text a n room k e b = by (readCells text) refl
-  where
-    by : (o : Outcome (List ℕ)) → readCells text ≡ o → programText text ≡ refusedLine n
-    by (refused m) f =
-        let z : _≡_ {A = Outcome ℕ} (refused n) (refused m) = ap answerOf (sym b) ∙ e ∙ ap (λ (x : Outcome (List ℕ)). answer x room) f in
-        let y : m ≡ n = cc in
-        ap outcomeText f ∙ ap refusedLine y
-    by (done cells) f =
-        let w = read-accepted text cells f .size-most in
-        let z : _≡_ {A = Outcome ℕ} (refused n) (done (length cells)) = ap answerOf (sym b) ∙ e ∙ ap (λ (x : Outcome (List ℕ)). answer x room) f ∙ sym (whole-answer cells room (omega arith)) in
-        absurd (let y : _≡_ {A = ℕ} 0 1 = cc in omega arith)
+pub for-refused : (text : List ℕ) (n : ℕ) → readCells text ≡ refused n → programText text ≡ refusedLine n
+unfolding programText outcomeText
+for-refused text n e = ap outcomeText e
 
 pub for-read : (text : List ℕ) (n : ℕ) (t : List ℕ) → ReadInto text n t → programText text ≡ tableText (take n t)
 unfolding programText outcomeText
 for-read text n t m = ap outcomeText (m .made)
 
-pub refused-due : (text : List ℕ) (a : Answer) (n room : ℕ) → room ≡ 12271 → answerOf a ≡ answer (readCells text) room → a ≡ Refused n → n < 18446744073709551616 → Due text 0 (refusedLine n)
-refused-due text a n room k e b h = due-whole text (refusedLine n) (for-refused text a n room k e b) (let s = refused-short n h in omega arith)
+pub refused-due : (text : List ℕ) (n : ℕ) → readCells text ≡ refused n → n < 18446744073709551616 → Due text 0 (refusedLine n)
+refused-due text n e h = due-whole text (refusedLine n) (for-refused text n e) (let s = refused-short n h in omega arith)
 
 pub read-due : (text : List ℕ) (n : ℕ) (t : List ℕ) → ReadInto text n t → Due text 0 (tableText (take n t))
 read-due text n t m = due-whole text (tableText (take n t)) (for-read text n t m) (table-counted (take n t) (made-read text n t m))

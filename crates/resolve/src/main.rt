@@ -10,8 +10,8 @@ mod parts;
 
 use block::SIZE;
 use board::put_board;
-use graph_file::TABLE_CELLS;
-use graph_file::read;
+use graph_file::OWN_CELLS;
+use graph_file::read_over;
 use parts::put_listing;
 use parts::put_refused;
 use parts::put_summary;
@@ -150,8 +150,8 @@ fn print_table(text: &[u8], sent: usize, table: &[u64]) -> usize
 fn print_for(text: &[u8]) -> usize
     ensures answer { λ r. ⌜ r ≡ length (programText (now (text .entry))) ⌝ }
 {
-    let mut table = [0u64; TABLE_CELLS];
-    let a = read(text, &mut table);
+    let mut table = [0u64; OWN_CELLS];
+    let a = read_over(text, &mut table);
     match a {
         Answer::Refused(n) => print_refused(text, 0, n),
         Answer::Written(n) => print_table(text, 0, &table[..n]),

@@ -1,13 +1,12 @@
 -- Which ends are cut, from which ends lead on; what is known of a node's ends. Assumes nothing.
-use mathlib.Core.Path.{_≡_, refl, sym, _∙_, subst}
+use mathlib.Core.Path.{_≡_, refl, sym, ap, _∙_, subst}
 use mathlib.Core.Logic.{_⊎_, inl, inr, ⊎-elim}
 use mathlib.Core.Bool.{Bool, true, false, not, _&&_, false≢true}
 use mathlib.Core.List.{List}
 use Prim.Native.Nat.{ℕ, zero, suc, _+_, _-_, _/_, _%_, _^_, _≤_, _<_}
 use native.Mathlib.Omega.{arith}
-use native.Mathlib.Numerals.{sub-one}
 use native.Mathlib.Nat.{mod-lt, lt-of-lt-of-le}
-use borrow.Author.Tests.{eq-eqb, eqb-true, lt-ltb, ltb-true, ltb-false, not-false}
+use borrow.Author.Tests.{eq-eqb, eqb-true, ltb-true, ltb-false, not-false}
 use lib.Bits.{bitAnd, bitOr, bitXor}
 use lib.Dec.{eqb, ltb}
 use lib.ListN.{getD}
@@ -18,15 +17,16 @@ use Rattle.scope_graph.specs.Path.{HopOf}
 use Rattle.scope_graph.specs.Rows.{anyOf}
 use Rattle.scope_graph.proofs.Lists.{Two, and-left, and-right, and-both, or-cases, or-left, or-right, not-true, true-false, anyOf-intro, anyOf-elim}
 use Rattle.block.specs.Layout.{BETTER}
-use Rattle.block.specs.Sets.{hasBit, hasScope, placesOf}
+use Rattle.block.specs.Sets.{hasBit, hasScope, hasLabel, placesOf}
 use Rattle.block.specs.Block.{acceptSet, pairFlag, blockHops}
-use Rattle.block.proofs.SetLaws.{bits-or, bits-less, bits-none, bits-common, scope-in}
+use Rattle.block.proofs.SetLaws.{bits-or, bits-less, bits-none, bits-common, scope-in, labels-single}
 use Rattle.block.proofs.BlockLaws.{pair-in, pair-no-first, pair-no-second, pair-first}
 use Rattle.search.specs.declared.Node.{Node}
 use Rattle.search.specs.Board.{Board, hopLeads, cutHere}
 use Rattle.search.specs.Tables.{tableOrder, endNumber, tableBoard}
-use Rattle.search.specs.Conditions.{wantedHop, behindEnd, Known}
+use Rattle.search.specs.Conditions.{behindEnd, Known}
 use Rattle.search.specs.Steps.{leadsBy}
+use Rattle.search.proofs.RulesLists.{anyOf-same}
 
 -- an end's number and back
 end-number : (c : ℕ) → endNumber (endOf c) ≡ c
@@ -44,23 +44,21 @@ module _ (block : List ℕ) (goal : ℕ) (n : Node) (a : ℕ) where
   unfolding behindEnd tableBoard
   behind-stop e = rw e
 
-  pub behind-by : (a ≡ 0 → ⊥) → behind ≡ leadsBy (tableBoard block goal) n (a - 1) (blockHops block (n .scope))
+  -- by the set of its one label
+  pub behind-by : (labels : ℕ) → (a ≡ 0 → ⊥) → a < 9 → ((u : ℕ) → hasScope labels u ≡ eqb u (a - 1))
+      → behind ≡ leadsBy (tableBoard block goal) n labels (blockHops block (n .scope))
   unfolding behindEnd tableBoard
-  behind-by h = at a h
+  behind-by labels h below one = at a h below one
     where
-      at : (k : ℕ) → (k ≡ 0 → ⊥) → behindEnd (tableBoard block goal) (n .left) (hasScope (n .free)) (n .scope) (n .state) k
-          ≡ leadsBy (tableBoard block goal) n (k - 1) (blockHops block (n .scope))
-      at zero k = absurd (k refl)
-      at (suc l) k = simp sub-one
-
--- which hops the number of a label asks for
-wanted-step : (l : ℕ) (h : HopOf ℕ) → l < 8 → wantedHop l h ≡ true → h .step ≡ l
-unfolding wantedHop
-wanted-step l h k e = eqb-true (h .step) l (rw (lt-ltb l 8 k, wantedHop) at e)
-
-wanted-own : (h : HopOf ℕ) → h .step < 8 → wantedHop (h .step) h ≡ true
-unfolding wantedHop
-wanted-own h k = rw (lt-ltb (h .step) 8 k, wantedHop) (eq-eqb (h .step) (h .step) refl)
+      at : (k : ℕ) → (k ≡ 0 → ⊥) → k < 9 → ((u : ℕ) → hasScope labels u ≡ eqb u (k - 1))
+          → behindEnd (tableBoard block goal) (n .left) (hasScope (n .free)) (n .scope) (n .state) k
+          ≡ leadsBy (tableBoard block goal) n labels (blockHops block (n .scope))
+      at zero k m is = absurd (k refl)
+      at (suc l) k m is =
+          let same : suc l - 1 ≡ l = omega arith in
+          let own : (u : ℕ) → hasLabel labels u ≡ eqb u l = labels-single labels l (omega arith) (λ u. rw same at (is u)) in
+          anyOf-same _ _ (blockHops block (n .scope))
+          (λ y t. ap (λ (b : Bool). b && hopLeads (tableBoard block goal) (n .left) (hasScope (n .free)) (n .state) y) (sym (own (y .step))))
 
 module _ (b : Board ℕ) (block : List ℕ) (fuel : ℕ) (free : ℕ → Bool) (s q c : ℕ) where
   abbrev by-hop : HopOf ℕ → Bool
@@ -75,13 +73,13 @@ module _ (b : Board ℕ) (block : List ℕ) (fuel : ℕ) (free : ℕ → Bool) (
   unfolding cutHere behindEnd tableOrder endNumber
   cut-yes zero h k m = or-left by-stop _ (and-both (b .here s q) _ m (rw (end-number c) k))
   cut-yes (suc l) h k m =
-      let found = anyOf-elim (λ y. wantedHop l y && hopLeads b fuel free q y) (b .hops s) m in
+      let found = anyOf-elim (λ y. eqb (y .step) l && hopLeads b fuel free q y) (b .hops s) m in
       let hop = found .0 in
-      let is : hop .step ≡ l = wanted-step l hop (omega arith) (and-left (wantedHop l hop) _ (found .2)) in
+      let is : hop .step ≡ l = eqb-true (hop .step) l (and-left (eqb (hop .step) l) _ (found .2)) in
       let first : tableOrder block (by (hop .step)) (endOf c) ≡ true = rw (is, end-number c) k in
       or-right by-stop _ (anyOf-intro by-hop {a = hop} {l = b .hops s} (found .1)
       (and-both (tableOrder block (by (hop .step)) (endOf c)) (hopLeads b fuel free q hop) first
-      (and-right (wantedHop l hop) (hopLeads b fuel free q hop) (found .2))))
+      (and-right (eqb (hop .step) l) (hopLeads b fuel free q hop) (found .2))))
 
   -- and nothing else does
   cut-some : cutHere b (tableOrder block) fuel free s q (endOf c) ≡ true
@@ -98,8 +96,8 @@ module _ (b : Board ℕ) (block : List ℕ) (fuel : ℕ) (free : ℕ → Bool) (
         suc (hop .step),
         below,
         first,
-        anyOf-intro (λ y. wantedHop (hop .step) y && hopLeads b fuel free q y) {a = hop} {l = b .hops s} (found .1)
-            (and-both (wantedHop (hop .step) hop) (hopLeads b fuel free q hop) (wanted-own hop (omega arith))
+        anyOf-intro (λ y. eqb (y .step) (hop .step) && hopLeads b fuel free q y) {a = hop} {l = b .hops s} (found .1)
+            (and-both (eqb (hop .step) (hop .step)) (hopLeads b fuel free q hop) (eq-eqb (hop .step) (hop .step) refl)
             (and-right (tableOrder block (by (hop .step)) (endOf c)) (hopLeads b fuel free q hop) (found .2))),
       ))
       (or-cases by-stop _ e)

@@ -6,62 +6,51 @@ use mathlib.Core.List.{List, [], _∷_, List·Memᴰ·cases-cons, List·Memᴰ·
 use Prim.Native.Nat.{ℕ, zero, suc, _+_, _-_, _≤_, _<_}
 use native.Mathlib.Omega.{arith}
 use native.Mathlib.Numerals.{add-one}
-use borrow.Author.Tests.{lt-ltb, le-ltb}
-use lib.Dec.{eqb, ltb}
 use Rattle.scope_graph.specs.Language.{_∈_}
 use Rattle.scope_graph.specs.Path.{HopOf}
 use Rattle.scope_graph.proofs.Lists.{Two, here, there}
-use Rattle.block.specs.Sets.{hasScope}
+use Rattle.block.specs.Sets.{hasScope, hasLabel, ALL_LABELS}
 use Rattle.block.specs.Block.{nextCell, firstEdge, edgeCell, hopOf, hopsOn, blockHops}
-use Rattle.block.proofs.BlockLaws.{on-none, on-more, blockHops-in}
+use Rattle.block.proofs.SetLaws.{label-lacked}
+use Rattle.block.proofs.BlockLaws.{next-no-label, on-none, on-more, blockHops-in}
 use Rattle.search.specs.declared.Node.{Node}
 use Rattle.search.specs.Tables.{placeFlag}
-use Rattle.search.specs.Conditions.{wantedHop}
 use Rattle.search.specs.Steps.{worthState, NextHop}
-use Rattle.search.proofs.Cells.{place-state}
-
-module _ (want : ℕ) (h : HopOf ℕ) where
-  pub wanted-one : want < 8 → wantedHop want h ≡ eqb (h .step) want
-  unfolding wantedHop
-  wanted-one k = rw (lt-ltb want 8 k, wantedHop)
-
-  pub wanted-all : 8 ≤ want → wantedHop want h ≡ true
-  unfolding wantedHop
-  wanted-all k = rw (le-ltb want 8 k, wantedHop)
+use Rattle.search.proofs.Cells.{place-state, place-no-state}
 
 -- a hop worth entering, or none
-module _ (block table : List ℕ) (free q want : ℕ) (h : HopOf ℕ) where
-  pub hop-yes : wantedHop want h ≡ true → hasScope free (h .to) ≡ true → placeFlag table (h .to) (nextCell block q (h .step)) ≡ true
-      → worthState block table free q want h ≡ nextCell block q (h .step)
+module _ (block table : List ℕ) (free q labels : ℕ) (h : HopOf ℕ) where
+  pub hop-yes : hasLabel labels (h .step) ≡ true → hasScope free (h .to) ≡ true → placeFlag table (h .to) (nextCell block q (h .step)) ≡ true
+      → worthState block table free q labels h ≡ nextCell block q (h .step)
   unfolding worthState
   hop-yes w f p = rw (w, f, p, worthState)
 
-  pub hop-unwanted : wantedHop want h ≡ false → worthState block table free q want h ≡ 16
+  pub hop-unasked : hasLabel labels (h .step) ≡ false → worthState block table free q labels h ≡ 16
   unfolding worthState
-  hop-unwanted w = rw (w, worthState)
+  hop-unasked w = rw (w, worthState)
 
-  pub hop-taken : hasScope free (h .to) ≡ false → worthState block table free q want h ≡ 16
+  pub hop-taken : hasScope free (h .to) ≡ false → worthState block table free q labels h ≡ 16
   unfolding worthState
-  hop-taken f = rw (f, and-false (wantedHop want h), worthState)
+  hop-taken f = rw (f, and-false (hasLabel labels (h .step)), worthState)
 
-  pub hop-dead : placeFlag table (h .to) (nextCell block q (h .step)) ≡ false → worthState block table free q want h ≡ 16
+  pub hop-dead : placeFlag table (h .to) (nextCell block q (h .step)) ≡ false → worthState block table free q labels h ≡ 16
   unfolding worthState
-  hop-dead p = rw (p, and-false (hasScope free (h .to)), and-false (wantedHop want h), worthState)
+  hop-dead p = rw (p, and-false (hasScope free (h .to)), and-false (hasLabel labels (h .step)), worthState)
 
   -- what a hop that is worth entering has
   pub record Worthy : Type 0 where
-    pub asked : wantedHop want h ≡ true
+    pub asked : hasLabel labels (h .step) ≡ true
     pub free-to : hasScope free (h .to) ≡ true
     pub held : placeFlag table (h .to) (nextCell block q (h .step)) ≡ true
 
   -- and what one that is not lacks
   abbrev pub Idle : Type 0
-  Idle = (wantedHop want h ≡ false) ⊎ ((hasScope free (h .to) ≡ false) ⊎ (placeFlag table (h .to) (nextCell block q (h .step)) ≡ false))
+  Idle = (hasLabel labels (h .step) ≡ false) ⊎ ((hasScope free (h .to) ≡ false) ⊎ (placeFlag table (h .to) (nextCell block q (h .step)) ≡ false))
 
   worthy-or : Worthy ⊎ Idle
-  worthy-or = at (Two (wantedHop want h)) (Two (hasScope free (h .to))) (Two (placeFlag table (h .to) (nextCell block q (h .step))))
+  worthy-or = at (Two (hasLabel labels (h .step))) (Two (hasScope free (h .to))) (Two (placeFlag table (h .to) (nextCell block q (h .step))))
     where
-      at : (wantedHop want h ≡ true) ⊎ (wantedHop want h ≡ false) → (hasScope free (h .to) ≡ true) ⊎ (hasScope free (h .to) ≡ false)
+      at : (hasLabel labels (h .step) ≡ true) ⊎ (hasLabel labels (h .step) ≡ false) → (hasScope free (h .to) ≡ true) ⊎ (hasScope free (h .to) ≡ false)
           → (placeFlag table (h .to) (nextCell block q (h .step)) ≡ true) ⊎ (placeFlag table (h .to) (nextCell block q (h .step)) ≡ false)
           → Worthy ⊎ Idle
       at (inr w) f p = inr (inl w)
@@ -69,26 +58,34 @@ module _ (block table : List ℕ) (free q want : ℕ) (h : HopOf ℕ) where
       at (inl w) (inl f) (inr p) = inr (inr (inr p))
       at (inl w) (inl f) (inl p) = inl (record { asked = w; free-to = f; held = p })
 
-  worthy-small : Worthy → worthState block table free q want h < 16
+  worthy-small : Worthy → worthState block table free q labels h < 16
   worthy-small w =
       let is = hop-yes (w .asked) (w .free-to) (w .held) in
       omega (arith, is, place-state table (h .to) (nextCell block q (h .step)) (w .held))
 
-  idle-large : Idle → worthState block table free q want h ≡ 16
-  idle-large = ⊎-elim hop-unwanted (⊎-elim hop-taken hop-dead)
+  idle-large : Idle → worthState block table free q labels h ≡ 16
+  idle-large = ⊎-elim hop-unasked (⊎-elim hop-taken hop-dead)
 
-  pub worthy : worthState block table free q want h < 16 → Worthy
+  pub worthy : worthState block table free q labels h < 16 → Worthy
   worthy k = ⊎-elim (λ w. w) (λ i. absurd (omega (arith, idle-large i))) worthy-or
 
-  pub idle : 16 ≤ worthState block table free q want h → Idle
+  pub idle : 16 ≤ worthState block table free q labels h → Idle
   idle k = ⊎-elim (λ w. absurd (omega (arith, worthy-small w))) (λ i. i) worthy-or
 
--- the next hop, edge by edge
-module _ (block table : List ℕ) (n : Node) (want i : ℕ) where
-  abbrev at-edge : ℕ
-  at-edge = worthState block table (n .free) (n .state) want (hopOf (edgeCell block i))
+-- of all labels: no state comes after one that is not of the eight, so its hop is worth nothing
+module _ (block : List ℕ) (q : ℕ) (h : HopOf ℕ) (lacked : hasLabel ALL_LABELS (h .step) ≡ false) where
+  pub all-stuck : 16 ≤ nextCell block q (h .step)
+  all-stuck = omega (arith, next-no-label block q (h .step) (label-lacked (h .step) lacked))
 
-  pub next-more : i < firstEdge block (suc (n .scope)) → 16 ≤ at-edge → (r : ℕ) → NextHop block table n want (i + 1) r → NextHop block table n want i r
+  pub all-dead : (table : List ℕ) → placeFlag table (h .to) (nextCell block q (h .step)) ≡ false
+  all-dead table = place-no-state table (h .to) (nextCell block q (h .step)) all-stuck
+
+-- the next hop, edge by edge
+module _ (block table : List ℕ) (n : Node) (labels i : ℕ) where
+  abbrev at-edge : ℕ
+  at-edge = worthState block table (n .free) (n .state) labels (hopOf (edgeCell block i))
+
+  pub next-more : i < firstEdge block (suc (n .scope)) → 16 ≤ at-edge → (r : ℕ) → NextHop block table n labels (i + 1) r → NextHop block table n labels i r
   next-more inside dead r k = record {
     on = omega (arith, k .on);
     skipped = hopOf (edgeCell block i) ∷ k .skipped;
@@ -99,7 +96,7 @@ module _ (block table : List ℕ) (n : Node) (want i : ℕ) where
     none = k .none;
   }
 
-  pub next-here : i < firstEdge block (suc (n .scope)) → at-edge < 16 → NextHop block table n want i i
+  pub next-here : i < firstEdge block (suc (n .scope)) → at-edge < 16 → NextHop block table n labels i i
   next-here inside good = record {
     on = omega arith;
     skipped = [];
@@ -110,7 +107,7 @@ module _ (block table : List ℕ) (n : Node) (want i : ℕ) where
     none = λ k. absurd (omega arith);
   }
 
-  pub next-end : firstEdge block (suc (n .scope)) ≤ i → NextHop block table n want i i
+  pub next-end : firstEdge block (suc (n .scope)) ≤ i → NextHop block table n labels i i
   next-end past = record {
     on = omega arith;
     skipped = [];

@@ -12,19 +12,19 @@ use Rattle.scope_graph.specs.Language.{_∈_}
 use Rattle.scope_graph.specs.Path.{HopOf}
 use Rattle.scope_graph.specs.Rows.{anyOf}
 use Rattle.scope_graph.proofs.Lists.{Two, anyOf-intro}
-use Rattle.block.specs.Sets.{hasScope, placesOf}
+use Rattle.block.specs.Sets.{hasScope, hasLabel, ALL_LABELS, placesOf}
 use Rattle.block.specs.Block.{stateOf, nextCell, acceptSet, firstEdge, edgeCell, hopOf, hopsOn, blockHops}
 use Rattle.block.proofs.SetLaws.{places-none}
-use Rattle.block.proofs.BlockLaws.{state-some, state-cell, hop-to, blockHops-in}
+use Rattle.block.proofs.BlockLaws.{state-some, state-none, state-cell, hop-to, blockHops-in}
 use Rattle.search.specs.declared.Node.{Node}
 use Rattle.search.specs.Board.{without, leadsTo, existsFrom, hopLeads}
 use Rattle.search.specs.Live.{Closed, any-way}
 use Rattle.search.specs.Tables.{placeFlag, tableBoard}
-use Rattle.search.specs.Conditions.{Inside, LiveAt, WorthAt, wayOf, wantedHop}
+use Rattle.search.specs.Conditions.{Inside, LiveAt, WorthAt, wayOf}
 use Rattle.search.specs.Steps.{worthState, NextHop, Entered, leadsBy}
 use Rattle.search.proofs.Cells.{place-state}
-use Rattle.search.proofs.HopLaws.{worthy, idle, hop-yes}
-use Rattle.search.proofs.RulesLists.{anyOf-cons, anyOf-no, anyOf-append}
+use Rattle.search.proofs.HopLaws.{worthy, idle, hop-yes, all-stuck}
+use Rattle.search.proofs.RulesLists.{anyOf-cons, anyOf-same, anyOf-no, anyOf-append}
 use Rattle.search.proofs.Closed.{closed-less, closed-exists, without-within}
 
 -- a set with a scope taken
@@ -56,17 +56,17 @@ unfolding wayOf any-way
 way-none block goal = fun-ext (λ s. fun-ext (λ q. fun-ext (λ t. rw (places-none (acceptSet block) s q))))
 
 -- m is the node behind edge i's hop, which is worth entering
-pub record Behind (block table : List ℕ) (n : Node) (want i : ℕ) (m : Node) : Type 0 where
-  pub good : worthState block table (n .free) (n .state) want (hopOf (edgeCell block i)) < 16
-  pub enters : Entered n (hopOf (edgeCell block i)) (worthState block table (n .free) (n .state) want (hopOf (edgeCell block i))) m
+pub record Behind (block table : List ℕ) (n : Node) (labels i : ℕ) (m : Node) : Type 0 where
+  pub good : worthState block table (n .free) (n .state) labels (hopOf (edgeCell block i)) < 16
+  pub enters : Entered n (hopOf (edgeCell block i)) (worthState block table (n .free) (n .state) labels (hopOf (edgeCell block i))) m
 
 -- as the code comes to it: the edge read, the state looked up, the node made
-pub behind-node : {block table : List ℕ} {n : Node} {want i x r : ℕ} {m : Node}
-    → worthState block table (n .free) (n .state) want (hopOf (edgeCell block i)) < 16 → x ≡ edgeCell block i
-    → r ≡ worthState block table (n .free) (n .state) want (hopOf x) → Entered n (hopOf x) r m → Behind block table n want i m
-behind-node {block} {table} {n} {want} {i} {x} {r} {m} good edge state in-m = record {
+pub behind-node : {block table : List ℕ} {n : Node} {labels i x r : ℕ} {m : Node}
+    → worthState block table (n .free) (n .state) labels (hopOf (edgeCell block i)) < 16 → x ≡ edgeCell block i
+    → r ≡ worthState block table (n .free) (n .state) labels (hopOf x) → Entered n (hopOf x) r m → Behind block table n labels i m
+behind-node {block} {table} {n} {labels} {i} {x} {r} {m} good edge state in-m = record {
   good = good;
-  enters = subst (λ (y : ℕ). Entered n (hopOf y) (worthState block table (n .free) (n .state) want (hopOf y)) m) edge
+  enters = subst (λ (y : ℕ). Entered n (hopOf y) (worthState block table (n .free) (n .state) labels (hopOf y)) m) edge
       (subst (λ (y : ℕ). Entered n (hopOf x) y m) state in-m);
 }
 
@@ -77,65 +77,83 @@ module _ (block : List ℕ) (goal : ℕ) where
   unfolding existsFrom tableBoard
   exists-here fuel free s q e = rw (e, existsFrom)
 
+  -- a hop with no state behind it leads nowhere
+  leads-stuck : (n : Node) (h : HopOf ℕ) → stateOf (nextCell block (n .state) (h .step)) ≡ none
+      → hopLeads (tableBoard block goal) (n .left) (hasScope (n .free)) (n .state) h ≡ false
+  unfolding hopLeads leadsTo tableBoard
+  leads-stuck n h e = at (Two (hasScope (n .free) (h .to)))
+    where
+      at : (hasScope (n .free) (h .to) ≡ true) ⊎ (hasScope (n .free) (h .to) ≡ false)
+          → hopLeads (tableBoard block goal) (n .left) (hasScope (n .free)) (n .state) h ≡ false
+      at (inl f) = rw (f, e, leadsTo)
+      at (inr f) = rw (f, leadsTo)
+
+  -- so to ask for all labels is to ask for every hop
+  leads-all : (n : Node) (hs : List (HopOf ℕ)) → anyOf (hopLeads (tableBoard block goal) (n .left) (hasScope (n .free)) (n .state)) hs
+      ≡ leadsBy (tableBoard block goal) n ALL_LABELS hs
+  leads-all n hs =
+      anyOf-same (hopLeads (tableBoard block goal) (n .left) (hasScope (n .free)) (n .state)) _ hs (λ h m. at h (Two (hasLabel ALL_LABELS (h .step))))
+    where
+      at : (h : HopOf ℕ) → (hasLabel ALL_LABELS (h .step) ≡ true) ⊎ (hasLabel ALL_LABELS (h .step) ≡ false)
+          → hopLeads (tableBoard block goal) (n .left) (hasScope (n .free)) (n .state) h
+          ≡ (hasLabel ALL_LABELS (h .step) && hopLeads (tableBoard block goal) (n .left) (hasScope (n .free)) (n .state) h)
+      at h (inl e) = rw e
+      at h (inr e) = leads-stuck n h (state-none (nextCell block (n .state) (h .step)) (all-stuck block (n .state) h e)) ∙ sym (rw e)
+
   pub exists-on : (n : Node) → n .scope < 64 → placesOf goal (acceptSet block) (n .scope) (n .state) ≡ false
       → existsFrom (tableBoard block goal) (suc (n .left)) (hasScope (n .free)) (n .scope) (n .state)
-      ≡ leadsBy (tableBoard block goal) n 8 (hopsOn block (n .scope) (firstEdge block (n .scope)))
-  unfolding existsFrom tableBoard hopLeads wantedHop
-  exists-on n inside e = rw (e, existsFrom) (rw (blockHops-in block (n .scope) inside))
+      ≡ leadsBy (tableBoard block goal) n ALL_LABELS (hopsOn block (n .scope) (firstEdge block (n .scope)))
+  unfolding existsFrom tableBoard hopLeads
+  exists-on n inside e = rw (e, existsFrom) (rw (blockHops-in block (n .scope) inside) (leads-all n (hopsOn block (n .scope) (firstEdge block (n .scope)))))
 
-  module _ (n : Node) (want : ℕ) where
+  module _ (n : Node) (labels : ℕ) where
     -- does the question ask for the hop, and does it lead on?
     abbrev pub one : HopOf ℕ → Bool
-    one h = wantedHop want h && hopLeads (tableBoard block goal) (n .left) (hasScope (n .free)) (n .state) h
+    one h = hasLabel labels (h .step) && hopLeads (tableBoard block goal) (n .left) (hasScope (n .free)) (n .state) h
 
-    one-unwanted : (h : HopOf ℕ) → wantedHop want h ≡ false → one h ≡ false
-    one-unwanted h e = rw e
+    one-unasked : (h : HopOf ℕ) → hasLabel labels (h .step) ≡ false → one h ≡ false
+    one-unasked h e = rw e
 
     one-taken : (h : HopOf ℕ) → hasScope (n .free) (h .to) ≡ false → one h ≡ false
     unfolding hopLeads leadsTo
-    one-taken h e = rw (e, leadsTo) (and-false (wantedHop want h))
+    one-taken h e = rw (e, leadsTo) (and-false (hasLabel labels (h .step)))
 
     -- with no hop left nothing is led to
     one-over : n .left ≡ 0 → (h : HopOf ℕ) → one h ≡ false
     unfolding hopLeads leadsTo tableBoard existsFrom
-    one-over z h = at (Two (hasScope (n .free) (h .to))) (stateOf (nextCell block (n .state) (h .step))) refl ∙ and-false (wantedHop want h)
+    one-over z h = at (Two (hasScope (n .free) (h .to))) (stateOf (nextCell block (n .state) (h .step))) refl ∙ and-false (hasLabel labels (h .step))
       where
         at : (hasScope (n .free) (h .to) ≡ true) ⊎ (hasScope (n .free) (h .to) ≡ false) → (o : Option ℕ) → stateOf (nextCell block (n .state) (h .step)) ≡ o
-            → one h ≡ (wantedHop want h && false)
+            → one h ≡ (hasLabel labels (h .step) && false)
         at (inr f) o e = rw (f, leadsTo)
         at (inl f) none e = rw (f, e, leadsTo)
         at (inl f) (some r) e = rw (f, e, z, leadsTo)
 
-    pub leads-over : n .left ≡ 0 → (hs : List (HopOf ℕ)) → leadsBy (tableBoard block goal) n want hs ≡ false
+    pub leads-over : n .left ≡ 0 → (hs : List (HopOf ℕ)) → leadsBy (tableBoard block goal) n labels hs ≡ false
     leads-over z hs = anyOf-no one hs (λ h m. one-over z h)
 
     -- a hop to a free scope, with the state behind it
-    one-state : (h : HopOf ℕ) (r : ℕ) → wantedHop want h ≡ true → hasScope (n .free) (h .to) ≡ true → stateOf (nextCell block (n .state) (h .step)) ≡ some r
+    one-state : (h : HopOf ℕ) (r : ℕ) → hasLabel labels (h .step) ≡ true → hasScope (n .free) (h .to) ≡ true → stateOf (nextCell block (n .state) (h .step)) ≡ some r
         → one h ≡ existsFrom (tableBoard block goal) (n .left) (without (hasScope (n .free)) (h .to)) (h .to) r
     unfolding hopLeads leadsTo tableBoard
     one-state h r w f e = rw (w, f, e, leadsTo)
 
     one-stuck : (h : HopOf ℕ) → stateOf (nextCell block (n .state) (h .step)) ≡ none → one h ≡ false
-    unfolding hopLeads leadsTo tableBoard
-    one-stuck h e = at (Two (hasScope (n .free) (h .to))) ∙ and-false (wantedHop want h)
-      where
-        at : (hasScope (n .free) (h .to) ≡ true) ⊎ (hasScope (n .free) (h .to) ≡ false) → one h ≡ (wantedHop want h && false)
-        at (inl f) = rw (f, e, leadsTo)
-        at (inr f) = rw (f, leadsTo)
+    one-stuck h e = rw (leads-stuck n h e) (and-false (hasLabel labels (h .step)))
 
     -- whether the node behind a hop worth entering leads on is whether the hop does
-    one-enter : (table : List ℕ) (h : HopOf ℕ) (m : Node) → worthState block table (n .free) (n .state) want h < 16
-        → Entered n h (worthState block table (n .free) (n .state) want h) m
+    one-enter : (table : List ℕ) (h : HopOf ℕ) (m : Node) → worthState block table (n .free) (n .state) labels h < 16
+        → Entered n h (worthState block table (n .free) (n .state) labels h) m
         → one h ≡ existsFrom (tableBoard block goal) (suc (m .left)) (hasScope (m .free)) (m .scope) (m .state)
     one-enter table h m good in-m =
-        let w = worthy block table (n .free) (n .state) want h good in
-        let is = hop-yes block table (n .free) (n .state) want h (w .asked) (w .free-to) (w .held) in
+        let w = worthy block table (n .free) (n .state) labels h good in
+        let is = hop-yes block table (n .free) (n .state) labels h (w .asked) (w .free-to) (w .held) in
         one-state h (nextCell block (n .state) (h .step)) (w .asked) (w .free-to)
         (state-some (nextCell block (n .state) (h .step)) (place-state table (h .to) (nextCell block (n .state) (h .step)) (w .held)))
         ∙ rw (in-m .left, in-m .scope, in-m .state, is, taken-is (n .free) (h .to) (m .free) (in-m .free))
 
     -- the node behind an edge whose hop is worth entering
-    module _ (table : List ℕ) (i : ℕ) (m : Node) (behind : Behind block table n want i m) where
+    module _ (table : List ℕ) (i : ℕ) (m : Node) (behind : Behind block table n labels i m) where
       pub enter-inside : Inside m
       enter-inside = record {
         scope = rw (behind .enters .scope) (hop-to (edgeCell block i));
@@ -150,7 +168,7 @@ module _ (block : List ℕ) (goal : ℕ) where
 
     -- a closed table: hops worth nothing lead nowhere
     module _ (live : List ℕ) (closed : LiveAt block goal (hasScope (n .free)) live) where
-      one-dead : (h : HopOf ℕ) → hasScope (n .free) (h .to) ≡ true → wantedHop want h ≡ true → placeFlag live (h .to) (nextCell block (n .state) (h .step)) ≡ false → one h ≡ false
+      one-dead : (h : HopOf ℕ) → hasScope (n .free) (h .to) ≡ true → hasLabel labels (h .step) ≡ true → placeFlag live (h .to) (nextCell block (n .state) (h .step)) ≡ false → one h ≡ false
       unfolding tableBoard
       one-dead h f w d = at (stateOf (nextCell block (n .state) (h .step))) refl
         where
@@ -161,21 +179,21 @@ module _ (block : List ℕ) (goal : ℕ) where
               ∙ closed-exists (tableBoard block goal) (hasScope (n .free)) (placeFlag live) closed (n .left) (without (hasScope (n .free)) (h .to)) (h .to) r
               (without-within (hasScope (n .free)) (hasScope (n .free)) (h .to) (λ k x. x)) f (rw (state-cell (nextCell block (n .state) (h .step)) r e) at d)
 
-      pub one-idle : (h : HopOf ℕ) → 16 ≤ worthState block live (n .free) (n .state) want h → one h ≡ false
+      pub one-idle : (h : HopOf ℕ) → 16 ≤ worthState block live (n .free) (n .state) labels h → one h ≡ false
       one-idle h k =
-          ⊎-elim (one-unwanted h) (⊎-elim (one-taken h) (λ d. at (Two (wantedHop want h)) (Two (hasScope (n .free) (h .to))) d))
-          (idle block live (n .free) (n .state) want h k)
+          ⊎-elim (one-unasked h) (⊎-elim (one-taken h) (λ d. at (Two (hasLabel labels (h .step))) (Two (hasScope (n .free) (h .to))) d))
+          (idle block live (n .free) (n .state) labels h k)
         where
-          at : (wantedHop want h ≡ true) ⊎ (wantedHop want h ≡ false) → (hasScope (n .free) (h .to) ≡ true) ⊎ (hasScope (n .free) (h .to) ≡ false)
+          at : (hasLabel labels (h .step) ≡ true) ⊎ (hasLabel labels (h .step) ≡ false) → (hasScope (n .free) (h .to) ≡ true) ⊎ (hasScope (n .free) (h .to) ≡ false)
               → placeFlag live (h .to) (nextCell block (n .state) (h .step)) ≡ false → one h ≡ false
-          at (inr w) f d = one-unwanted h w
+          at (inr w) f d = one-unasked h w
           at (inl w) (inr f) d = one-taken h f
           at (inl w) (inl f) d = one-dead h f w d
 
       -- the hops from edge p on, of which edge i's is the next
-      module _ (p i : ℕ) (next : NextHop block live n want p i) where
+      module _ (p i : ℕ) (next : NextHop block live n labels p i) where
         abbrev on : ℕ → Bool
-        on k = leadsBy (tableBoard block goal) n want (hopsOn block (n .scope) k)
+        on k = leadsBy (tableBoard block goal) n labels (hopsOn block (n .scope) k)
 
         pub next-skip : on p ≡ on i
         next-skip =
@@ -186,7 +204,7 @@ module _ (block : List ℕ) (goal : ℕ) where
         unfolding anyOf
         next-none past = next-skip ∙ rw (next .none past)
 
-        module _ (before : i < firstEdge block (suc (n .scope))) (m : Node) (behind : Behind block live n want i m) where
+        module _ (before : i < firstEdge block (suc (n .scope))) (m : Node) (behind : Behind block live n labels i m) where
           abbrev exists-m : Bool
           exists-m = existsFrom (tableBoard block goal) (suc (m .left)) (hasScope (m .free)) (m .scope) (m .state)
 
@@ -202,23 +220,23 @@ module _ (block : List ℕ) (goal : ℕ) where
           next-on e = let more : i + 1 ≡ suc i = omega arith in next-step ∙ rw (e, more)
 
 -- an edge of the node whose hop is worth entering: what exists at the node behind it is led to
-module _ (block : List ℕ) (goal : ℕ) (n : Node) (want : ℕ) (table : List ℕ) (p : ℕ) (leaves : hopOf (edgeCell block p) ∈ blockHops block (n .scope))
-    (m : Node) (behind : Behind block table n want p m) where
+module _ (block : List ℕ) (goal : ℕ) (n : Node) (labels : ℕ) (table : List ℕ) (p : ℕ) (leaves : hopOf (edgeCell block p) ∈ blockHops block (n .scope))
+    (m : Node) (behind : Behind block table n labels p m) where
   hop-exists : existsFrom (tableBoard block goal) (suc (m .left)) (hasScope (m .free)) (m .scope) (m .state) ≡ true
-      → leadsBy (tableBoard block goal) n want (blockHops block (n .scope)) ≡ true
-  hop-exists e = anyOf-intro (one block goal n want) leaves (enter-one block goal n want table p m behind ∙ e)
+      → leadsBy (tableBoard block goal) n labels (blockHops block (n .scope)) ≡ true
+  hop-exists e = anyOf-intro (one block goal n labels) leaves (enter-one block goal n labels table p m behind ∙ e)
 
   pub hop-here : placesOf goal (acceptSet block) (m .scope) (m .state) ≡ true
-      → leadsBy (tableBoard block goal) n want (blockHops block (n .scope)) ≡ true
+      → leadsBy (tableBoard block goal) n labels (blockHops block (n .scope)) ≡ true
   hop-here e = hop-exists (exists-here block goal (m .left) (hasScope (m .free)) (m .scope) (m .state) e)
 
-  pub hop-leads : leadsBy (tableBoard block goal) m 8 (blockHops block (m .scope)) ≡ true
-      → leadsBy (tableBoard block goal) n want (blockHops block (n .scope)) ≡ true
+  pub hop-leads : leadsBy (tableBoard block goal) m ALL_LABELS (blockHops block (m .scope)) ≡ true
+      → leadsBy (tableBoard block goal) n labels (blockHops block (n .scope)) ≡ true
   hop-leads e = at (Two (placesOf goal (acceptSet block) (m .scope) (m .state)))
     where
       at : (placesOf goal (acceptSet block) (m .scope) (m .state) ≡ true) ⊎ (placesOf goal (acceptSet block) (m .scope) (m .state) ≡ false)
-          → leadsBy (tableBoard block goal) n want (blockHops block (n .scope)) ≡ true
+          → leadsBy (tableBoard block goal) n labels (blockHops block (n .scope)) ≡ true
       at (inl h) = hop-here h
       at (inr h) =
-          hop-exists (exists-on block goal m (enter-inside block goal n want table p m behind .scope) h
-          ∙ rw (sym (blockHops-in block (m .scope) (enter-inside block goal n want table p m behind .scope))) e)
+          hop-exists (exists-on block goal m (enter-inside block goal n labels table p m behind .scope) h
+          ∙ rw (sym (blockHops-in block (m .scope) (enter-inside block goal n labels table p m behind .scope))) e)

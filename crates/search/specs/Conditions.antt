@@ -45,14 +45,10 @@ WorthAt block goal scopes states free worth =
 abbrev pub AwayAt : List ℕ → ℕ → List ℕ → Type 0
 AwayAt block goal away = Closed (tableBoard block goal) (placesOf 0 0) (wayOf block goal) (λ t. ltb t 64) (placeFlag away)
 
--- does a question ask for the hop: by the label with this number, or from 8 on by any?
-unfoldable pub wantedHop : ℕ → HopOf ℕ → Bool
-wantedHop want h = elim (ltb want 8) [ true ↦ eqb (h .step) want | false ↦ true ]
-
 -- does what is sought lie at the end with this number: here, or behind a hop with its label?
 unfoldable pub behindEnd : Board ℕ → ℕ → (ℕ → Bool) → ℕ → ℕ → ℕ → Bool
 behindEnd b fuel free s q zero = b .here s q
-behindEnd b fuel free s q (suc l) = anyOf (λ h. wantedHop l h && hopLeads b fuel free q h) (b .hops s)
+behindEnd b fuel free s q (suc l) = anyOf (λ h. eqb (h .step) l && hopLeads b fuel free q h) (b .hops s)
 
 -- What is known of nine ends at a node, as the bits of a number: bit a says that what is sought
 -- lies at end a, bit 16 + a that it does not.

@@ -8,11 +8,10 @@ use lib.Dec.{eqb}
 use Rattle.scope_graph.specs.Language.{_∈_}
 use Rattle.scope_graph.specs.Path.{HopOf}
 use Rattle.scope_graph.specs.Rows.{anyOf}
-use Rattle.block.specs.Sets.{hasScope, hasState, placesOf}
+use Rattle.block.specs.Sets.{hasScope, hasState, hasLabel, placesOf}
 use Rattle.block.specs.Block.{nextCell, firstEdge, edgeCell, hopOf, hopsOn, blockHops}
 use Rattle.search.specs.Board.{Board, hopLeads}
 use Rattle.search.specs.Tables.{placeFlag}
-use Rattle.search.specs.Conditions.{wantedHop}
 use Rattle.search.specs.declared.Node.{Node}
 
 -- the table lacks the place (s, q), though the hop leads from it to a place that it holds
@@ -42,31 +41,31 @@ Holds scopes states t = (s q : ℕ) → placesOf scopes states s q ≡ true → 
 pub record Kept (a c : List ℕ) : Type 0 where
   pub flags : (s q : ℕ) → placeFlag a s q ≡ true → placeFlag c s q ≡ true
 
--- the state after a hop that is asked for, to a free scope, at a place that the table holds; else
--- 16
+-- the state after a hop with one of the labels, to a free scope, at a place that the table holds;
+-- else 16
 unfoldable pub worthState : List ℕ → List ℕ → ℕ → ℕ → ℕ → HopOf ℕ → ℕ
-worthState block table free q want h =
-    elim (wantedHop want h && (hasScope free (h .to) && placeFlag table (h .to) (nextCell block q (h .step)))) [
+worthState block table free q labels h =
+    elim (hasLabel labels (h .step) && (hasScope free (h .to) && placeFlag table (h .to) (nextCell block q (h .step)))) [
       | true ↦ nextCell block q (h .step)
       | false ↦ 16
     ]
 
 -- Of the edges of the node's scope from number p on, r is the first whose hop is worth entering, or
 -- a number where none is left. The hops that stand before it are worth nothing.
-pub record NextHop (block table : List ℕ) (n : Node) (want p r : ℕ) : Type 0 where
+pub record NextHop (block table : List ℕ) (n : Node) (labels p r : ℕ) : Type 0 where
   pub on : p ≤ r
   pub skipped : List (HopOf ℕ)
   pub split : hopsOn block (n .scope) p ≡ skipped ++ hopsOn block (n .scope) r
-  pub idle : (h : HopOf ℕ) → h ∈ skipped → 16 ≤ worthState block table (n .free) (n .state) want h
+  pub idle : (h : HopOf ℕ) → h ∈ skipped → 16 ≤ worthState block table (n .free) (n .state) labels h
   pub found : r < firstEdge block (suc (n .scope))
       → hopsOn block (n .scope) r ≡ hopOf (edgeCell block r) ∷ hopsOn block (n .scope) (suc r)
-  pub worth : r < firstEdge block (suc (n .scope)) → worthState block table (n .free) (n .state) want (hopOf (edgeCell block r)) < 16
+  pub worth : r < firstEdge block (suc (n .scope)) → worthState block table (n .free) (n .state) labels (hopOf (edgeCell block r)) < 16
   pub none : firstEdge block (suc (n .scope)) ≤ r → hopsOn block (n .scope) r ≡ []
 
 -- edge number r leaves the node's scope, and its hop is worth entering
-pub record HopAt (block table : List ℕ) (n : Node) (want r : ℕ) : Type 0 where
+pub record HopAt (block table : List ℕ) (n : Node) (labels r : ℕ) : Type 0 where
   pub leaves : hopOf (edgeCell block r) ∈ blockHops block (n .scope)
-  pub worth : worthState block table (n .free) (n .state) want (hopOf (edgeCell block r)) < 16
+  pub worth : worthState block table (n .free) (n .state) labels (hopOf (edgeCell block r)) < 16
 
 -- m is the node behind the hop, in state r: its scope is taken, and one hop fewer may be entered
 pub record Entered (n : Node) (h : HopOf ℕ) (r : ℕ) (m : Node) : Type 0 where
@@ -75,6 +74,6 @@ pub record Entered (n : Node) (h : HopOf ℕ) (r : ℕ) (m : Node) : Type 0 wher
   pub scope : m .scope ≡ h .to
   pub state : m .state ≡ r
 
--- does one of the hops that are asked for lead from the node to what is sought?
+-- does one of the hops, with one of the labels, lead from the node to what is sought?
 abbrev pub leadsBy : Board ℕ → Node → ℕ → List (HopOf ℕ) → Bool
-leadsBy b n want hs = anyOf (λ h. wantedHop want h && hopLeads b (n .left) (hasScope (n .free)) (n .state) h) hs
+leadsBy b n labels hs = anyOf (λ h. hasLabel labels (h .step) && hopLeads b (n .left) (hasScope (n .free)) (n .state) h) hs

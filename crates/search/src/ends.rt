@@ -28,12 +28,14 @@ fn end_leads(block: &[u64], goal: u64, live: &[u64], n: Node, a: u64) -> bool
     requires table { ⌜ 64 ≤ length (now live) ⌝ }
     requires inside { ⌜ Inside n ⌝ }
     requires live { ⌜ LiveAt (now block) goal (hasScope (n .free)) (now live) ⌝ }
+    requires end { ⌜ a < 9 ⌝ }
     ensures answer { λ r. ⌜ r ≡ behindEnd (tableBoard (now (block .entry)) goal) (n .left) (hasScope (n .free)) (n .scope) (n .state) a ⌝ }
 {
     if a == 0 {
         return is_goal(block, goal, n.scope, n.state);
     }
-    if straight(block, goal, live, n, a - 1) {
+    let labels = single(a - 1);
+    if straight(block, goal, live, n, labels) {
         return true;
     }
     exists_from(
@@ -41,7 +43,7 @@ fn end_leads(block: &[u64], goal: u64, live: &[u64], n: Node, a: u64) -> bool
         goal,
         live,
         n,
-        a - 1,
+        labels,
         Table::Handed,
         edges_from(block, n.scope),
     )

@@ -1,6 +1,6 @@
 // Is what is sought at the end of a path that goes on from a node? Two functions that call each
 // other: one for a node, one for its hops.
-use crate::ANY;
+use crate::ALL_LABELS;
 use crate::Node;
 use crate::hops::entered;
 use crate::hops::next_hop;
@@ -59,7 +59,7 @@ fn exists_at(block: &[u64], goal: u64, live: &[u64], n: Node) -> bool
         goal,
         live,
         n,
-        ANY,
+        ALL_LABELS,
         Table::Handed,
         edges_from(block, n.scope),
     )
@@ -73,7 +73,7 @@ pub fn exists_from(
     goal: u64,
     live: &[u64],
     n: Node,
-    want: u64,
+    labels: u64,
     made: Table,
     p: u64,
 ) -> bool
@@ -82,31 +82,31 @@ pub fn exists_from(
     requires table { ⌜ 64 ≤ length (now live) ⌝ }
     requires inside { ⌜ Inside n ⌝ }
     requires live { ⌜ LiveAt (now block) goal (hasScope (n .free)) (now live) ⌝ }
-    ensures answer { λ r. ⌜ r ≡ leadsBy (tableBoard (now (block .entry)) goal) n want (hopsOn (now (block .entry)) (n .scope) p) ⌝ }
+    ensures answer { λ r. ⌜ r ≡ leadsBy (tableBoard (now (block .entry)) goal) n labels (hopsOn (now (block .entry)) (n .scope) p) ⌝ }
 {
     if n.left == 0 {
         return false;
     }
     let end = edges_end(block, n.scope);
-    let i = next_hop(block, live, n, want, p);
+    let i = next_hop(block, live, n, labels, p);
     if end <= i {
         return false;
     }
     let x = edge_at(block, i);
-    let r = worth(block, live, n, want, x);
+    let r = worth(block, live, n, labels, x);
     if exists_at(block, goal, live, entered(n, x, r)) {
         return true;
     }
     match made {
         Table::Anew => {
-            return exists_from(block, goal, live, n, want, Table::Anew, i + 1);
+            return exists_from(block, goal, live, n, labels, Table::Anew, i + 1);
         }
         Table::Handed => {}
     }
-    let j = next_hop(block, live, n, want, i + 1);
+    let j = next_hop(block, live, n, labels, i + 1);
     if end <= j {
         return false;
     }
     let new = live_table(block, 0, goal, accept_set(block), n.free);
-    exists_from(block, goal, &new, n, want, Table::Anew, j)
+    exists_from(block, goal, &new, n, labels, Table::Anew, j)
 }

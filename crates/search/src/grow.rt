@@ -12,6 +12,7 @@ use block::BEFORE;
 use block::EDGE;
 use block::FIRST;
 use block::INTO;
+use block::LEAVING;
 use block::has;
 ghost use Prim.Native.Nat.{_+_, _≤_, _<_};
 ghost use lib.ListN.{length};
@@ -41,6 +42,13 @@ pub fn hinted(block: &[u64], hint: usize, label: u64, set: u64) -> u64
         | block[at + 16 + (set / 16 % 16) as usize]
         | block[at + 32 + (set / 256 % 16) as usize]
         | block[at + 48 + (set / 4096 % 16) as usize]
+}
+
+// The states that a label leads to from a set, by the hint that stands above an edge's.
+fn states_after(block: &[u64], label: u64, set: u64) -> u64
+    requires block { ⌜ IsBlock (now block) ⌝ }
+{
+    hinted(block, AFTER, label, set) >> LEAVING
 }
 
 // The table with the places from which edge number p leads into the set; the edge's scope if it got
@@ -101,7 +109,7 @@ fn reach_edge(
     }
     let label = x / 64 % 8;
     let bar = barred(block, cutting, t, label);
-    add(table, to, hinted(block, AFTER, label, set ^ (set & bar)))
+    add(table, to, states_after(block, label, set ^ (set & bar)))
 }
 
 // One of the two.
@@ -223,7 +231,7 @@ fn mentioned(block: &[u64], full: u64) -> u64
     let mut out = full;
     let mut label: u64 = 0;
     while label < 8 {
-        out = out | hinted(block, AFTER, label, full);
+        out = out | states_after(block, label, full);
         label += 1;
     }
     out

@@ -11,45 +11,40 @@ ghost use Prim.Native.Nat.{_<_, _≤_};
 ghost use lib.ListN.{length};
 ghost use Rattle.block.specs.Layout.{IsBlock};
 ghost use Rattle.block.specs.Block.{hopOf};
-ghost use Rattle.search.specs.Conditions.{Inside, wantedHop};
+ghost use Rattle.search.specs.Conditions.{Inside};
 ghost use Rattle.search.specs.Steps.{worthState, NextHop, Entered};
 
-// Does the question ask for edge x's hop?
-fn wanted(want: u64, x: u64) -> bool
-    ensures answer { λ r. ⌜ r ≡ wantedHop want (hopOf x) ⌝ }
-{
-    if want < 8 { x / 64 % 8 == want } else { true }
-}
-
-// The state after edge x's hop if it is asked for and worth entering, else 16.
-pub fn worth(block: &[u64], table: &[u64], n: Node, want: u64, x: u64) -> u64
+// The state after edge x's hop if its label is asked for and it is worth entering, else 16. Whether
+// the scope is free comes first, as the cheapest test.
+pub fn worth(block: &[u64], table: &[u64], n: Node, labels: u64, x: u64) -> u64
     requires block { ⌜ IsBlock (now block) ⌝ }
     requires table { ⌜ 64 ≤ length (now table) ⌝ }
     requires inside { ⌜ Inside n ⌝ }
-    ensures answer { λ r. ⌜ r ≡ worthState (now (block .entry)) (now (table .entry)) (n .free) (n .state) want (hopOf x) ⌝ }
+    ensures answer { λ r. ⌜ r ≡ worthState (now (block .entry)) (now (table .entry)) (n .free) (n .state) labels (hopOf x) ⌝ }
 {
-    if !wanted(want, x) {
-        return 16;
-    }
     if !has(n.free, x % 64) {
         return 16;
     }
-    let r = next_state(block, n.state, x / 64 % 8);
+    let label = x / 64 % 8;
+    if !has(labels, label) {
+        return 16;
+    }
+    let r = next_state(block, n.state, label);
     if place(table, x % 64, r) { r } else { 16 }
 }
 
 // The next edge, from number p on, of the node's scope whose hop is asked for and worth entering;
 // past the scope's edges if there is none.
-pub fn next_hop(block: &[u64], table: &[u64], n: Node, want: u64, p: u64) -> u64
+pub fn next_hop(block: &[u64], table: &[u64], n: Node, labels: u64, p: u64) -> u64
     requires block { ⌜ IsBlock (now block) ⌝ }
     requires table { ⌜ 64 ≤ length (now table) ⌝ }
     requires inside { ⌜ Inside n ⌝ }
-    ensures answer { λ r. ⌜ NextHop (now (block .entry)) (now (table .entry)) n want p r ⌝ }
+    ensures answer { λ r. ⌜ NextHop (now (block .entry)) (now (table .entry)) n labels p r ⌝ }
 {
     let end = edges_end(block, n.scope);
     let mut i = p;
     while i < end {
-        if worth(block, table, n, want, edge_at(block, i)) < 16 {
+        if worth(block, table, n, labels, edge_at(block, i)) < 16 {
             return i;
         }
         i += 1;

@@ -37,8 +37,11 @@ pub struct Learnt {
     pub cut: bool,
 }
 
-// One past the labels: hops by every label are asked for.
-pub const ANY: u64 = 8;
+// All eight labels, as a set: hops by any label are asked for.
+pub const ALL_LABELS: u64 = 255;
 
 // All scopes, as a set.
 pub const ALL: u64 = 18446744073709551615;
+
+// Nothing is known of the ends of a node that was only just come to.
+pub const NOTHING_KNOWN: u64 = 0;

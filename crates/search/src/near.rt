@@ -12,6 +12,10 @@ ghost use Prim.Native.Nat.{_≤_, _<_};
 ghost use lib.ListN.{length};
 ghost use Rattle.block.specs.Layout.{IsBlock};
 
+// A graph with so many edges is dense: distances are counted there, and the nearest way is tried.
+// With fewer that takes more than it saves, and a table is grown within what the start reaches.
+pub const DENSE: u64 = 256;
+
 // Eight bytes of 1; of 127, all bits below the top one; and with bit i alone in byte i.
 const ONES: u64 = 72340172838076673;
 

@@ -6,6 +6,7 @@ use crate::closure::is_closed;
 use crate::closure::leading;
 use crate::grow::grow;
 use crate::grow::unreached;
+use crate::near::DENSE;
 use crate::near::put_distances;
 use crate::places::all_places;
 use crate::places::all_places_far;
@@ -19,10 +20,6 @@ ghost use Rattle.block.specs.Block.{Still};
 ghost use Rattle.search.specs.Live.{Closed};
 ghost use Rattle.search.specs.Tables.{placeFlag, tableBoard};
 ghost use Rattle.search.specs.Conditions.{wayOf, LiveAt, AwayAt};
-
-// Fewer edges than this make a small graph: there a table is grown within what the start reaches,
-// and distances are not counted, since that takes more than it saves.
-const SMALL: u64 = 256;
 
 // The places worth entering on the way to a place of `scopes` and `states` by free scopes, but by
 // no step that a scope of `cutting` cuts.
@@ -41,7 +38,7 @@ pub fn live_table(block: &[u64], cutting: u64, scopes: u64, states: u64, free: u
 }
 
 // What a table of places starts with on the way to what is sought, with distances behind its sets:
-// in a small graph the places that are not reached from the start, in others none.
+// in a graph that is not dense those that are not reached from the start, in others none.
 fn prepare(block: &[u64], goal: u64, free: u64, full: u64, start: u64, out: &mut [u64])
     requires block { ⌜ IsBlock (now block) ⌝ }
     requires size { ⌜ 192 ≤ length (now out) ⌝ }
@@ -50,7 +47,7 @@ fn prepare(block: &[u64], goal: u64, free: u64, full: u64, start: u64, out: &mut
     if goal == 0 {
         return;
     }
-    if block[EDGES] < SMALL {
+    if block[EDGES] < DENSE {
         unreached(block, 0, free, full, start, out);
         return;
     }

@@ -1,24 +1,24 @@
 // Gyms drawn by chance, of a sequence of numbers that is the same in every run.
-use crate::cells::at;
-use crate::cells::minus;
-use crate::cells::set;
-use crate::gym::ACCEPTS;
-use crate::gym::EDGES;
-use crate::gym::LETTERS;
-use crate::gym::MARKS;
-use crate::gym::MOVES;
-use crate::gym::OPEN;
-use crate::gym::PAIRS;
-use crate::gym::QUERIES;
-use crate::gym::RANKS;
-use crate::gym::SCOPES;
-use crate::gym::SIZE;
-use crate::gym::label_of;
-use crate::gym::labels;
-use crate::gym::scope_of;
-use crate::gym::scopes;
-use crate::gym::section;
-use crate::gym::states;
+use enumerator::cells::at;
+use enumerator::cells::minus;
+use enumerator::cells::set;
+use enumerator::gym::ACCEPTS;
+use enumerator::gym::EDGES;
+use enumerator::gym::LETTERS;
+use enumerator::gym::MARKS;
+use enumerator::gym::MOVES;
+use enumerator::gym::OPEN;
+use enumerator::gym::PAIRS;
+use enumerator::gym::QUERIES;
+use enumerator::gym::RANKS;
+use enumerator::gym::SCOPES;
+use enumerator::gym::SIZE;
+use enumerator::gym::label_of;
+use enumerator::gym::labels;
+use enumerator::gym::scope_of;
+use enumerator::gym::scopes;
+use enumerator::gym::section;
+use enumerator::gym::states;
 
 // The number after x in the sequence of Park and Miller, from 1 to 2147483646.
 pub fn next(x: usize) -> usize {
@@ -43,8 +43,9 @@ fn stride(r: usize) -> usize {
     1 + r % 12 + r / 12 % 2 * 13
 }
 
-// How many labels, states and scopes; ten times the edges that leave a scope on average; the per cent of declarations and of open rows; which two
-// names; the kind of order; the first letter and the step to the next.
+// How many labels, states and scopes; ten times the edges that leave a scope on average; the per
+// cent of declarations and of open rows; which two names; the kind of order; the first letter and
+// the step to the next.
 fn setting(k: usize, r: usize) -> usize {
     match k {
         0 => 1 + r % 3,
@@ -61,8 +62,10 @@ fn setting(k: usize, r: usize) -> usize {
     }
 }
 
-// The first rank of an end, and the second. An end is preferred to another if both its ranks are less: such an order is transitive, and every order of four
-// ends can be had so. Of six kinds of order three have the same rank twice, so that most ends are in a pair, and one has no pair at all.
+// The first rank of an end, and the second. An end is preferred to another if both its ranks are
+// less: such an order is transitive, and every order of four ends can be had so. Of six kinds of
+// order three have the same rank twice, so that most ends are in a pair, and one has no pair at
+// all.
 fn rank(g: &[u8], i: usize, r: usize) -> usize {
     if at(g, 7) == 5 {
         return 0;
@@ -180,7 +183,8 @@ fn drawn(g: &[u8], s: usize, i: usize, r: usize) -> usize {
     }
 }
 
-// All places in their sequence, each by the next number and by what stands before it; the last number drawn.
+// All places in their sequence, each by the next number and by what stands before it; the last
+// number drawn.
 pub fn draw(g: &mut [u8], seed: usize) -> usize {
     let mut x = seed;
     let mut k = 0;

@@ -1,79 +1,31 @@
-// Path rows judged: paths of the gym with each mark, and rows that are none, against the standing that document 01 gives them.
-use crate::cells::at;
-use crate::cells::part;
-use crate::cells::plus;
-use crate::cells::put_all;
-use crate::cells::set;
+// Path rows judged: paths of the gym with each mark, and rows that are none, against the standing
+// that document 01 gives them.
 use crate::drawn::below;
 use crate::drawn::next;
-use crate::gym::declared;
-use crate::gym::scopes;
-use crate::paths::MOST;
-use crate::paths::ROOM;
-use crate::paths::advance;
-use crate::paths::goes_on;
-use crate::paths::last;
-use crate::paths::push;
-use crate::paths::reached;
-use crate::paths::resolve;
-use crate::paths::shadowed;
-use crate::paths::step_at;
-use crate::paths::steps;
-use crate::rows::put_path;
 use crate::say::JUDGED;
 use crate::say::add;
 use crate::say::compare;
+use enumerator::cells::part;
+use enumerator::cells::plus;
+use enumerator::cells::put_all;
+use enumerator::cells::set;
+use enumerator::gym::scopes;
+use enumerator::paths::MOST;
+use enumerator::paths::ROOM;
+use enumerator::paths::advance;
+use enumerator::paths::push;
+use enumerator::paths::resolve;
+use enumerator::paths::steps;
+use enumerator::rows::put_path;
+use enumerator::standing::SHADOWED;
+use enumerator::standing::UNREACHED;
+use enumerator::standing::VISIBLE;
+use enumerator::standing::standing;
 use judge::Judged;
 use judge::judge_text;
 
-// The standings, by number.
-const VISIBLE: usize = 0;
-
-const SHADOWED: usize = 1;
-
-const UNREACHED: usize = 2;
-
+// No standing: the library refuses the row.
 const REFUSED: usize = 3;
-
-// Do the steps of p, put behind those of q one by one, go along edges and meet no scope twice?
-fn goes_along(g: &[u8], p: &[u8], q: &mut [u8]) -> bool {
-    let n = steps(p);
-    let mut i = 0;
-    while i < n {
-        let k = step_at(p, i);
-        if !goes_on(g, q, k) {
-            return false;
-        }
-        push(q, k);
-        i += 1;
-    }
-    true
-}
-
-fn is_path(g: &[u8], p: &[u8]) -> bool {
-    let mut q = [0u8; 16];
-    set(&mut q, 1, at(p, 1));
-    goes_along(g, p, &mut q)
-}
-
-// Does the query reach p, and is the mark that of a matching declaration? A query's number is twice its start, and its name.
-fn is_reached(g: &[u8], i: usize, p: &[u8], mark: usize) -> bool {
-    if at(p, 1) != i / 2 || !is_path(g, p) {
-        return false;
-    }
-    reached(g, p, i % 2) && declared(g, last(p), i % 2, mark) == 1
-}
-
-// The standing of p with a mark; the n paths that the query reaches are in the table.
-fn standing(g: &[u8], i: usize, table: &[u8], n: usize, p: &[u8], mark: usize) -> usize {
-    if !is_reached(g, i, p, mark) {
-        return UNREACHED;
-    }
-    if shadowed(g, table, n, p) {
-        return SHADOWED;
-    }
-    VISIBLE
-}
 
 // The library's standing of a row.
 fn judged<'s>(text: &'s [u8], i: usize, row: &'s [u8]) -> usize {
@@ -139,7 +91,8 @@ fn judge_marks(
     judge_row(counts, g, text, i, table, n, p, 3);
 }
 
-// A step by chance, of four labels and eight scopes: some labels are not listed, and some scopes are not there.
+// A step by chance, of four labels and eight scopes: some labels are not listed, and some scopes
+// are not there.
 fn any_step(r: usize) -> usize {
     r % 4 * 16 + r / 4 % 8
 }

@@ -1,24 +1,23 @@
-// Draws small gyms by chance, and compares for each of their queries what `resolution` and `judge` answer with what a plain enumerator finds. The
-// enumerator shares no code with the search and goes by the documents alone: for `awaits` it tries completions.
-mod cells;
-mod completed;
+// Draws small gyms by chance, and compares for each of their queries what `resolution` and `judge`
+// answer with what a plain enumerator finds (crate `enumerator`).
 mod drawn;
-mod due;
-mod gym;
 mod judged;
-mod paths;
-mod rows;
 mod say;
-mod text;
 
-use cells::part;
-use cells::plus;
-use completed::NONE;
-use completed::ROWS;
-use completed::TOO_MANY;
-use gym::SIZE;
-use paths::MOST;
-use paths::ROOM;
+use enumerator::cells::part;
+use enumerator::cells::plus;
+use enumerator::completed;
+use enumerator::completed::NONE;
+use enumerator::completed::ROWS;
+use enumerator::completed::TOO_MANY;
+use enumerator::due;
+use enumerator::gym;
+use enumerator::gym::SIZE;
+use enumerator::paths;
+use enumerator::paths::MOST;
+use enumerator::paths::ROOM;
+use enumerator::rows;
+use enumerator::text;
 use resolution::listing;
 use resolution::summary;
 use text_field::Answer;
@@ -112,7 +111,8 @@ fn compare_summary(counts: &mut [u64], text: &[u8], due: &[u8]) {
     }
 }
 
-// A pair is awaited exactly if the completion at all open pairs at once has other entries: else the enumerator is at odds with itself, and that is a difference too.
+// A pair is awaited exactly if the completion at all open pairs at once has other entries: else the
+// enumerator is at odds with itself, and that is a difference too.
 fn compare_settled(counts: &mut [u64], text: &[u8], due: &[u8], pair: usize, all: usize) {
     if pair == NONE && all == 0 {
         return;

@@ -1,5 +1,5 @@
--- `trials_random::gyms` is safe and ends. The measure is the gyms left; the lent slice keeps its length.
--- Assumes nothing.
+-- `trials_random::gyms` is safe and ends. The measure is the gyms left; the lent slice keeps its
+-- length. Assumes nothing.
 use Prim.Native.Nat.{_-_}
 use borrow.Author.Needs.{needs}
 use mathlib.Core.Path.{_≡_}

@@ -1,5 +1,5 @@
--- `trials_random::queries` is safe and ends. The measure is the queries left; the lent slice keeps its length.
--- Assumes nothing.
+-- `trials_random::queries` is safe and ends. The measure is the queries left; the lent slice keeps
+-- its length. Assumes nothing.
 use Prim.Native.Nat.{_-_}
 use borrow.Author.Needs.{needs}
 use mathlib.Core.Path.{_≡_}

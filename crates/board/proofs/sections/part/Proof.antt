@@ -1,88 +1,36 @@
-use Prim.Native.Nat.{ℕ, _+_}
-use mathlib.Core.Path.{_≡_, ap, _∙_}
-use native.Mathlib.Numerals.{add-one}
-use lib.ListN.{getD}
-use Rattle.graph_table.specs.Sections.{startOf, partOf}
-use Rattle.graph_table.proofs.Leading.{start-within, start-ascends}
+use mathlib.Core.Path.{_∙_}
+use lib.ListN.{drop, length-drop}
+use lib.Seq.{getD-take, getD-drop, length-take-le}
 use native.Mathlib.Omega.{arith}
 use borrow.Author.Needs.{needs}
 use Rattle.board.proofs.sections.part.Statement.{statement}
 use Rattle.board.proofs.sections.part.Tie as tie
 
-add-from : tie.Need-add-from
-add-from c = search needs
+add-rows-at : tie.Need-add-rows-at
+add-rows-at c = search needs
 
-mul-from : tie.Need-mul-from
-mul-from c = search needs
+sub-rows-at : tie.Need-sub-rows-at
+sub-rows-at c = search needs
 
-shared-slice-read-from : tie.Need-shared-slice-read-from
-shared-slice-read-from c = search needs
+part-rows-at-start : tie.Need-part-rows-at-start
+part-rows-at-start c = search needs
 
-add-to : tie.Need-add-to
-add-to c = search needs
+part-rows-at-end : tie.Need-part-rows-at-end
+part-rows-at-end c = let z = c .before .before .pre .0 .size in omega arith
 
-add-to-2 : tie.Need-add-to-2
-add-to-2 c = search needs
-
-mul-to : tie.Need-mul-to
-mul-to c = search needs
-
-shared-slice-read-to : tie.Need-shared-slice-read-to
-shared-slice-read-to c = search needs
-
-mul-result : tie.Need-mul-result
-mul-result c = let a = c .before .before .args in
-    let s0 : getD (a .block .now) (156 + a .k) 0 ≡ startOf (a .k) (a .table .now) = c .before .before .pre .0 .starts (a .k) (omega arith) in
-    let next : 156 + a .k + 1 ≡ 156 + (a .k + 1) = omega arith in
-    let s1 : getD (a .block .now) (156 + a .k + 1) 0 ≡ startOf (a .k + 1) (a .table .now) = ap (λ i. getD (a .block .now) i 0) next ∙ c .before .before .pre .0 .starts (a .k + 1) (omega arith) in
-    let up = start-ascends (a .k) (a .table .now) in
-    let w = start-within (a .k + 1) (a .table .now) in omega arith
-
-sub-result : tie.Need-sub-result
-sub-result c = let a = c .before .before .args in
-    let s0 : getD (a .block .now) (156 + a .k) 0 ≡ startOf (a .k) (a .table .now) = c .before .before .pre .0 .starts (a .k) (omega arith) in
-    let next : 156 + a .k + 1 ≡ 156 + (a .k + 1) = omega arith in
-    let s1 : getD (a .block .now) (156 + a .k + 1) 0 ≡ startOf (a .k + 1) (a .table .now) = ap (λ i. getD (a .block .now) i 0) next ∙ c .before .before .pre .0 .starts (a .k + 1) (omega arith) in
-    let up = start-ascends (a .k) (a .table .now) in
-    let w = start-within (a .k + 1) (a .table .now) in omega arith
-
-part-result-start : tie.Need-part-result-start
-part-result-start c = let a = c .before .before .args in
-    let s0 : getD (a .block .now) (156 + a .k) 0 ≡ startOf (a .k) (a .table .now) = c .before .before .pre .0 .starts (a .k) (omega arith) in
-    let next : 156 + a .k + 1 ≡ 156 + (a .k + 1) = omega arith in
-    let s1 : getD (a .block .now) (156 + a .k + 1) 0 ≡ startOf (a .k + 1) (a .table .now) = ap (λ i. getD (a .block .now) i 0) next ∙ c .before .before .pre .0 .starts (a .k + 1) (omega arith) in
-    let up = start-ascends (a .k) (a .table .now) in
-    let w = start-within (a .k + 1) (a .table .now) in omega arith
-
-part-result-end : tie.Need-part-result-end
-part-result-end c = let a = c .before .before .args in
-    let s0 : getD (a .block .now) (156 + a .k) 0 ≡ startOf (a .k) (a .table .now) = c .before .before .pre .0 .starts (a .k) (omega arith) in
-    let next : 156 + a .k + 1 ≡ 156 + (a .k + 1) = omega arith in
-    let s1 : getD (a .block .now) (156 + a .k + 1) 0 ≡ startOf (a .k + 1) (a .table .now) = ap (λ i. getD (a .block .now) i 0) next ∙ c .before .before .pre .0 .starts (a .k + 1) (omega arith) in
-    let up = start-ascends (a .k) (a .table .now) in
-    let w = start-within (a .k + 1) (a .table .now) in omega arith
+rows-at-requires : tie.Need-rows-at-requires
+rows-at-requires c κs = let a = c .before .before .before .args in let made = c .before .before .before .pre .0 in (
+  record {
+    size = let z = made .size in length-take-le 10 (drop 156 (a .block .now)) (omega (arith, length-drop 156 (a .block .now)));
+    places = λ k h. getD-take 10 (drop 156 (a .block .now)) k 0 h ∙ getD-drop 156 (a .block .now) k 0 ∙ made .starts k h;
+  },
+  c .before .before .before .pre .1,
+)
 
 returns : tie.Need-returns
-unfolding partOf
-returns c = let a = c .before .before .before .args in
-    let s0 : getD (a .block .now) (156 + a .k) 0 ≡ startOf (a .k) (a .table .now) = c .before .before .before .pre .0 .starts (a .k) (omega arith) in
-    let next : 156 + a .k + 1 ≡ 156 + (a .k + 1) = omega arith in
-    let s1 : getD (a .block .now) (156 + a .k + 1) 0 ≡ startOf (a .k + 1) (a .table .now) = ap (λ i. getD (a .block .now) i 0) next ∙ c .before .before .before .pre .0 .starts (a .k + 1) (omega arith) in
-    rw (s1, s0, add-one (a .k))
+returns c = search needs
 
 pub part-spec : {M : Type 1} → statement M
 part-spec =
     tie.close
-    (tie.spec
-    add-from
-    mul-from
-    shared-slice-read-from
-    add-to
-    add-to-2
-    mul-to
-    shared-slice-read-to
-    mul-result
-    sub-result
-    part-result-start
-    part-result-end
-    returns)
+    (tie.spec add-rows-at sub-rows-at part-rows-at-start part-rows-at-end rows-at-requires returns)

@@ -6,7 +6,7 @@ use mathlib.Core.List.{_++_, flatMap}
 use native.Mathlib.Omega.{arith}
 use lib.ListN.{length}
 use borrow.Author.Needs.{needs}
-use Rattle.block.specs.Sets.{hasScope}
+use Rattle.block.specs.Sets.{hasScope, ALL_LABELS}
 use Rattle.block.specs.Block.{hopOf, firstEdge, hopsOn}
 use Rattle.block.specs.Ask.{askGoal}
 use Rattle.search.proofs.Measure.{over, over-edges, lexBy, lexBy-fst, lexBy-snd}
@@ -160,7 +160,7 @@ follow-from-pushed-requires t c κs = let s = c .before .before .before .before 
 abbrev Made : ℕ → Type 0
 Made t = follow-from-lts.After-follow-at-arg (follow-from-calls t) (follow-from-at t) follow-from.Post
 
-behind : (t : ℕ) (e : Made t) → let a = e .before .before .before .before .before .before .before .before .before .before .args in Behind (a .block .now) (a .onward .now) (a .node) 8 (a .p) (e .before .before .entered .result)
+behind : (t : ℕ) (e : Made t) → let a = e .before .before .before .before .before .before .before .before .before .before .args in Behind (a .block .now) (a .onward .now) (a .node) ALL_LABELS (a .p) (e .before .before .entered .result)
 behind t e = let s = e .before .before .before .before .before .before .before .before .before .before in behind-node (s .pre .1 .1 .1 .1 .1 .1 .1 .1 .1 .1 .1 .0 .worth) (e .before .before .before .before .edge-at .ensures) (e .before .before .before .worth .ensures) (e .before .before .entered .ensures)
 
 enters : (t : ℕ) (e : Made t) → let a = e .before .before .before .before .before .before .before .before .before .before .args in let m = e .before .before .entered .result in
@@ -179,7 +179,7 @@ follow-from-follow-at-requires t c κs =
     let into = c .before .before .entered in
     let to = hopOf (c .before .before .before .before .edge-at .result) .to in (
       rw (into .ensures .left) (lexBy-snd (over (a .block .now)) (a .node .left) (firstEdge (a .block .now) (suc (a .node .scope)) - a .p) (s .pre .0) 0 (omega (arith, s .pre .1 .1 .1 .1 .1 .1 .1 .1 .1 .1 .1 .0 .inside))),
-      (s .pre .1 .0, (s .pre .1 .1 .0, (s .pre .1 .1 .1 .0, (live-taken (a .block .now) (askGoal (a .ask .now)) (a .node .free) to (into .result .free) (into .ensures .free) (a .ask .now) (s .pre .1 .1 .1 .1 .0), (s .pre .1 .1 .1 .1 .1 .0, (worth-taken (a .block .now) (askGoal (a .ask .now)) (a .node .free) to (into .result .free) (into .ensures .free) (a .aim .scopes) (a .aim .states) (a .onward .now) (s .pre .1 .1 .1 .1 .1 .1 .0), (enter-inside (a .block .now) (askGoal (a .ask .now)) (a .node) 8 (a .onward .now) (a .p) (into .result) (behind t c), (omega (arith, c .before .pushed .ensures .0, into .ensures .left, s .pre .1 .1 .1 .1 .1 .1 .1 .1 .0, s .pre .1 .1 .1 .1 .1 .1 .1 .1 .1 .1 .1 .1), s .pre .1 .1 .1 .1 .1 .1 .1 .1 .1 .0)))))))),
+      (s .pre .1 .0, (s .pre .1 .1 .0, (s .pre .1 .1 .1 .0, (live-taken (a .block .now) (askGoal (a .ask .now)) (a .node .free) to (into .result .free) (into .ensures .free) (a .ask .now) (s .pre .1 .1 .1 .1 .0), (s .pre .1 .1 .1 .1 .1 .0, (worth-taken (a .block .now) (askGoal (a .ask .now)) (a .node .free) to (into .result .free) (into .ensures .free) (a .aim .scopes) (a .aim .states) (a .onward .now) (s .pre .1 .1 .1 .1 .1 .1 .0), (enter-inside (a .block .now) (askGoal (a .ask .now)) (a .node) ALL_LABELS (a .onward .now) (a .p) (into .result) (behind t c), (omega (arith, c .before .pushed .ensures .0, into .ensures .left, s .pre .1 .1 .1 .1 .1 .1 .1 .1 .0, s .pre .1 .1 .1 .1 .1 .1 .1 .1 .1 .1 .1 .1), s .pre .1 .1 .1 .1 .1 .1 .1 .1 .1 .0)))))))),
     )
 
 follow-from-is-done-requires : (t : ℕ) → follow-from-lts.Need-is-done-requires (follow-from-calls t) (follow-from-at t) follow-from.Post

@@ -3,6 +3,7 @@ use Prim.Native.Nat.{ℕ, suc, _+_, _-_}
 use borrow.Author.Tests.{not-true, not-false}
 use mathlib.Core.Path.{_∙_}
 use native.Mathlib.Omega.{arith}
+use Rattle.block.specs.Sets.{ALL_LABELS}
 use Rattle.block.specs.Block.{firstEdge}
 use Rattle.block.specs.Ask.{askGoal}
 use Rattle.search.specs.Conditions.{Known}
@@ -14,7 +15,7 @@ use Rattle.follow.proofs.nodes.next_followed.Tie as tie
 
 abbrev Inv-loop : tie.InvT-loop
 Inv-loop block ask onward n known p end goal more₀ i₀ more i =
-    Known block (askGoal ask) n more × (Skipped block ask onward n p i × ((k : ℕ) × NextHop block onward n 8 k i))
+    Known block (askGoal ask) n more × (Skipped block ask onward n p i × ((k : ℕ) × NextHop block onward n ALL_LABELS k i))
 
 abbrev μ-loop : tie.MeasureT-loop
 μ-loop block ask onward n known p end goal more₀ i₀ more i = firstEdge block (suc (n .scope)) - i

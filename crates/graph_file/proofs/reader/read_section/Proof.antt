@@ -2,12 +2,13 @@ use Prim.Native.Nat.{ℕ}
 use mathlib.Core.Path.{refl, ap, _∙_}
 use native.Mathlib.Omega.{arith}
 use borrow.Author.Tests.{not-true, not-false}
-use lib.ListN.{drop}
+use lib.ListN.{length, drop}
 use Rattle.graph_file.specs.Admission.{blank}
 use Rattle.graph_file.specs.Line.{readItems}
 use Rattle.graph_file.specs.Table.{itemsAt, lettersAt}
 use Rattle.graph_file.specs.Reader.{partOutcome, refusedOr}
 use Rattle.graph_file.proofs.SectionLaws.{placed-fresh, names-refused, section-refused, section-few, section-done}
+use Rattle.graph_file.proofs.RoomLaws.{room-later}
 use borrow.Author.Needs.{needs}
 use Rattle.graph_file.proofs.reader.read_section.Statement.{statement}
 use Rattle.graph_file.proofs.reader.read_section.Tie as tie
@@ -37,7 +38,7 @@ unfolding partOutcome refusedOr
 returns c = let a = c .before .before .before .before .before .before .before .before .before .args in (names-refused (a .k) (a .n) (a .table .now) (a .part .now) (a .c) (c .before .before .read-line .result) (c .before .before .read-line .ensures ∙ ap (λ (o : ℕ). readItems (lettersAt 0 (drop 1 (a .table .now))) (itemsAt o) blank (drop 0 (a .part .now))) (c .before .before .before .names-place .ensures)) (not-true _ (c .if1 .taken)), λ z. absurd (omega arith))
 
 read-rows-requires : tie.Need-read-rows-requires
-read-rows-requires c κs = let q = c .before .before .before .before .before .before .before .before .before .before .pre .1 in let a = c .before .before .before .before .before .before .before .before .before .before .args in (c .before .before .before .before .before .before .before .before .before .before .pre .0, (q .0, q .1, placed-fresh (a .k) (a .n) (a .c) (q .2), refl, c .before .before .before .before .before .before .most .ensures))
+read-rows-requires c κs = let q = c .before .before .before .before .before .before .before .before .before .before .pre .1 in let a = c .before .before .before .before .before .before .before .before .before .before .args in (c .before .before .before .before .before .before .before .before .before .before .pre .0, (room-later (a .k) (a .n) (length (a .table .now)) (a .part .now) (c .before .before .before .read-line .result .next) (q .0), q .1, placed-fresh (a .k) (a .n) (a .c) (q .2), refl, c .before .before .before .before .before .before .most .ensures))
 
 same-length-2 : tie.Need-same-length-2
 same-length-2 c = search needs

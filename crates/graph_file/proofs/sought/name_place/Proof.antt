@@ -1,7 +1,8 @@
-use Prim.Native.Nat.{_+_, _-_}
+use Prim.Native.Nat.{ℕ, _+_, _-_}
 use mathlib.Core.Path.{_≡_, ap, _∙_}
 use native.Mathlib.Omega.{arith}
-use lib.ListN.{length}
+use mathlib.Core.Logic.{inl}
+use lib.ListN.{length, length-replicate}
 use Rattle.graph_file.specs.NameSought.{lineCount}
 use Rattle.graph_file.proofs.SoughtLaws.{same-place, file-refused, query-refused, query-read}
 use borrow.Author.Needs.{needs}
@@ -17,7 +18,7 @@ slice-aggregate-read-whole : tie.Need-slice-aggregate-read-whole
 slice-aggregate-read-whole c = search needs
 
 read-whole-requires : tie.Need-read-whole-requires
-read-whole-requires c κs = search needs
+read-whole-requires c κs = inl (omega (arith, length-replicate {A = ℕ} 12277 0))
 
 returns : tie.Need-returns
 returns c = let t = c .before .before .before .before .before .before .args .text .now in let q = c .before .before .before .before .before .before .args .query in let r = c .before .before .before .read-whole .result in let u = c .before .before .before .read-whole .last .1 .0 in let e = c .before .before .before .read-whole .ensures .0 in same-place _ (length t) (length t) (file-refused r u t q e (c .if1 .taken))
@@ -44,7 +45,7 @@ name-after-requires-2 : tie.Need-name-after-requires-2
 name-after-requires-2 c κs = search needs
 
 returns-4 : tie.Need-returns-4
-returns-4 c = let t = c .before .before .before .before .before .before .before .before .before .before .before .before .args .text .now in let q = c .before .before .before .before .before .before .before .before .before .before .before .before .args .query in let r = c .before .before .before .before .before .before .before .before .before .read-whole .result in let u = c .before .before .before .before .before .before .before .before .before .read-whole .last .1 .0 in let e = c .before .before .before .before .before .before .before .before .before .read-whole .ensures .0 in let k = c .before .before .line-count .result - r .counts .rows + q in let z : k ≡ lineCount t - r .counts .rows + q = ap (λ (n : Prim.Native.Nat.ℕ). n - r .counts .rows + q) (c .before .before .line-count .ensures) in c .name-after2 .ensures ∙ query-read r u t q e (c .before .before .before .before .before .before .if1 .left) (c .before .before .before .if2 .left) k z
+returns-4 c = let t = c .before .before .before .before .before .before .before .before .before .before .before .before .args .text .now in let q = c .before .before .before .before .before .before .before .before .before .before .before .before .args .query in let r = c .before .before .before .before .before .before .before .before .before .read-whole .result in let u = c .before .before .before .before .before .before .before .before .before .read-whole .last .1 .0 in let e = c .before .before .before .before .before .before .before .before .before .read-whole .ensures .0 in let k = c .before .before .line-count .result - r .counts .rows + q in let z : k ≡ lineCount t - r .counts .rows + q = ap (λ (n : ℕ). n - r .counts .rows + q) (c .before .before .line-count .ensures) in c .name-after2 .ensures ∙ query-read r u t q e (c .before .before .before .before .before .before .if1 .left) (c .before .before .before .if2 .left) k z
 
 pub name-place-spec : {M : Type 1} → statement M
 name-place-spec =

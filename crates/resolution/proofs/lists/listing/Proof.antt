@@ -1,53 +1,50 @@
-use Prim.Native.Nat.{ℕ}
-use Rattle.text_field.specs.Answer.{answerOf}
-use Rattle.resolution.proofs.Reading.{read-refused, read-written, made-read, made-listed}
-use lib.ListN.{length-replicate}
+use mathlib.Core.Logic.{inl}
+use native.Mathlib.Omega.{arith}
 use borrow.Author.Needs.{needs}
 use Rattle.resolution.proofs.lists.listing.Statement.{statement}
 use Rattle.resolution.proofs.lists.listing.Tie as tie
+use Rattle.resolution.proofs.lists.listing.Reads as reads
+use Rattle.resolution.proofs.lists.listing.Lts as lts
+use Rattle.graph_file.proofs.is_short.Reads as is-short-reads
+use Rattle.resolution.proofs.lists.listing_over.Reads as listing-over-reads
 
-slice-aggregate-read : tie.Need-slice-aggregate-read
-slice-aggregate-read c = search needs
+is-short-requires : tie.Need-is-short-requires
+is-short-requires c κs = search needs
 
-read-requires : tie.Need-read-requires
-read-requires c κs = search needs
+slice-aggregate-listing-over : tie.Need-slice-aggregate-listing-over
+slice-aggregate-listing-over c = search needs
 
-enum-known-a : tie.Need-enum-known-a
-enum-known-a c = search needs
-
-enum-known-a-2 : tie.Need-enum-known-a-2
-enum-known-a-2 c = search needs
-
-array-share-prefix-table : tie.Need-array-share-prefix-table
-array-share-prefix-table c = let a = c .before .before .before .before .before .before .before .before .args in read-written (a .text .now) _ _ _ _ (length-replicate {A = ℕ} 12271 0) (c .before .before .before .before .read .ensures .0) (c .before .before .before .before .read .ensures .1) (c .before .a2 .given .1) .within
-
-slice-aggregate-listing-of : tie.Need-slice-aggregate-listing-of
-slice-aggregate-listing-of c = let a = c .before .before .before .before .before .before .before .before .before .args in read-written (a .text .now) _ _ _ _ (length-replicate {A = ℕ} 12271 0) (c .before .before .before .before .before .read .ensures .0) (c .before .before .before .before .before .read .ensures .1) (c .before .before .a2 .given .1) .taken
-
-listing-of-requires : tie.Need-listing-of-requires
-listing-of-requires c κs = let a = c .before .before .before .before .before .before .before .before .before .before .args in made-read (a .text .now) _ _ (read-written (a .text .now) _ _ _ _ (length-replicate {A = ℕ} 12271 0) (c .before .before .before .before .before .before .read .ensures .0) (c .before .before .before .before .before .before .read .ensures .1) (c .before .before .before .a2 .given .1))
-
-returns : tie.Need-returns
-unfolding answerOf
-returns c = let a = c .before .before .before .before .before .before .before .before .args in read-refused (a .text .now) (a .query) _ _ _ (a .out .now) (length-replicate {A = ℕ} 12271 0) (c .before .before .before .before .read .ensures .0) (c .before .a .given .1)
+listing-over-requires : tie.Need-listing-over-requires
+listing-over-requires c κs = c .before .before .before .is-short .ensures (c .before .before .if1 .taken)
 
 same-length : tie.Need-same-length
 same-length c = search needs
 
+returns : tie.Need-returns
+returns c = search needs
+
+slice-aggregate-listing-over-2 : tie.Need-slice-aggregate-listing-over-2
+slice-aggregate-listing-over-2 c = search needs
+
+listing-over-requires-2 : tie.Need-listing-over-requires-2
+listing-over-requires-2 c κs = inl (omega arith)
+
+same-length-2 : tie.Need-same-length-2
+same-length-2 c = search needs
+
 returns-2 : tie.Need-returns-2
-returns-2 c = let a = c .before .before .before .before .before .before .before .before .before .before .before .before .before .args in made-listed (a .text .now) (a .query) _ _ (read-written (a .text .now) _ _ _ _ (length-replicate {A = ℕ} 12271 0) (c .before .before .before .before .before .before .before .before .before .read .ensures .0) (c .before .before .before .before .before .before .before .before .before .read .ensures .1) (c .before .before .before .before .before .before .a2 .given .1)) _ _ (a .out .now) (c .before .before .listing-of .ensures)
+returns-2 c = search needs
 
 pub listing-spec : {M : Type 1} → statement M
 listing-spec =
     tie.close
     (tie.spec
-    slice-aggregate-read
-    read-requires
-    enum-known-a
-    enum-known-a-2
-    array-share-prefix-table
-    slice-aggregate-listing-of
-    listing-of-requires
-    returns
+    is-short-requires
+    slice-aggregate-listing-over
+    listing-over-requires
     same-length
+    returns
+    slice-aggregate-listing-over-2
+    listing-over-requires-2
+    same-length-2
     returns-2)

@@ -13,29 +13,33 @@ is-goal-requires c κs = search needs
 returns : tie.Need-returns
 returns c = c .is-goal .ensures ∙ sym (behind-stop _ _ _ _ (c .before .if1 .taken))
 
-sub-straight : tie.Need-sub-straight
-sub-straight c = search needs
+sub-single : tie.Need-sub-single
+sub-single c = search needs
+
+single-requires : tie.Need-single-requires
+single-requires c κs = search needs
 
 straight-requires : tie.Need-straight-requires
 straight-requires c κs = search needs
 
 returns-2 : tie.Need-returns-2
-returns-2 c = sym (behind-by _ _ _ _ (c .before .before .if1 .left) ∙ c .before .straight .ensures (c .if2 .taken))
-
-sub-exists-from : tie.Need-sub-exists-from
-sub-exists-from c = search needs
+returns-2 c =
+    let pre = c .before .before .before .before .before .before .pre in
+    sym (behind-by _ _ _ _ _ (c .before .before .before .if1 .left) (pre .1 .1 .1 .1 .1) (c .before .before .single .ensures) ∙ c .before .straight .ensures (c .if2 .taken))
 
 edges-from-requires : tie.Need-edges-from-requires
 edges-from-requires c κs = search needs
 
 exists-from-requires : tie.Need-exists-from-requires
-exists-from-requires c κs = search needs
+exists-from-requires c κs =
+    let pre = c .before .before .before .before .before .before .before .pre in
+    (pre .0, (pre .1 .0, (pre .1 .1 .0, (pre .1 .1 .1 .0, pre .1 .1 .1 .1 .0))))
 
 returns-3 : tie.Need-returns-3
 returns-3 c =
-    let s = c .before .before .before .before .before .before .before in
+    let s = c .before .before .before .before .before .before .before .before in
     rw (c .before .edges-from .ensures, sym (blockHops-in (s .args .block .now) (s .args .n .scope) (s .pre .1 .1 .1 .0 .scope))) at (c .exists-from .ensures)
-    ∙ sym (behind-by _ _ _ _ (c .before .before .before .before .if1 .left))
+    ∙ sym (behind-by _ _ _ _ _ (c .before .before .before .before .before .if1 .left) (s .pre .1 .1 .1 .1 .1) (c .before .before .before .before .single .ensures))
 
 pub end-leads-spec : {M : Type 1} → statement M
 end-leads-spec =
@@ -43,10 +47,10 @@ end-leads-spec =
     (tie.spec
     is-goal-requires
     returns
-    sub-straight
+    sub-single
+    single-requires
     straight-requires
     returns-2
-    sub-exists-from
     edges-from-requires
     exists-from-requires
     returns-3)

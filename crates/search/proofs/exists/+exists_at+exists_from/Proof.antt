@@ -77,7 +77,7 @@ exists-at-returns-2 t c =
     ∙ sym (exists-on (s .args .block .now) (s .args .goal) (s .args .n) (s .pre .1 .1 .1 .1 .0 .scope) (sym (c .before .before .before .is-goal .ensures) ∙ c .before .before .if1 .left))
 
 exists-from-returns : (t : ℕ) → exists-from-lts.Need-returns (exists-from-calls t) (exists-from-at t) exists-from.Post
-exists-from-returns t c = let s = c .before .before .before .before .args in sym (leads-over (s .block .now) (s .goal) (s .n) (s .want) (c .if1 .taken) _)
+exists-from-returns t c = let s = c .before .before .before .before .args in sym (leads-over (s .block .now) (s .goal) (s .n) (s .labels) (c .if1 .taken) _)
 
 exists-from-edges-end-requires : (t : ℕ) → exists-from-lts.Need-edges-end-requires (exists-from-calls t) (exists-from-at t) exists-from.Post
 exists-from-edges-end-requires t c κs = search needs
@@ -88,7 +88,7 @@ exists-from-next-hop-requires t c κs = search needs
 exists-from-returns-2 : (t : ℕ) → exists-from-lts.Need-returns-2 (exists-from-calls t) (exists-from-at t) exists-from.Post
 exists-from-returns-2 t c =
     let s = c .before .before .before .before .before .before .before in
-    sym (next-none (s .args .block .now) (s .args .goal) (s .args .n) (s .args .want) (s .args .live .now) (s .pre .1 .1 .1 .1 .1) (s .args .p) (c .before .next-hop .result) (c .before .next-hop .ensures) (omega (arith, c .before .before .edges-end .ensures)))
+    sym (next-none (s .args .block .now) (s .args .goal) (s .args .n) (s .args .labels) (s .args .live .now) (s .pre .1 .1 .1 .1 .1) (s .args .p) (c .before .next-hop .result) (c .before .next-hop .ensures) (omega (arith, c .before .before .edges-end .ensures)))
 
 exists-from-edge-at-requires : (t : ℕ) → exists-from-lts.Need-edge-at-requires (exists-from-calls t) (exists-from-at t) exists-from.Post
 exists-from-edge-at-requires t c κs = search needs
@@ -107,18 +107,18 @@ before : (t : ℕ) (e : Made t) → e .before .before .before .before .next-hop 
 before t e = omega (arith, e .before .before .before .before .before .edges-end .ensures, e .before .before .before .if2 .left)
 
 behind : (t : ℕ) (e : Made t)
-    → Behind (e .before .before .before .before .before .before .before .before .before .before .args .block .now) (e .before .before .before .before .before .before .before .before .before .before .args .live .now) (e .before .before .before .before .before .before .before .before .before .before .args .n) (e .before .before .before .before .before .before .before .before .before .before .args .want) (e .before .before .before .before .next-hop .result) (e .entered .result)
+    → Behind (e .before .before .before .before .before .before .before .before .before .before .args .block .now) (e .before .before .before .before .before .before .before .before .before .before .args .live .now) (e .before .before .before .before .before .before .before .before .before .before .args .n) (e .before .before .before .before .before .before .before .before .before .before .args .labels) (e .before .before .before .before .next-hop .result) (e .entered .result)
 behind t e = behind-node (e .before .before .before .before .next-hop .ensures .worth (before t e)) (e .before .before .edge-at .ensures) (e .before .worth .ensures) (e .entered .ensures)
 
 exists-from-exists-at-requires : (t : ℕ) → exists-from-lts.Need-exists-at-requires (exists-from-calls t) (exists-from-at t) exists-from.Post
 exists-from-exists-at-requires t c κs =
     let s = c .before .before .before .before .before .before .before .before .before .before in (
       rw (c .entered .ensures .left) (lexBy-snd (over (s .args .block .now)) (s .args .n .left) (firstEdge (s .args .block .now) (suc (s .args .n .scope)) - s .args .p) (s .pre .0) 0 (omega (arith, c .before .before .before .before .next-hop .ensures .on, before t c))),
-      (s .pre .1 .0, (s .pre .1 .1 .0, (s .pre .1 .1 .1 .0, (enter-inside (s .args .block .now) (s .args .goal) (s .args .n) (s .args .want) (s .args .live .now) (c .before .before .before .before .next-hop .result) (c .entered .result) (behind t (c)), enter-live (s .args .block .now) (s .args .goal) (s .args .n) (s .args .want) (s .args .live .now) (c .before .before .before .before .next-hop .result) (c .entered .result) (behind t (c)) (s .pre .1 .1 .1 .1 .1))))),
+      (s .pre .1 .0, (s .pre .1 .1 .0, (s .pre .1 .1 .1 .0, (enter-inside (s .args .block .now) (s .args .goal) (s .args .n) (s .args .labels) (s .args .live .now) (c .before .before .before .before .next-hop .result) (c .entered .result) (behind t (c)), enter-live (s .args .block .now) (s .args .goal) (s .args .n) (s .args .labels) (s .args .live .now) (c .before .before .before .before .next-hop .result) (c .entered .result) (behind t (c)) (s .pre .1 .1 .1 .1 .1))))),
     )
 
 exists-from-returns-3 : (t : ℕ) → exists-from-lts.Need-returns-3 (exists-from-calls t) (exists-from-at t) exists-from.Post
-exists-from-returns-3 t c = let s = c .before .before .before .before .before .before .before .before .before .before .before .before in sym (next-found (s .args .block .now) (s .args .goal) (s .args .n) (s .args .want) (s .args .live .now) (s .pre .1 .1 .1 .1 .1) (s .args .p) (c .before .before .before .before .before .before .next-hop .result) (c .before .before .before .before .before .before .next-hop .ensures) (before t (c .before .before)) (c .before .before .entered .result) (behind t (c .before .before)) (sym (c .before .exists-at .ensures) ∙ c .if3 .taken))
+exists-from-returns-3 t c = let s = c .before .before .before .before .before .before .before .before .before .before .before .before in sym (next-found (s .args .block .now) (s .args .goal) (s .args .n) (s .args .labels) (s .args .live .now) (s .pre .1 .1 .1 .1 .1) (s .args .p) (c .before .before .before .before .before .before .next-hop .result) (c .before .before .before .before .before .before .next-hop .ensures) (before t (c .before .before)) (c .before .before .entered .result) (behind t (c .before .before)) (sym (c .before .exists-at .ensures) ∙ c .if3 .taken))
 
 exists-from-enum-told : (t : ℕ) → exists-from-lts.Need-enum-told (exists-from-calls t) (exists-from-at t) exists-from.Post
 exists-from-enum-told t c = search needs
@@ -137,7 +137,7 @@ exists-from-exists-from-requires t c κs =
 exists-from-returns-4 : (t : ℕ) → exists-from-lts.Need-returns-4 (exists-from-calls t) (exists-from-at t) exists-from.Post
 exists-from-returns-4 t c =
     let s = c .before .before .before .before .before .before .before .before .before .before .before .before .before .before .before in
-    c .exists-from .ensures ∙ sym (next-on (s .args .block .now) (s .args .goal) (s .args .n) (s .args .want) (s .args .live .now) (s .pre .1 .1 .1 .1 .1) (s .args .p) (c .before .before .before .before .before .before .before .before .before .next-hop .result) (c .before .before .before .before .before .before .before .before .before .next-hop .ensures) (before t (c .before .before .before .before .before)) (c .before .before .before .before .before .entered .result) (behind t (c .before .before .before .before .before)) (sym (c .before .before .before .before .exists-at .ensures) ∙ c .before .before .before .if3 .left))
+    c .exists-from .ensures ∙ sym (next-on (s .args .block .now) (s .args .goal) (s .args .n) (s .args .labels) (s .args .live .now) (s .pre .1 .1 .1 .1 .1) (s .args .p) (c .before .before .before .before .before .before .before .before .before .next-hop .result) (c .before .before .before .before .before .before .before .before .before .next-hop .ensures) (before t (c .before .before .before .before .before)) (c .before .before .before .before .before .entered .result) (behind t (c .before .before .before .before .before)) (sym (c .before .before .before .before .exists-at .ensures) ∙ c .before .before .before .if3 .left))
 
 exists-from-enum-told-2 : (t : ℕ) → exists-from-lts.Need-enum-told-2 (exists-from-calls t) (exists-from-at t) exists-from.Post
 exists-from-enum-told-2 t c = search needs
@@ -151,8 +151,8 @@ exists-from-next-hop-requires-2 t c κs = let s = c .before .before .before .bef
 exists-from-returns-5 : (t : ℕ) → exists-from-lts.Need-returns-5 (exists-from-calls t) (exists-from-at t) exists-from.Post
 exists-from-returns-5 t c =
     let s = c .before .before .before .before .before .before .before .before .before .before .before .before .before .before .before .before in
-    sym ((next-on (s .args .block .now) (s .args .goal) (s .args .n) (s .args .want) (s .args .live .now) (s .pre .1 .1 .1 .1 .1) (s .args .p) (c .before .before .before .before .before .before .before .before .before .before .next-hop .result) (c .before .before .before .before .before .before .before .before .before .before .next-hop .ensures) (before t (c .before .before .before .before .before .before)) (c .before .before .before .before .before .before .entered .result) (behind t (c .before .before .before .before .before .before)) (sym (c .before .before .before .before .before .exists-at .ensures) ∙ c .before .before .before .before .if3 .left))
-    ∙ next-none (s .args .block .now) (s .args .goal) (s .args .n) (s .args .want) (s .args .live .now) (s .pre .1 .1 .1 .1 .1) (c .before .before .before .before .before .before .before .before .before .before .next-hop .result + 1) (c .before .next-hop2 .result) (c .before .next-hop2 .ensures) (omega (arith, c .before .before .before .before .before .before .before .before .before .before .before .edges-end .ensures)))
+    sym ((next-on (s .args .block .now) (s .args .goal) (s .args .n) (s .args .labels) (s .args .live .now) (s .pre .1 .1 .1 .1 .1) (s .args .p) (c .before .before .before .before .before .before .before .before .before .before .next-hop .result) (c .before .before .before .before .before .before .before .before .before .before .next-hop .ensures) (before t (c .before .before .before .before .before .before)) (c .before .before .before .before .before .before .entered .result) (behind t (c .before .before .before .before .before .before)) (sym (c .before .before .before .before .before .exists-at .ensures) ∙ c .before .before .before .before .if3 .left))
+    ∙ next-none (s .args .block .now) (s .args .goal) (s .args .n) (s .args .labels) (s .args .live .now) (s .pre .1 .1 .1 .1 .1) (c .before .before .before .before .before .before .before .before .before .before .next-hop .result + 1) (c .before .next-hop2 .result) (c .before .next-hop2 .ensures) (omega (arith, c .before .before .before .before .before .before .before .before .before .before .before .edges-end .ensures)))
 
 exists-from-accept-set-requires : (t : ℕ) → exists-from-lts.Need-accept-set-requires (exists-from-calls t) (exists-from-at t) exists-from.Post
 exists-from-accept-set-requires t c κs = c .before .before .before .before .before .before .before .before .before .before .before .before .before .before .before .before .pre .1 .0
@@ -195,8 +195,8 @@ exists-from-returns-6 : (t : ℕ) → exists-from-lts.Need-returns-6 (exists-fro
 exists-from-returns-6 t c =
     let s = c .before .before .before .before .before .before .before .before .before .before .before .before .before .before .before .before .before .before .before .before in
     c .exists-from2 .ensures
-    ∙ sym ((next-on (s .args .block .now) (s .args .goal) (s .args .n) (s .args .want) (s .args .live .now) (s .pre .1 .1 .1 .1 .1) (s .args .p) (c .before .before .before .before .before .before .before .before .before .before .before .before .before .before .next-hop .result) (c .before .before .before .before .before .before .before .before .before .before .before .before .before .before .next-hop .ensures) (before t (c .before .before .before .before .before .before .before .before .before .before)) (c .before .before .before .before .before .before .before .before .before .before .entered .result) (behind t (c .before .before .before .before .before .before .before .before .before .before)) (sym (c .before .before .before .before .before .before .before .before .before .exists-at .ensures) ∙ c .before .before .before .before .before .before .before .before .if3 .left))
-    ∙ next-skip (s .args .block .now) (s .args .goal) (s .args .n) (s .args .want) (s .args .live .now) (s .pre .1 .1 .1 .1 .1) (c .before .before .before .before .before .before .before .before .before .before .before .before .before .before .next-hop .result + 1) (c .before .before .before .before .before .next-hop2 .result) (c .before .before .before .before .before .next-hop2 .ensures))
+    ∙ sym ((next-on (s .args .block .now) (s .args .goal) (s .args .n) (s .args .labels) (s .args .live .now) (s .pre .1 .1 .1 .1 .1) (s .args .p) (c .before .before .before .before .before .before .before .before .before .before .before .before .before .before .next-hop .result) (c .before .before .before .before .before .before .before .before .before .before .before .before .before .before .next-hop .ensures) (before t (c .before .before .before .before .before .before .before .before .before .before)) (c .before .before .before .before .before .before .before .before .before .before .entered .result) (behind t (c .before .before .before .before .before .before .before .before .before .before)) (sym (c .before .before .before .before .before .before .before .before .before .exists-at .ensures) ∙ c .before .before .before .before .before .before .before .before .if3 .left))
+    ∙ next-skip (s .args .block .now) (s .args .goal) (s .args .n) (s .args .labels) (s .args .live .now) (s .pre .1 .1 .1 .1 .1) (c .before .before .before .before .before .before .before .before .before .before .before .before .before .before .next-hop .result + 1) (c .before .before .before .before .before .next-hop2 .result) (c .before .before .before .before .before .next-hop2 .ensures))
 
 pub +exists-at+exists-from-spec : {M : Type 1} → statement M
 +exists-at+exists-from-spec = close μ-exists-at μ-exists-from (λ t. exists-at-lts.spec (exists-at-calls t) (exists-at-at t)

@@ -15,8 +15,8 @@ abbrev μ-loop : tie.MeasureT-loop
 loop-holds : tie.Need-loop-holds Inv-loop μ-loop
 loop-holds c = tt
 
-hinted-requires : tie.Need-hinted-requires Inv-loop μ-loop
-hinted-requires c κs = search needs
+states-after-requires : tie.Need-states-after-requires Inv-loop μ-loop
+states-after-requires c κs = search needs
 
 add-label : tie.Need-add-label Inv-loop μ-loop
 add-label c = omega arith
@@ -33,4 +33,4 @@ returns c = tt
 pub mentioned-spec : {M : Type 1} → statement M
 mentioned-spec =
     tie.close
-    (tie.spec Inv-loop μ-loop loop-holds hinted-requires add-label loop-less loop-again returns)
+    (tie.spec Inv-loop μ-loop loop-holds states-after-requires add-label loop-less loop-again returns)

@@ -9,10 +9,10 @@ use Rattle.search.proofs.hops.next_hop.Statement.{statement}
 use Rattle.search.proofs.hops.next_hop.Tie as tie
 
 abbrev Inv-loop : tie.InvT-loop
-Inv-loop block table n want p end i₀ i = (r : ℕ) → NextHop block table n want i r → NextHop block table n want p r
+Inv-loop block table n labels p end i₀ i = (r : ℕ) → NextHop block table n labels i r → NextHop block table n labels p r
 
 abbrev μ-loop : tie.MeasureT-loop
-μ-loop block table n want p end i₀ i = end - i
+μ-loop block table n labels p end i₀ i = end - i
 
 edges-end-requires : tie.Need-edges-end-requires Inv-loop μ-loop
 edges-end-requires c κs = search needs

@@ -1,24 +1,27 @@
 -- `worth` meets its contract: one law for each way the tests go. Assumes nothing.
 use mathlib.Core.Path.{sym, _∙_}
+use native.Mathlib.Omega.{arith}
 use borrow.Author.Tests.{not-true, not-false}
 use borrow.Author.Needs.{needs}
 use Rattle.block.specs.Block.{hopOf}
-use Rattle.search.proofs.HopLaws.{hop-yes, hop-unwanted, hop-taken, hop-dead}
+use Rattle.block.proofs.SetLaws.{label-in}
+use Rattle.search.proofs.HopLaws.{hop-yes, hop-unasked, hop-taken, hop-dead}
 use Rattle.search.proofs.hops.worth.Statement.{statement}
 use Rattle.search.proofs.hops.worth.Tie as tie
-
-wanted-requires : tie.Need-wanted-requires
-wanted-requires c κs = search needs
-
-returns : tie.Need-returns
-returns c = sym (hop-unwanted _ _ _ _ _ _ (sym (c .before .wanted .ensures) ∙ not-true _ (c .if1 .taken)))
 
 has-requires : tie.Need-has-requires
 has-requires c κs = search needs
 
+returns : tie.Need-returns
+unfolding hopOf
+returns c = let s = c .before .before .before .before .args in sym (hop-taken _ _ _ _ _ (hopOf (s .x)) (sym (c .before .has .ensures) ∙ not-true _ (c .if1 .taken)))
+
+has-requires-2 : tie.Need-has-requires-2
+has-requires-2 c κs = search needs
+
 returns-2 : tie.Need-returns-2
 unfolding hopOf
-returns-2 c = let s = c .before .before .before .before .before .before .args in sym (hop-taken _ _ _ _ _ (hopOf (s .x)) (sym (c .before .has .ensures) ∙ not-true _ (c .if2 .taken)))
+returns-2 c = let s = c .before .before .before .before .before .before .args in sym (hop-unasked _ _ _ _ _ (hopOf (s .x)) (label-in _ _ (omega arith) ∙ sym (c .before .has2 .ensures) ∙ not-true _ (c .if2 .taken)))
 
 next-state-requires : tie.Need-next-state-requires
 next-state-requires c κs = search needs
@@ -31,8 +34,8 @@ unfolding hopOf
 returns-3 c =
     let s = c .before .before .before .before .before .before .before .before .before .args in
     c .before .before .next-state .ensures
-    ∙ sym (hop-yes _ _ _ _ _ (hopOf (s .x)) (sym (c .before .before .before .before .before .before .wanted .ensures) ∙ not-false _ (c .before .before .before .before .before .if1 .left))
-    (sym (c .before .before .before .before .has .ensures) ∙ not-false _ (c .before .before .before .if2 .left)) (rw (c .before .before .next-state .ensures) at (sym (c .before .place .ensures) ∙ c .if3 .taken)))
+    ∙ sym (hop-yes _ _ _ _ _ (hopOf (s .x)) (label-in _ _ (omega arith) ∙ sym (c .before .before .before .before .has2 .ensures) ∙ not-false _ (c .before .before .before .if2 .left))
+    (sym (c .before .before .before .before .before .before .has .ensures) ∙ not-false _ (c .before .before .before .before .before .if1 .left)) (rw (c .before .before .next-state .ensures) at (sym (c .before .place .ensures) ∙ c .if3 .taken)))
 
 returns-4 : tie.Need-returns-4
 unfolding hopOf
@@ -44,9 +47,9 @@ pub worth-spec : {M : Type 1} → statement M
 worth-spec =
     tie.close
     (tie.spec
-    wanted-requires
-    returns
     has-requires
+    returns
+    has-requires-2
     returns-2
     next-state-requires
     place-requires

@@ -10,11 +10,11 @@ use Rattle.search.proofs.straight.nearest.Statement.{statement}
 use Rattle.search.proofs.straight.nearest.Tie as tie
 
 abbrev Inv-loop : tie.InvT-loop
-Inv-loop block live n want end best₀ least₀ p₀ best least p =
-    (firstEdge block (n .scope) ≤ p) × (best < end → HopAt block live n want best) × (least ≤ 256)
+Inv-loop block live n labels end best₀ least₀ p₀ best least p =
+    (firstEdge block (n .scope) ≤ p) × (best < end → HopAt block live n labels best) × (least ≤ 256)
 
 abbrev μ-loop : tie.MeasureT-loop
-μ-loop block live n want end best₀ least₀ p₀ best least p = end - p
+μ-loop block live n labels end best₀ least₀ p₀ best least p = end - p
 
 edges-end-requires : tie.Need-edges-end-requires Inv-loop μ-loop
 edges-end-requires c κs = search needs

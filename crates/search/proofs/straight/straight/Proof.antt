@@ -22,11 +22,11 @@ use Rattle.search.proofs.hops.entered.Reads as entered
 use Rattle.search.proofs.exists.is_goal.Reads as is-goal
 
 abbrev Inv-loop : tie.InvT-loop
-Inv-loop block goal live want m₀ by₀ m by =
-    Inside m × (leadsBy (tableBoard block goal) m by (blockHops block (m .scope)) ≡ true → leadsBy (tableBoard block goal) m₀ want (blockHops block (m₀ .scope)) ≡ true)
+Inv-loop block goal live labels m₀ by₀ m by =
+    Inside m × (leadsBy (tableBoard block goal) m by (blockHops block (m .scope)) ≡ true → leadsBy (tableBoard block goal) m₀ labels (blockHops block (m₀ .scope)) ≡ true)
 
 abbrev μ-loop : tie.MeasureT-loop
-μ-loop block goal live want m₀ by₀ m by = m .left
+μ-loop block goal live labels m₀ by₀ m by = m .left
 
 shared-slice-read-if1 : tie.Need-shared-slice-read-if1 Inv-loop μ-loop
 shared-slice-read-if1 c = omega arith

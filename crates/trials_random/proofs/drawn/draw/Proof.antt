@@ -1,5 +1,5 @@
--- `trials_random::drawn::draw` is safe and ends. The measure is the places left; the lent slice keeps its length.
--- Assumes nothing.
+-- `trials_random::drawn::draw` is safe and ends. The measure is the places left; the lent slice
+-- keeps its length. Assumes nothing.
 use Prim.Native.Nat.{_-_}
 use borrow.Author.Needs.{needs}
 use mathlib.Core.Path.{_≡_}

@@ -1,5 +1,5 @@
--- `trials_random::judged::judge_paths` is safe and ends. The measure is the turns left; the lent slices keep their lengths.
--- Assumes nothing.
+-- `trials_random::judged::judge_paths` is safe and ends. The measure is the turns left; the lent
+-- slices keep their lengths. Assumes nothing.
 use borrow.Author.Needs.{needs}
 use mathlib.Core.Path.{_≡_}
 use lib.ListN.{length}
