@@ -69,7 +69,7 @@ extern "C" {
 #define TEWHORANU_LISTING 65536
 
 /* Stack that serves every call, in bytes. A walk has at most a frame for each edge and each scope, of about 1,400 and 900
- * bytes, and a search that it asks for as many again, of about 750 bytes, above some 220,000 bytes of tables: counted from the
+ * bytes, and a search that it asks for as many again, of about 750 bytes, above some 120,000 bytes of tables: counted from the
  * library as it is built, not proved. The host test runs the files that go deepest on a thread with this much; 640 KiB
  * served them too. */
 #define TEWHORANU_STACK (3 * 512 * 1024)
