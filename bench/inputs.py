@@ -154,8 +154,8 @@ def clique(name_in_site, open_profile, parent_after_import=False):
     return g
 
 
-def ladder(rungs, ordered, odd=False):
-    """Scopes in a row, from each two labels to the next, the name in the last one."""
+def ladder(rungs, ordered, odd=False, marks=(1, 2)):
+    """Scopes in a row, from each two labels to the next, the name in the last one, with these marks."""
     g = Gym('AB', rungs + 1)
     g.trans = {(0, 0): 0, (0, 1): 0}
     g.accepts = {0}
@@ -166,7 +166,7 @@ def ladder(rungs, ordered, odd=False):
         g.order = {(0, 1)}
     for i in range(rungs):
         g.edges |= {(i, 0, i + 1), (i, 1, i + 1)}
-    g.decls = {(rungs, 'service', 1), (rungs, 'service', 2)}
+    g.decls = {(rungs, 'service', mark) for mark in marks}
     g.open = {(rungs, -1)}
     g.queries = [(s, 'service') for s in range(rungs + 1)]
     return g
@@ -298,7 +298,8 @@ FILES = [
     ('clique_site_open', 'the same, and an open profile', lambda: clique(True, True)),
     ('clique_site_any', 'the same, and from each profile to the site', lambda: clique(True, True, True)),
     ('ladder', 'thirty rungs with two routes each, no order', lambda: ladder(30, False)),
-    ('ladder_ordered', 'the same with an order', lambda: ladder(30, True)),
+    ('ladder_one', 'the same, all of them to one row', lambda: ladder(30, False, marks=(1,))),
+    ('ladder_ordered', 'the ladder with an order', lambda: ladder(30, True)),
     ('ladder_odd', 'the same, one route an odd number of times', lambda: ladder(30, True, True)),
     ('exit_clique', 'twenty scopes left only through a declaration', lambda: exit_clique(20, False)),
     ('exit_clique_small', 'the same with six scopes', lambda: exit_clique(6, False)),

@@ -72,7 +72,7 @@ module _ (cells : List ℕ) (sound : Sound cells) where
       (λ d m e. let z = eqb-true (d .at) s (and-left (eqb (d .at) s) _ e) in let y = sound .declared d m in omega arith)
 
   -- the scopes that declare the name
-  goal-eq : (x : PackedName) (goal : ℕ) → DeclaringIs (partOf declarationSection cells) x goal
+  pub goal-eq : (x : PackedName) (goal : ℕ) → DeclaringIs (partOf declarationSection cells) x goal
       → (s : ℕ) → hasScope goal s ≡ declaresAny (language rules) (graphOf cells .declarations) s x
   unfolding graphOf
   goal-eq x goal is s =

@@ -7,8 +7,8 @@ use crate::text::put_field;
 use crate::text::put_name;
 use crate::text::put_number;
 
-fn put_found(out: &mut [u8], n: usize, entries: usize) -> usize {
-    match entries {
+fn put_found(out: &mut [u8], n: usize, seen: usize) -> usize {
+    match seen {
         0 => put_all(out, n, b"none "),
         1 => put_all(out, n, b"one "),
         _ => put_all(out, n, b"several "),
@@ -23,20 +23,20 @@ fn put_awaits(out: &mut [u8], n: usize, g: &[u8], pair: usize) -> usize {
     put_end(out, m, g, pair % 4, 10)
 }
 
-// The listing of a query with so many entries, of which the rows are given, and the pair awaited.
+// The listing of a query that sees so many declarations; the rows are given, and the pair awaited.
 pub fn put_listing(
     out: &mut [u8],
     g: &[u8],
     start: usize,
     name: usize,
-    entries: usize,
+    seen: usize,
     pair: usize,
     rows: &[u8],
 ) -> usize {
     let a = put_all(out, 0, b"start seek found awaits\n");
     let b = put_field(out, a, start, 32);
     let c = put_name(out, b, g, name, 32);
-    let d = put_found(out, c, entries);
+    let d = put_found(out, c, seen);
     let e = put_awaits(out, d, g, pair);
     let f = put_all(out, e, b"mark path\n");
     put_all(out, f, rows)

@@ -250,3 +250,39 @@ pub fn entries(g: &[u8], name: usize, table: &[u8], n: usize) -> usize {
     }
     sum
 }
+
+fn shows(p: &[u8], scope: usize) -> bool {
+    is_visible(p) && last(p) == scope
+}
+
+// Does a visible path end at the scope?
+fn sees(table: &[u8], n: usize, scope: usize) -> bool {
+    let mut i = 0;
+    while i < n {
+        if shows(path(table, i), scope) {
+            return true;
+        }
+        i += 1;
+    }
+    false
+}
+
+// The declarations of the name at a scope, if the query sees them.
+fn seen_at(g: &[u8], name: usize, table: &[u8], n: usize, scope: usize) -> usize {
+    if sees(table, n, scope) {
+        declarations(g, scope, name)
+    } else {
+        0
+    }
+}
+
+// The different declarations that the entries have (02, K2), however many routes lead to each.
+pub fn seen(g: &[u8], name: usize, table: &[u8], n: usize) -> usize {
+    let mut sum = 0;
+    let mut s = 0;
+    while s < 16 {
+        sum = plus(sum, seen_at(g, name, table, n, s));
+        s += 1;
+    }
+    sum
+}

@@ -81,9 +81,9 @@ module _
     (cells : List ℕ)
     (s high low p : ℕ)
   where
-    pub rows-none-left : length cells < p + 6 → entryRows letters start hops (marksIn (drop p cells) s high low) ≡ []
+    pub rows-none-left : length cells < p + 6 → entryRows letters start hops s (marksIn (drop p cells) s high low) ≡ []
     unfolding entryRows
-    rows-none-left h = ap (entryRows letters start hops) (marks-none cells s high low p h)
+    rows-none-left h = ap (entryRows letters start hops s) (marks-none cells s high low p h)
 
     module _ (row : DeclarationRow) (is : row ≡ declarationRow cells p) (h : p + 6 ≤ length cells) where
       told : (b : Bool) → matches s high low (row .at) (row .high) (row .low) ≡ b
@@ -91,19 +91,19 @@ module _
       told b e = sym (ap (λ (r : DeclarationRow). matches s high low (r .at) (r .high) (r .low)) is) ∙ e
 
       pub rows-here : matches s high low (row .at) (row .high) (row .low) ≡ true
-          → entryRows letters start hops (marksIn (drop p cells) s high low)
-          ≡ (rowText letters (row .mark) start hops ∷ []) ++ entryRows letters start hops (marksIn (drop (p + 6) cells) s high low)
+          → entryRows letters start hops s (marksIn (drop p cells) s high low)
+          ≡ (record { at = s; mark = row .mark; text = rowText letters (row .mark) start hops } ∷ []) ++ entryRows letters start hops s (marksIn (drop (p + 6) cells) s high low)
       unfolding entryRows
       rows-here e =
-          ap (entryRows letters start hops) (marks-here cells s high low p h (told true e))
+          ap (entryRows letters start hops s) (marks-here cells s high low p h (told true e))
           ∙ sym (ap
-          (λ (r : DeclarationRow). rowText letters (r .mark) start hops ∷ entryRows letters start hops (marksIn (drop (p + 6) cells) s high low))
+          (λ (r : DeclarationRow). record { at = s; mark = r .mark; text = rowText letters (r .mark) start hops } ∷ entryRows letters start hops s (marksIn (drop (p + 6) cells) s high low))
           is)
 
       pub rows-pass : matches s high low (row .at) (row .high) (row .low) ≡ false
-          → entryRows letters start hops (marksIn (drop p cells) s high low)
-          ≡ [] ++ entryRows letters start hops (marksIn (drop (p + 6) cells) s high low)
-      rows-pass e = ap (entryRows letters start hops) (marks-pass cells s high low p h (told false e))
+          → entryRows letters start hops s (marksIn (drop p cells) s high low)
+          ≡ [] ++ entryRows letters start hops s (marksIn (drop (p + 6) cells) s high low)
+      rows-pass e = ap (entryRows letters start hops s) (marks-pass cells s high low p h (told false e))
 
 -- The part of the table that a scope's declarations are, as the code takes it: up to their end or
 -- the table's, and from their start on.

@@ -30,7 +30,8 @@ use Rattle.search.proofs.Leads.{taken-is, Behind}
 use Rattle.follow.specs.declared.Task.{Task}
 use Rattle.follow.specs.declared.Task.the-variants.{Entries, Place}
 use Rattle.follow.specs.declared.Aim.{Aim}
-use Rattle.follow.specs.Walk.{letterBytes, marksAt, entryRows, placeRows, placesFrom, rowsFrom}
+use Rattle.follow.specs.Tally.{Taken}
+use Rattle.follow.specs.Walk.{letterBytes, marksAt, entryRows, placeRow, placeRows, placesFrom, rowsFrom}
 use Rattle.follow.specs.Steps.{ownRows, hopRows, endCut, FollowedEdge, NextFollowed}
 
 flatMap-append : {A B : Type 0} (f : A → List B) (l k : List A) → flatMap f (l ++ k) ≡ flatMap f l ++ flatMap f k
@@ -57,13 +58,13 @@ module _ (block table ask : List ℕ) (aim : Aim) where
   abbrev board : Board ℕ
   board = tableBoard block (askGoal ask)
 
-  abbrev share : List (HopOf ℕ) → NodeOf ℕ → List (List ℕ)
+  abbrev share : List (HopOf ℕ) → NodeOf ℕ → List Taken
   share hops k = placeRows block table ask (aim .task) hops k
 
   abbrev hits : ℕ → (ℕ → Bool) → ℕ → ℕ → List (NodeOf ℕ)
   hits fuel free s q = placesFrom block table ask (aim .scopes) (aim .states) (aim .end) fuel free s q
 
-  abbrev from : List (HopOf ℕ) → ℕ → (ℕ → Bool) → ℕ → ℕ → List (List ℕ)
+  abbrev from : List (HopOf ℕ) → ℕ → (ℕ → Bool) → ℕ → ℕ → List Taken
   from hops fuel free s q = rowsFrom block table ask aim hops fuel free s q
 
   -- a place behind a hop
@@ -71,19 +72,19 @@ module _ (block table ask : List ℕ) (aim : Aim) where
       → placeRows block table ask task hops (after board h k) ≡ placeRows block table ask task (hops ++ (h ∷ [])) k
   unfolding placeRows after
   share-after Entries hops h k =
-      ap (λ (z : List (HopOf ℕ)). entryRows (letterBytes block) (askStart ask) z (marksAt block table ask (k .at)))
+      ap (λ (z : List (HopOf ℕ)). entryRows (letterBytes block) (askStart ask) z (k .at) (marksAt block table ask (k .at)))
       (sym (append-assoc hops (h ∷ []) (k .hops)))
   share-after Place hops h k = refl
 
   -- a node behind a path
   module _ (hops : List (HopOf ℕ)) (n : Node) where
-    abbrev own : Bool → List (List ℕ)
+    abbrev own : Bool → List Taken
     own passed = ownRows block table ask aim hops n passed
 
-    abbrev along : HopOf ℕ → List (List ℕ)
+    abbrev along : HopOf ℕ → List Taken
     along h = hopRows block table ask aim hops n h
 
-    abbrev rest : ℕ → List (List ℕ)
+    abbrev rest : ℕ → List Taken
     rest p = flatMap along (hopsOn block (n .scope) p)
 
     -- its own rows, where it is passed over and where it is not
@@ -91,12 +92,12 @@ module _ (block table ask : List ℕ) (aim : Aim) where
     unfolding ownRows
     own-passed passed e = rw (e, ownRows)
 
-    pub own-place : (passed : Bool) → passed ≡ false → aim .task ≡ Place → own passed ≡ (0 ∷ []) ∷ []
+    pub own-place : (passed : Bool) → passed ≡ false → aim .task ≡ Place → own passed ≡ placeRow ∷ []
     unfolding ownRows placeRows
     own-place passed e t = rw (e, ownRows, t, placeRows)
 
     pub own-entries : (passed : Bool) → passed ≡ false → aim .task ≡ Entries
-        → own passed ≡ entryRows (letterBytes block) (askStart ask) hops (marksAt block table ask (n .scope))
+        → own passed ≡ entryRows (letterBytes block) (askStart ask) hops (n .scope) (marksAt block table ask (n .scope))
     unfolding ownRows placeRows
     own-entries passed e t = rw (e, ownRows, t, placeRows, append-nil)
 
@@ -132,8 +133,8 @@ module _ (block table ask : List ℕ) (aim : Aim) where
     unfolding rowsFrom placesFrom hitsFrom hopRows tableBoard
     rows-on inside passed is p first =
         flatMap-append (share hops) own-hit (flatMap behind (blockHops block (n .scope)))
-        ∙ ap (λ (z : List (List ℕ)). z ++ flatMap (share hops) (flatMap behind (blockHops block (n .scope)))) (own-is passed is)
-        ∙ ap (λ (z : List (List ℕ)). own passed ++ z)
+        ∙ ap (λ (z : List Taken). z ++ flatMap (share hops) (flatMap behind (blockHops block (n .scope)))) (own-is passed is)
+        ∙ ap (λ (z : List Taken). own passed ++ z)
         (flatMap-flatMap (share hops) behind (blockHops block (n .scope))
         ∙ ap (flatMap along) (blockHops-in block (n .scope) inside ∙ ap (hopsOn block (n .scope)) (sym first)))
       where
@@ -246,15 +247,15 @@ module _ (block table ask : List ℕ) (aim : Aim) where
     rest-enter onward p here m behind deeper x edge more =
         ap (flatMap along) (on-more block (n .scope) p (here .inside))
         ∙ rw (add-one p)
-        (ap (λ (z : List (List ℕ)). z ++ rest (suc p))
+        (ap (λ (z : List Taken). z ++ rest (suc p))
         (hop-enter (hopOf (edgeCell block p)) onward m (here .uncut) (behind .good) (behind .enters)
         ∙ ap (λ (z : List (HopOf ℕ)). from z (suc (m .left)) (hasScope (m .free)) (m .scope) (m .state))
         (sym (more ∙ ap (λ (z : ℕ). hops ++ (hopOf z ∷ [])) edge))))
 
     -- all rows are some that come first, and those from edge q on
-    module _ (q : ℕ) (whole first : List (List ℕ)) (so-far : whole ≡ first ++ rest q) where
+    module _ (q : ℕ) (whole first : List Taken) (so-far : whole ≡ first ++ rest q) where
       ends : rest q ≡ [] → whole ≡ first
-      ends e = so-far ∙ ap (λ (z : List (List ℕ)). first ++ z) e ∙ append-nil first
+      ends e = so-far ∙ ap (λ (z : List Taken). first ++ z) e ∙ append-nil first
 
       -- no hop may be entered
       pub rest-ends : n .left ≡ 0 → whole ≡ first
@@ -267,7 +268,7 @@ module _ (block table ask : List ℕ) (aim : Aim) where
         rest-skip =
             ap (flatMap along) (next .past .split)
             ∙ flatMap-append along (next .past .skipped) (hopsOn block (n .scope) j)
-            ∙ ap (λ (z : List (List ℕ)). z ++ rest j)
+            ∙ ap (λ (z : List Taken). z ++ rest j)
             (flatMap-no along (next .past .skipped)
             (λ h m. ⊎-elim (hop-idle h onward closed) (hop-cut h) (next .past .idle h m)))
 
@@ -276,4 +277,4 @@ module _ (block table ask : List ℕ) (aim : Aim) where
         rest-last e = ends (rest-skip ∙ ap (flatMap along) (next .none e))
 
         pub rest-further : whole ≡ first ++ rest j
-        rest-further = so-far ∙ ap (λ (z : List (List ℕ)). first ++ z) rest-skip
+        rest-further = so-far ∙ ap (λ (z : List Taken). first ++ z) rest-skip

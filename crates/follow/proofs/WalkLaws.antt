@@ -4,11 +4,10 @@ use mathlib.Core.Path.{_≡_, refl, sym, ap, _∙_, fun-ext}
 use mathlib.Core.Bool.{Bool, true, false, not, _&&_}
 use mathlib.Core.Logic.{_⊎_, inl, inr}
 use mathlib.Core.List.{List, [], _∷_, flatMap}
-use Prim.Native.Nat.{ℕ, suc, _+_, _-_, _≤_, _<_, min}
+use Prim.Native.Nat.{ℕ, suc, _-_, _≤_, _<_}
 use native.Mathlib.Omega.{arith}
-use borrow.Author.Tests.{lt-leb, le-leb, ltb-true, ltb-false, eq-eqb, ne-eqb}
+use borrow.Author.Tests.{lt-leb, le-leb, ltb-true, ltb-false, ne-eqb}
 use lib.Dec.{eqb, ltb, leb}
-use lib.ListN.{length}
 use Rattle.scope_graph.specs.Rows.{anyOf}
 use Rattle.scope_graph.specs.Computed.{NodeOf}
 use Rattle.scope_graph.proofs.Lists.{Two}
@@ -23,8 +22,8 @@ use Rattle.follow.specs.declared.Task.the-variants.{Place}
 use Rattle.follow.specs.declared.Bounds.{Bounds}
 use Rattle.follow.specs.declared.Aim.{Aim}
 use Rattle.follow.specs.Tally.{State, none, takeRows}
-use Rattle.follow.specs.Walk.{pathHops, placeRows, placesFrom, rowsFrom, walked, followedIn}
-use Rattle.follow.proofs.TallyLaws.{rows-entries}
+use Rattle.follow.specs.Walk.{pathHops, placeRow, placeRows, placesFrom, rowsFrom, walked, followedIn}
+use Rattle.follow.proofs.TallyLaws.{rows-some}
 
 -- the scopes that are free when a query begins, as the code makes them
 pub start-free : (ask : List ℕ) (s r : ℕ) → s ≡ askStart ask → Taken 18446744073709551615 s r → hasScope r ≡ freeAt (askStart ask)
@@ -65,18 +64,11 @@ module _ (block table ask : List ℕ) where
   any-place : (b : Bounds) (out : List ℕ) → b .most ≡ 1 → (places : List (NodeOf ℕ))
       → not (eqb (takeRows b (out, none) (flatMap (placeRows block table ask Place []) places) .1 .entries) 0)
       ≡ anyOf (λ n. true) places
-  unfolding placeRows flatMap anyOf
-  any-place b out one places =
-      ap (λ (k : ℕ). not (eqb k 0)) (rows-entries b (out, none) (rows places) (omega arith)) ∙ at places
-    where
-      rows : List (NodeOf ℕ) → List (List ℕ)
-      rows ns = flatMap (placeRows block table ask Place []) ns
-
-      at : (ns : List (NodeOf ℕ)) → not (eqb (min (b .most) (0 + length (rows ns))) 0) ≡ anyOf (λ n. true) ns
-      at [] = let z : min (b .most) (0 + length (rows [])) ≡ 0 = omega arith in rw (eq-eqb _ 0 z)
-      at (n ∷ ns) =
-          let some : min (b .most) (0 + length (rows (n ∷ ns))) ≡ 0 → ⊥ = λ z. omega arith in
-          rw (ne-eqb (min (b .most) (0 + length (rows (n ∷ ns)))) 0 some)
+  unfolding placeRows flatMap anyOf takeRows
+  any-place b out one [] = refl
+  any-place b out one (n ∷ places) =
+      let some = rows-some b (omega arith) out placeRow (flatMap (placeRows block table ask Place []) places) in
+      rw (ne-eqb (takeRows b (out, none) (placeRow ∷ flatMap (placeRows block table ask Place []) places) .1 .entries) 0 (λ z. omega arith))
 
   module _ (scopes states e : ℕ) where
     abbrev aim : Aim

@@ -19,6 +19,7 @@ use Rattle.search.specs.Steps.{worthState}
 use Rattle.search.specs.declared.Node.{Node}
 use Rattle.follow.specs.declared.Aim.{Aim}
 use Rattle.follow.specs.declared.Task.the-variants.{Place}
+use Rattle.follow.specs.Tally.{Taken}
 use Rattle.follow.specs.Walk.{placeRows, placesFrom}
 
 -- how long the hops of a row are, whatever the letters, and a row without its mark
@@ -36,7 +37,7 @@ NoRoom aim = aim .task ≡ Place → aim .bounds .limit ≡ 0
 -- with the board's block, the graph table and the ask
 module _ (block table ask : List ℕ) (aim : Aim) (hops : List (HopOf ℕ)) (n : Node) where
   -- a node's own rows, unless it is passed over
-  unfoldable pub ownRows : Bool → List (List ℕ)
+  unfoldable pub ownRows : Bool → List Taken
   ownRows passed =
       elim passed [
         | true ↦ []
@@ -44,7 +45,7 @@ module _ (block table ask : List ℕ) (aim : Aim) (hops : List (HopOf ℕ)) (n :
       ]
 
   -- what lies behind one of its hops
-  unfoldable pub hopRows : HopOf ℕ → List (List ℕ)
+  unfoldable pub hopRows : HopOf ℕ → List Taken
   hopRows h =
       flatMap (placeRows block table ask (aim .task) hops)
       (hopHits (tableBoard block (askGoal ask)) (tableOrder block) (placesOf (aim .scopes) (aim .states)) (endOf (aim .end))

@@ -23,7 +23,7 @@ use Rattle.follow.specs.declared.Task.the-variants.{Entries, Place}
 use Rattle.follow.specs.declared.Path.{Path}
 use Rattle.follow.specs.declared.Aim.{Aim}
 use Rattle.follow.specs.Text.{rowText}
-use Rattle.follow.specs.Tally.{State, takeRows}
+use Rattle.follow.specs.Tally.{Taken, State, takeRows}
 
 -- the hops of the path that a walk holds, `depth` of them and no more than it has places
 unfoldable pub pathHops : Path → List (HopOf ℕ)
@@ -33,9 +33,14 @@ pathHops p = map hopOf (take (p .depth) (p .hops))
 unfoldable pub letterBytes : List ℕ → List ℕ
 letterBytes block = map (λ x. x % 256) (take 8 (drop LETTER block))
 
--- the rows of the entries with these marks, by one path
-unfoldable pub entryRows : List ℕ → ℕ → List (HopOf ℕ) → List ℕ → List (List ℕ)
-entryRows letters start hops marks = map (λ mark. rowText letters mark start hops) marks
+-- the rows of the entries with these marks, by one path that ends at a scope
+unfoldable pub entryRows : List ℕ → ℕ → List (HopOf ℕ) → ℕ → List ℕ → List Taken
+entryRows letters start hops at marks =
+    map (λ mark. record { at = at; mark = mark; text = rowText letters mark start hops }) marks
+
+-- the row of a place where places are sought; its scope and mark stand for nothing
+abbrev pub placeRow : Taken
+placeRow = record { at = 0; mark = 0; text = 0 ∷ [] }
 
 -- with the board's block, the graph table and the ask
 module _ (block table ask : List ℕ) where
@@ -44,9 +49,9 @@ module _ (block table ask : List ℕ) where
   marksAt s = marksIn (declaredPart block table s) s (askHigh ask) (askLow ask)
 
   -- a place's rows, `hops` being the path up to where it was sought from
-  unfoldable pub placeRows : Task → List (HopOf ℕ) → NodeOf ℕ → List (List ℕ)
-  placeRows Entries hops n = entryRows (letterBytes block) (askStart ask) (hops ++ n .hops) (marksAt (n .at))
-  placeRows Place hops n = (0 ∷ []) ∷ []
+  unfoldable pub placeRows : Task → List (HopOf ℕ) → NodeOf ℕ → List Taken
+  placeRows Entries hops n = entryRows (letterBytes block) (askStart ask) (hops ++ n .hops) (n .at) (marksAt (n .at))
+  placeRows Place hops n = placeRow ∷ []
 
   -- the followed places of a set of scopes and a set of states where the end is not cut, from a
   -- scope and state on
@@ -57,7 +62,7 @@ module _ (block table ask : List ℕ) where
   module _ (aim : Aim) where
     -- what the followed places behind a path give, from a scope and state on, with fewer than
     -- `fuel` hops
-    unfoldable pub rowsFrom : List (HopOf ℕ) → ℕ → (ℕ → Bool) → ℕ → ℕ → List (List ℕ)
+    unfoldable pub rowsFrom : List (HopOf ℕ) → ℕ → (ℕ → Bool) → ℕ → ℕ → List Taken
     rowsFrom hops fuel free s q =
         flatMap (placeRows (aim .task) hops) (placesFrom (aim .scopes) (aim .states) (aim .end) fuel free s q)
 

@@ -11,7 +11,9 @@ mod count;
 mod nodes;
 mod rows;
 
+pub use count::is_broken;
 use nodes::follow_at;
+pub use rows::declares;
 ghost use mathlib.Core.Path.{_≡_};
 ghost use Prim.Native.Nat.{_≤_, _<_};
 ghost use lib.ListN.{length};
@@ -29,8 +31,8 @@ pub enum Task {
     Place,
 }
 
-// What a walk asks for: bytes after which rows are only counted, bytes of the lent memory that it
-// may write, and how many entries it counts up to.
+// What a walk asks for: bytes after which rows are only counted and their declarations compared,
+// bytes of the lent memory that it may write, and how many entries it counts up to.
 pub struct Bounds {
     pub limit: usize,
     pub kept: usize,
@@ -47,11 +49,21 @@ pub struct Aim {
     pub bounds: Bounds,
 }
 
-// Bytes of the rows so far, entries, and whether the rows passed the limit.
+// The declarations that the rows so far are of: none, one, by its scope and mark, or several. All
+// are of the name sought.
+pub enum Seen {
+    None,
+    One(u64, u64),
+    Several,
+}
+
+// The place behind the rows that are within the limit, the entries up to the most that are counted,
+// whether the rows passed the limit, and their declarations.
 pub struct Tally {
     pub bytes: usize,
     pub entries: u64,
     pub over: bool,
+    pub seen: Seen,
 }
 
 // The path that the walk stands behind: of each hop label * 64 + scope.
@@ -151,6 +163,7 @@ pub fn is_followed(
             bytes: 0,
             entries: 0,
             over: false,
+            seen: Seen::None,
         },
     );
     t.entries != 0

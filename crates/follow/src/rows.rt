@@ -4,6 +4,7 @@ use crate::Path;
 use crate::Tally;
 use crate::count::is_done;
 use crate::count::is_room;
+use crate::count::note;
 use crate::count::one_more;
 use block::ask_high;
 use block::ask_low;
@@ -136,13 +137,14 @@ fn put_row(block: &[u64], path: Path, start: u64, mark: u64, out: &mut [u8], n: 
     put_byte(out, d, b'\n')
 }
 
-// One entry: its row is counted, measured and, where it fits whole, written. `size` is the row's
-// without its mark.
+// One entry, of the declaration with this mark at this scope: its row is counted, noted, measured
+// and, where it fits whole, written. `size` is the row's without its mark.
 fn put_entry(
     block: &[u64],
     path: Path,
     start: u64,
     size: usize,
+    at: u64,
     mark: u64,
     bounds: Bounds,
     out: &mut [u8],
@@ -150,15 +152,21 @@ fn put_entry(
 ) -> Tally
     requires block { ⌜ IsBlock (now block) ⌝ }
     requires measured { ⌜ size ≡ pathSize start (pathHops path) ⌝ }
-    ensures taken { λ r. ⌜ _≡_ {A = State} (now (out .exit), r) (takeRow bounds (now (out .entry), tally) (rowText (letterBytes (now (block .entry))) mark start (pathHops path))) ⌝ }
+    ensures taken { λ r. ⌜ _≡_ {A = State} (now (out .exit), r) (takeRow bounds (now (out .entry), tally) (record { at = at; mark = mark; text = rowText (letterBytes (now (block .entry))) mark start (pathHops path) })) ⌝ }
 {
+    if is_done(bounds, tally) {
+        return tally;
+    }
     let n = tally.bytes;
     let entries = one_more(bounds.most, tally.entries);
+    let before = tally.seen;
+    let seen = note(before, at, mark);
     if tally.over {
         return Tally {
             bytes: n,
             entries,
             over: true,
+            seen,
         };
     }
     let k = number_size(mark) + size;
@@ -167,6 +175,7 @@ fn put_entry(
             bytes: n,
             entries,
             over: true,
+            seen,
         };
     }
     let sum = n + k;
@@ -175,6 +184,7 @@ fn put_entry(
             bytes: sum,
             entries,
             over: false,
+            seen,
         };
     }
     if !is_room(out.len(), n, k) {
@@ -182,6 +192,7 @@ fn put_entry(
             bytes: sum,
             entries,
             over: false,
+            seen,
         };
     }
     put_row(block, path, start, mark, out, n);
@@ -189,11 +200,12 @@ fn put_entry(
         bytes: sum,
         entries,
         over: false,
+        seen,
     }
 }
 
 // Does the row declare the name sought at s?
-fn declares(s: u64, high: u64, low: u64, row: DeclarationRow) -> bool
+pub fn declares(s: u64, high: u64, low: u64, row: DeclarationRow) -> bool
     ensures matching { λ r. ⌜ r ≡ matches s high low (row .at) (row .high) (row .low) ⌝ }
 {
     row.at == s && (row.high == high && row.low == low)
@@ -214,7 +226,7 @@ fn put_declared(
 ) -> Tally
     requires block { ⌜ IsBlock (now block) ⌝ }
     requires ask { ⌜ IsAsk (now ask) ⌝ }
-    ensures taken { λ r. ⌜ _≡_ {A = State} (now (out .exit), r) (takeRows bounds (now (out .entry), tally) (entryRows (letterBytes (now (block .entry))) (askStart (now (ask .entry))) (pathHops path) (marksIn (drop p (now (decls .entry))) s (askHigh (now (ask .entry))) (askLow (now (ask .entry)))))) ⌝ }
+    ensures taken { λ r. ⌜ _≡_ {A = State} (now (out .exit), r) (takeRows bounds (now (out .entry), tally) (entryRows (letterBytes (now (block .entry))) (askStart (now (ask .entry))) (pathHops path) s (marksIn (drop p (now (decls .entry))) s (askHigh (now (ask .entry))) (askLow (now (ask .entry)))))) ⌝ }
 {
     let n = decls.len();
     let start = ask_start(ask);
@@ -232,7 +244,7 @@ fn put_declared(
         if !declares(s, high, low, row) {
             continue;
         }
-        t = put_entry(block, path, start, size, row.mark, bounds, out, t);
+        t = put_entry(block, path, start, size, s, row.mark, bounds, out, t);
     }
     t
 }
@@ -259,11 +271,8 @@ pub fn put_entries(
     requires block { ⌜ IsBlock (now block) ⌝ }
     requires ask { ⌜ IsAsk (now ask) ⌝ }
     requires scope { ⌜ s < 64 ⌝ }
-    ensures taken { λ r. ⌜ _≡_ {A = State} (now (out .exit), r) (takeRows bounds (now (out .entry), tally) (entryRows (letterBytes (now (block .entry))) (askStart (now (ask .entry))) (pathHops path) (marksAt (now (block .entry)) (now (table .entry)) (now (ask .entry)) s))) ⌝ }
+    ensures taken { λ r. ⌜ _≡_ {A = State} (now (out .exit), r) (takeRows bounds (now (out .entry), tally) (entryRows (letterBytes (now (block .entry))) (askStart (now (ask .entry))) (pathHops path) s (marksAt (now (block .entry)) (now (table .entry)) (now (ask .entry)) s))) ⌝ }
 {
-    if is_done(bounds, tally) {
-        return tally;
-    }
     let end = clipped(declared_end(block, s), table.len());
     let first = declared_from(block, s) as usize;
     put_declared(

@@ -1,19 +1,19 @@
--- What the walk tells of a query of a table that was read: `found`, and the first open pair that is
--- followed. Assumes nothing.
-use Prim.Native.Nat.{ℕ, zero, suc, _≤_, _<_, min}
+-- What the walk tells of a query of a table that was read: the rows of its entries, and the first
+-- open pair that is followed. Assumes nothing.
+use Prim.Native.Nat.{ℕ, zero, suc, _≤_, _<_}
 use mathlib.Core.Path.{_≡_, refl, sym, ap, _∙_}
 use mathlib.Core.Bool.{Bool, true, false, _&&_}
 use mathlib.Core.Option.{Option, some, none}
 use mathlib.Core.List.{List, [], _∷_, map}
 use native.Mathlib.Omega.{arith}
 use borrow.Author.Tests.{lt-ltb}
-use lib.ListN.{length, length-map}
+use lib.ListN.{length}
 use Rattle.scope_graph.specs.Language.{_∈_, End, stop, by, Language}
 use Rattle.scope_graph.specs.Graph.{Query, OpenPair}
 use Rattle.scope_graph.specs.Path.{PathRow}
 use Rattle.scope_graph.specs.Rows.{language}
 use Rattle.scope_graph.specs.Order.{endOf}
-use Rattle.scope_graph.specs.Computed.{foundOf, entries, found, firstOf, followedAt, awaits}
+use Rattle.scope_graph.specs.Computed.{entries, firstOf, followedAt, awaits}
 use Rattle.scope_graph.proofs.Lists.{here, there, map-intro}
 use Rattle.graph_file.specs.Format.{openSection}
 use Rattle.graph_file.specs.Admission.{Row, value}
@@ -21,55 +21,20 @@ use Rattle.graph_file.specs.Decode.{rowsIn, rulesOf, scopesOf, graphOf, openPai
 use Rattle.graph_file.specs.Accepted.{EndListed}
 use Rattle.block.specs.Block.{usableSet}
 use Rattle.graph_table.specs.Sections.{partOf, rowsOf}
-use Rattle.follow.specs.declared.Bounds.{Bounds}
-use Rattle.follow.specs.Tally as tally
-use Rattle.follow.specs.Tally.{State, takeRows, joined}
+use Rattle.follow.specs.Tally.{joined}
 use Rattle.follow.specs.Walk.{followedIn}
-use Rattle.follow.proofs.TallyLaws.{tallied}
-use Rattle.resolution.specs.declared.text.Found.the-variants.{None, One, Several}
 use Rattle.resolution.specs.declared.text.Awaits.{Awaits}
 use Rattle.resolution.specs.declared.text.Awaits.the-variants.{Settled, Pair}
-use Rattle.resolution.specs.Listing.{foundFor, entriesText}
-use Rattle.resolution.specs.Asked.{Ready, queryIn, rowTexts, foundFrom, foundMeaning, followedBy, firstFollowed, awaitsMeaning}
+use Rattle.resolution.specs.Listing.{entriesText}
+use Rattle.resolution.specs.Asked.{Ready, queryIn, entriesTaken, followedBy, firstFollowed, awaitsMeaning}
 use Rattle.resolution.proofs.ListLaws.{joined-map}
 use Rattle.resolution.proofs.Walked.{pair-walked}
 use Rattle.board.proofs.Queries.{accepted, rows-are}
 
 -- the entries' rows one after the other
-pub texts-joined : (cells : List ℕ) (q : Query (language (rulesOf cells))) → joined (rowTexts cells q) ≡ entriesText cells q
-unfolding rowTexts entriesText
+pub texts-joined : (cells : List ℕ) (q : Query (language (rulesOf cells))) → joined (entriesTaken cells q) ≡ entriesText cells q
+unfolding entriesTaken entriesText
 texts-joined cells q = joined-map _ (entries (language (rulesOf cells)) (graphOf cells) q)
-
--- `found` of a list by its length, where two are counted at most
-two-count : {A : Type 0} (l : List A) → foundFrom (min 2 (length l)) ≡ foundOf l
-unfolding foundFrom foundOf
-two-count [] = let m : min 2 0 ≡ 0 = omega arith in ap foundFrom m
-two-count (x ∷ []) = let m : min 2 (length (x ∷ [])) ≡ 1 = omega arith in ap foundFrom m
-two-count (x ∷ y ∷ l) = let m : min 2 (length (x ∷ y ∷ l)) ≡ 2 = omega arith in ap foundFrom m
-
--- an enum's answer by the number
-pub found-no : (n : ℕ) → n ≡ 0 → foundMeaning None ≡ foundFrom n
-unfolding foundMeaning foundFrom
-found-no n e = sym (rw e)
-
-pub found-once : (n : ℕ) → n ≡ 1 → foundMeaning One ≡ foundFrom n
-unfolding foundMeaning foundFrom
-found-once n e = sym (rw e)
-
-pub found-more : (n : ℕ) → (n ≡ 0 → ⊥) → (n ≡ 1 → ⊥) → foundMeaning Several ≡ foundFrom n
-unfolding foundMeaning foundFrom
-found-more zero h k = absurd (h refl)
-found-more (suc zero) h k = absurd (k refl)
-found-more (suc (suc n)) h k = refl
-
-pub found-taken : (cells : List ℕ) (q : Query (language (rulesOf cells))) (bounds : Bounds) (out : List ℕ) (st : State) → bounds .most ≡ 2
-    → st ≡ takeRows bounds (out, tally.none) (rowTexts cells q) → foundFrom (st .1 .entries) ≡ foundFor cells q
-unfolding rowTexts foundFor found
-found-taken cells q bounds out st two e =
-    let l : length (rowTexts cells q) ≡ length (entries (language (rulesOf cells)) (graphOf cells) q) = length-map (entries (language (rulesOf cells)) (graphOf cells) q) _ in
-    ap (λ (s : State). foundFrom (s .1 .entries)) e
-    ∙ ap foundFrom (tallied bounds out (rowTexts cells q) .entries ∙ ap (λ (m : ℕ). min m (length (rowTexts cells q))) two ∙ ap (min 2) l)
-    ∙ two-count (entries (language (rulesOf cells)) (graphOf cells) q)
 
 module _ (cells block ask : List ℕ) (ready : Ready cells block ask) where
   abbrev L : Language
@@ -78,7 +43,7 @@ module _ (cells block ask : List ℕ) (ready : Ready cells block ask) where
   abbrev q : Query L
   q = queryIn cells ask
 
-  pair-is : (at end : ℕ) → at < 64 → end < 9 → followedBy block cells ask at end ≡ followedAt L (graphOf cells) q (record { at = at; end = endOf end })
+  pub pair-is : (at end : ℕ) → at < 64 → end < 9 → followedBy block cells ask at end ≡ followedAt L (graphOf cells) q (record { at = at; end = endOf end })
   unfolding followedBy
   pair-is at end h k = rw (lt-ltb at 64 h, lt-ltb end 9 k, followedBy) (pair-walked cells block ask ready at end h k)
 

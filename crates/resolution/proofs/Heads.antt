@@ -29,9 +29,10 @@ use Rattle.block.specs.Ask.{askStart, askHigh, askLow}
 use Rattle.board.specs.Made.{Made}
 use Rattle.board.specs.Queries.{queryAt}
 use Rattle.follow.specs.declared.Bounds.{Bounds}
+use Rattle.follow.specs.declared.Seen.the-variants.{None}
 use Rattle.follow.specs.Text.{headLine, rowsLine, foundText, letterOf, endText}
 use Rattle.follow.specs.Tally as tally
-use Rattle.follow.specs.Tally.{State, fits, takeRows, joined}
+use Rattle.follow.specs.Tally.{Taken, State, fits, takeRows, joined}
 use Rattle.follow.specs.Walk.{letterBytes}
 use Rattle.follow.proofs.TakeLaws.{fits-yes, fits-no, fits-true, fits-false}
 use Rattle.follow.proofs.TallyLaws.{rows-text, tallied}
@@ -39,7 +40,7 @@ use Rattle.resolution.specs.declared.text.Found as told
 use Rattle.resolution.specs.declared.text.Awaits.{Awaits}
 use Rattle.resolution.specs.declared.text.Awaits.the-variants.{Settled, Pair}
 use Rattle.resolution.specs.Listing.{awaitsText, foundFor, entriesText, listingText, listingOf}
-use Rattle.resolution.specs.Asked.{Ready, queryIn, rowTexts, foundMeaning, awaitsMeaning, awaitsBytes, queryText, headText, queryHead}
+use Rattle.resolution.specs.Asked.{Ready, queryIn, entriesTaken, foundMeaning, awaitsMeaning, awaitsBytes, queryText, headText, queryHead}
 use Rattle.resolution.proofs.Given.{letters-same}
 use Rattle.board.proofs.Queries.{accepted}
 use Rattle.resolution.proofs.Answers.{texts-joined}
@@ -83,8 +84,8 @@ module _ (cells block ask : List ℕ) (ready : Ready cells block ask) where
   abbrev q : Query L
   q = queryIn cells ask
 
-  abbrev rows : List (List ℕ)
-  rows = rowTexts cells q
+  abbrev rows : List Taken
+  rows = entriesTaken cells q
 
   abbrev head : List ℕ
   head = queryHead cells ask
@@ -241,14 +242,14 @@ module _ (cells block ask : List ℕ) (ready : Ready cells block ask) where
 
             -- or they are too long to be kept, and a second walk writes them there
             pub list-again : (a : Bounds) → a .limit ≡ length out → a .kept ≡ length out → (d : State)
-                → d ≡ takeRows a (c .0, record { bytes = n; entries = 0; over = false }) rows
+                → d ≡ takeRows a (c .0, record { bytes = n; entries = 0; over = false; seen = None }) rows
                 → (done (n + st .1 .bytes) ≡ answer (done T) (length out)) × (d .0 ≡ leaves (done T) out)
             list-again a x y d e =
                 let f = all-fits in
                 let k = head-fit .0 in
                 let same : length (c .0) ≡ length out = ap (λ (z : Buf). length (z .0)) head-copied ∙ puts-length head (out, 0) in
                 let text : d .0 ≡ puts (c .0, n) (joined rows) .0 =
-                ap (λ (s : State). s .0) e ∙ rows-text a (c .0, record { bytes = n; entries = 0; over = false }) rows refl (omega arith) (omega arith) (omega arith) in
+                ap (λ (s : State). s .0) e ∙ rows-text a (c .0, record { bytes = n; entries = 0; over = false; seen = None }) rows refl (omega arith) (omega arith) (omega arith) in
                 let w = whole (puts (c .0, n) (joined rows)) (ap (λ (s : Buf). puts s (joined rows)) (behind ∙ head-copied)) in
                 (w .0, text ∙ w .1)
 

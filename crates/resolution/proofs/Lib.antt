@@ -9,6 +9,9 @@ pub mod Given
 pub mod Walked
 pub mod Answers
 pub mod Unfollowed
+pub mod Noted
+pub mod Ends
+pub mod Seconds
 pub mod First
 pub mod Numbered
 pub mod Buffers

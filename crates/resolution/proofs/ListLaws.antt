@@ -3,7 +3,7 @@ use Prim.Native.Nat.{ℕ, suc}
 use mathlib.Core.Path.{_≡_, refl, sym, ap, _∙_}
 use mathlib.Core.List.{List, [], _∷_, _++_, map, flatMap, append-assoc}
 use lib.ListN.{length}
-use Rattle.follow.specs.Tally.{joined}
+use Rattle.follow.specs.Tally.{Taken, joined}
 
 module _ {A B : Type 0} where
   pub flatMap-append : (f : A → List B) (s t : List A) → flatMap f (s ++ t) ≡ flatMap f s ++ flatMap f t
@@ -29,7 +29,7 @@ pub map-same : {A B : Type 0} (f g : A → B) → ((a : A) → f a ≡ g a) → 
 map-same f g e [] = refl
 map-same {B = B} f g e (x ∷ l) = ap (λ (b : B). b ∷ map f l) (e x) ∙ ap (λ (m : List B). g x ∷ m) (map-same f g e l)
 
-pub joined-map : {A : Type 0} (f : A → List ℕ) (l : List A) → joined (map f l) ≡ flatMap f l
+pub joined-map : {A : Type 0} (f : A → Taken) (l : List A) → joined (map f l) ≡ flatMap (λ a. f a .text) l
 unfolding joined flatMap
 joined-map f [] = refl
-joined-map f (x ∷ l) = ap (λ (m : List ℕ). f x ++ m) (joined-map f l)
+joined-map f (x ∷ l) = ap (λ (m : List ℕ). f x .text ++ m) (joined-map f l)

@@ -10,11 +10,12 @@ use lib.Dec.{eqb, leb, ltb}
 use lib.ListN.{length, getD}
 use Rattle.scope_graph.specs.Language.{_∈_, End, stop, by, Language, Laws}
 use Rattle.scope_graph.specs.Graph.{Declaration, Graph, InRange, Query, OpenPair}
-use Rattle.scope_graph.specs.Path.{HopOf, PathRow}
+use Rattle.scope_graph.specs.Path.{HopOf, PathRow, lastFrom, rowDeclaration}
 use Rattle.scope_graph.specs.Rows.{PackedName, Rules, anyOf, sameName, language}
 use Rattle.scope_graph.specs.Order.{endOf}
 use Rattle.scope_graph.specs.Computed.{NodeOf, keep, marksAt, usable, openEnd, nodes, cut, rowsAt, entries, followedAt}
 use Rattle.scope_graph.proofs.Lists.{keep-elim, and-left}
+use Rattle.scope_graph.proofs.Nodes.{nodes-sound}
 use Rattle.graph_file.specs.Admission.{Row, value}
 use Rattle.graph_file.specs.Format.{declarationSection}
 use Rattle.graph_file.specs.Decode.{rowsIn, lettersOf, rulesOf, nameAt, declarationOf, graphOf, scopesOf}
@@ -34,10 +35,10 @@ use Rattle.follow.specs.declared.Task.the-variants.{Entries}
 use Rattle.follow.specs.declared.Bounds.{Bounds}
 use Rattle.follow.specs.declared.Aim.{Aim}
 use Rattle.follow.specs.Text.{letterOf, hopsText, rowText}
-use Rattle.follow.specs.Tally.{State, takeRows}
+use Rattle.follow.specs.Tally.{Taken, State, takeRows}
 use Rattle.follow.specs.Walk as walk
 use Rattle.follow.specs.Walk.{letterBytes, entryRows, placeRows, placesFrom, rowsFrom, walked, followedIn}
-use Rattle.resolution.specs.Asked.{Ready, queryIn, rowTexts}
+use Rattle.resolution.specs.Asked.{Ready, queryIn, entriesTaken}
 use Rattle.resolution.proofs.ListLaws.{map-map, map-flatMap, map-same}
 use Rattle.resolution.proofs.Given.{letters-same, scopes-same, board-same, order-same, open-same, declared-same}
 use Rattle.board.proofs.Queries.{accepted, rows-are}
@@ -86,6 +87,9 @@ module _ (a b : List ℕ) (same : (l : ℕ) → getD a l 0 ≡ getD b l 0) where
   pub row-same : (mark start : ℕ) (hops : List (HopOf ℕ)) → rowText a mark start hops ≡ rowText b mark start hops
   unfolding rowText
   row-same mark start hops = rw (hops-same hops)
+
+taken-eq : {a b m : ℕ} {x y : List ℕ} → a ≡ b → x ≡ y → _≡_ {A = Taken} (record { at = a; mark = m; text = x }) (record { at = b; mark = m; text = y })
+taken-eq e f = rw (e, f)
 
 module _ (cells block ask : List ℕ) (ready : Ready cells block ask) where
   abbrev L : Language
@@ -137,46 +141,60 @@ module _ (cells block ask : List ℕ) (ready : Ready cells block ask) where
   unfolding tableBoard
   here-is = ap (λ (c : Board ℕ). c .here) board-is
 
-  marks-are : (s : ℕ) → s < 64 → walk.marksAt block cells ask s ≡ marksAt L (g .declarations) s (q .name)
-  unfolding walk.marksAt graphOf
-  marks-are s h =
-      declared-same cells (ready .asked .read) block (ready .made) s (askHigh ask) (askLow ask) h
-      ∙ marks-rows (partOf declarationSection cells) s (askHigh ask) (askLow ask)
+  -- the marks of the name at a scope, by the declarations' part of the table and by the rules
+  pub marks-part : (s : ℕ) → marksIn (partOf declarationSection cells) s (askHigh ask) (askLow ask) ≡ marksAt L (g .declarations) s (q .name)
+  unfolding graphOf
+  marks-part s =
+      marks-rows (partOf declarationSection cells) s (askHigh ask) (askLow ask)
       ∙ ap (λ (rows : List Row). marksOf rows s (q .name)) (rows-are cells (ready .asked .read) declarationSection)
       ∙ sym (marks-at (rulesOf cells) (rowsIn declarationSection cells) s (q .name))
 
-  -- an entry's row
-  abbrev rowOf : PathRow L → List ℕ
-  rowOf r = rowText (lettersOf cells) (r .mark) (r .path .start) (r .path .hops)
+  marks-are : (s : ℕ) → s < 64 → walk.marksAt block cells ask s ≡ marksAt L (g .declarations) s (q .name)
+  unfolding walk.marksAt
+  marks-are s h = declared-same cells (ready .asked .read) block (ready .made) s (askHigh ask) (askLow ask) h ∙ marks-part s
 
-  place-rows : (n : NodeOf ℕ) → n .at < 64 → placeRows block cells ask Entries [] n ≡ map rowOf (rowsAt L g q n)
+  -- an entry's row
+  abbrev rowOf : PathRow L → Taken
+  rowOf r = record {
+    at = rowDeclaration L q r .at;
+    mark = r .mark;
+    text = rowText (lettersOf cells) (r .mark) (r .path .start) (r .path .hops);
+  }
+
+  place-rows : (n : NodeOf ℕ) → n .at < 64 → lastFrom L (q .start) (n .hops) ≡ n .at
+      → placeRows block cells ask Entries [] n ≡ map rowOf (rowsAt L g q n)
   unfolding placeRows entryRows rowsAt
-  place-rows n h =
-      ap (map (λ (mark : ℕ). rowText (letterBytes block) mark (askStart ask) (n .hops))) (marks-are (n .at) h)
-      ∙ map-same _ _ (λ mark. row-same (letterBytes block) (lettersOf cells) (letters-same cells (ready .asked .read) block (ready .made)) mark (askStart ask) (n .hops))
+  place-rows n h comes =
+      ap (map (λ (mark : ℕ). record { at = n .at; mark = mark; text = rowText (letterBytes block) mark (askStart ask) (n .hops) })) (marks-are (n .at) h)
+      ∙ map-same _ _
+      (λ mark.
+      taken-eq (sym comes)
+      (row-same (letterBytes block) (lettersOf cells) (letters-same cells (ready .asked .read) block (ready .made)) mark (askStart ask) (n .hops)))
       (marksAt L (g .declarations) (n .at) (q .name))
       ∙ sym (map-map rowOf _ (marksAt L (g .declarations) (n .at) (q .name)))
 
   abbrev hits : List (NodeOf ℕ)
   hits = seen b (L .prefers) here stop
 
-  -- they are of scopes that declare the name
-  hit-small : (n : NodeOf ℕ) → n ∈ hits → n .at < 64
+  -- they are of scopes that declare the name, and their paths end there
+  hit-rows : (n : NodeOf ℕ) → n ∈ hits → placeRows block cells ask Entries [] n ≡ map rowOf (rowsAt L g q n)
   unfolding graphOf
-  hit-small n m =
+  hit-rows n m =
       let k = hits-kept L laws g q range (ready .asked .starts) (λ s. ltb s 64) all-free here stop in
-      let i : here (n .at) (n .state) ≡ true = and-left (here (n .at) (n .state)) _ (keep-elim _ (nodes L g q) (rw k at m) .1) in
-      scope-below (askGoal ask) (n .at) (places-scope (askGoal ask) (acceptSet block) (n .at) (n .state) i)
+      let i = keep-elim _ (nodes L g q) (rw k at m) in
+      let j : here (n .at) (n .state) ≡ true = and-left (here (n .at) (n .state)) _ (i .1) in
+      place-rows n (scope-below (askGoal ask) (n .at) (places-scope (askGoal ask) (acceptSet block) (n .at) (n .state) j))
+      (nodes-sound L g q (ready .asked .starts) (i .0) .comes)
 
   abbrev aimAt : Bounds → Aim
   aimAt bounds = record { scopes = askGoal ask; states = acceptSet block; end = 0; task = Entries; bounds = bounds }
 
   -- the rows of the entries, in their order
-  rows-are-texts : (bounds : Bounds) → rowsFrom block cells ask (aimAt bounds) [] (scopesCell block) (freeAt (askStart ask)) (askStart ask) 0 ≡ rowTexts cells q
-  unfolding rowsFrom rowTexts endOf graphOf
-  rows-are-texts bounds =
+  rows-are-taken : (bounds : Bounds) → rowsFrom block cells ask (aimAt bounds) [] (scopesCell block) (freeAt (askStart ask)) (askStart ask) 0 ≡ entriesTaken cells q
+  unfolding rowsFrom entriesTaken endOf graphOf
+  rows-are-taken bounds =
       ap (flatMap (placeRows block cells ask Entries [])) (places-are (askGoal ask) (acceptSet block) 0)
-      ∙ flatMap-same (placeRows block cells ask Entries []) (λ n. map rowOf (rowsAt L g q n)) hits (λ n m. place-rows n (hit-small n m))
+      ∙ flatMap-same (placeRows block cells ask Entries []) (λ n. map rowOf (rowsAt L g q n)) hits hit-rows
       ∙ sym (map-flatMap rowOf (rowsAt L g q) hits)
       ∙ ap (map rowOf) (ap (λ (seek : ℕ → ℕ → Bool). flatMap (rowsAt L g q) (seen b (L .prefers) seek stop)) here-is
       ∙ sym (entries-are-hits L laws g q range (ready .asked .starts) (λ s. ltb s 64) all-free))
@@ -184,9 +202,9 @@ module _ (cells block ask : List ℕ) (ready : Ready cells block ask) where
   few-scopes : leb (scopesCell block) 64 ≡ true
   few-scopes = le-leb (scopesCell block) 64 (rw (scopes-same cells (ready .asked .read) block (ready .made)) (t .scopes-most))
 
-  pub entries-walked : (bounds : Bounds) (st : State) → walked block cells ask (aimAt bounds) st ≡ takeRows bounds st (rowTexts cells q)
+  pub entries-walked : (bounds : Bounds) (st : State) → walked block cells ask (aimAt bounds) st ≡ takeRows bounds st (entriesTaken cells q)
   unfolding walked
-  entries-walked bounds st = rw (few-scopes, walked) (ap (takeRows bounds st) (rows-are-texts bounds))
+  entries-walked bounds st = rw (few-scopes, walked) (ap (takeRows bounds st) (rows-are-taken bounds))
 
   -- an open pair's end stands for itself
   end-itself : (e : ℕ) → openEnd L g q (endOf e) ≡ endOf e

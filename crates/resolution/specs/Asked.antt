@@ -1,15 +1,17 @@
 -- How the code asks the walk for a query, and how it holds what it is told: `found` and `awaits` as
 -- enums. Assumes nothing: these are definitions.
-use Prim.Native.Nat.{ℕ, zero, suc, _<_, _^_}
+use Prim.Native.Nat.{ℕ, _≤_, _<_, _^_}
 use mathlib.Core.Path.{_≡_}
 use mathlib.Core.Bool.{Bool, true, false, _&&_, _||_}
 use mathlib.Core.Option.{Option, some, none}
 use mathlib.Core.List.{List, [], _∷_, _++_, map}
 use lib.Dec.{ltb}
 use Rattle.scope_graph.specs.Graph.{Query, OpenPair}
+use Rattle.scope_graph.specs.Path.{rowDeclaration}
 use Rattle.scope_graph.specs.Rows.{language}
 use Rattle.scope_graph.specs.Order.{endOf}
 use Rattle.scope_graph.specs.Computed.{Found, found-none, found-one, found-several, entries, awaits}
+use Rattle.scope_graph.specs.Ends.{endsAt}
 use Rattle.text_field.specs.Number.{numberText}
 use Rattle.text_field.specs.Name.{nameText}
 use Rattle.graph_file.specs.Admission.{Row, value}
@@ -25,6 +27,10 @@ use Rattle.graph_file.specs.Format.{declarationSection}
 use Rattle.graph_table.specs.Sections.{partOf}
 use Rattle.board.specs.Marks.{DeclaringIs}
 use Rattle.board.specs.Queries.{queryFrom, Asked}
+use Rattle.follow.specs.declared.Bounds.{Bounds}
+use Rattle.follow.specs.declared.Tally.{Tally}
+use Rattle.follow.specs.Tally as tally
+use Rattle.follow.specs.Tally.{Taken, takeRows}
 use Rattle.follow.specs.Text.{headLine, rowsLine, foundText, rowText, endText}
 use Rattle.follow.specs.Walk.{letterBytes, followedIn}
 use Rattle.resolution.specs.Listing.{awaitsText, foundFor}
@@ -55,16 +61,28 @@ pub record Asking (cells block : List ℕ) (q : QueryRow) (ask : List ℕ) : Typ
   pub query : queryIn cells ask ≡ queryOn cells q
 
 -- the rows of a query's entries
-unfoldable pub rowTexts : (cells : List ℕ) → Query (language (rulesOf cells)) → List (List ℕ)
-rowTexts cells q =
-    map (λ r. rowText (lettersOf cells) (r .mark) (r .path .start) (r .path .hops)) (entries (language (rulesOf cells)) (graphOf cells) q)
+unfoldable pub entriesTaken : (cells : List ℕ) → Query (language (rulesOf cells)) → List Taken
+entriesTaken cells q =
+    map
+    (λ r. record {
+      at = rowDeclaration (language (rulesOf cells)) q r .at;
+      mark = r .mark;
+      text = rowText (lettersOf cells) (r .mark) (r .path .start) (r .path .hops);
+    })
+    (entries (language (rulesOf cells)) (graphOf cells) q)
 
--- `found` by the number of entries, where two are counted at most, and what the code's enum says
-unfoldable pub foundFrom : ℕ → Found
-foundFrom zero = found-none
-foundFrom (suc zero) = found-one
-foundFrom (suc (suc n)) = found-several
+-- the tally is that of the entries' rows, taken within bounds, whatever memory was lent for them
+abbrev pub TallyOf : (cells : List ℕ) → Query (language (rulesOf cells)) → Bounds → Tally → Type 0
+TallyOf cells q bounds t = (out : List ℕ) × (takeRows bounds (out, tally.none) (entriesTaken cells q) .1 ≡ t)
 
+-- the first scope from a given one on at which a visible path of the query ends; past 63 where none
+-- is
+pub record FirstEnd (cells : List ℕ) (q : Query (language (rulesOf cells))) (from first : ℕ) : Type 0 where
+  pub none-before : (s : ℕ) → from ≤ s → s < first → s < 64 → endsAt (language (rulesOf cells)) (graphOf cells) q s ≡ false
+  pub on-from : first < 64 → from ≤ first
+  pub ends : first < 64 → endsAt (language (rulesOf cells)) (graphOf cells) q first ≡ true
+
+-- `found` as the code holds it
 unfoldable pub foundMeaning : told.Found → Found
 foundMeaning None = found-none
 foundMeaning One = found-one

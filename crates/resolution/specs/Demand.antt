@@ -38,9 +38,9 @@ module _ (cells : List ℕ) where
       ++ (32 ∷ (awaitsText cells o
       ++ (10 ∷ (rowsLine ++ flatMap (λ r. rowText (lettersOf cells) (r .mark) (r .path .start) (r .path .hops)) rows)))))))))
 
-  -- A listing is right: its rows are exactly the entries, each once and in order; `found` is by the
-  -- entries; `awaits` is the first decisive pair, and `-` is printed exactly if the query is
-  -- settled in every completion.
+  -- A listing is right: its rows are exactly the entries, each once and in order; `found` is by
+  -- their declarations (02, K2); `awaits` is the first decisive pair, and `-` is printed exactly if
+  -- the query is settled in every completion.
   pub record Right (q : Query L) (text : List ℕ) : Type 0 where
     pub rows : List (PathRow L)
     pub found : Found

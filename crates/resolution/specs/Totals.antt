@@ -15,7 +15,7 @@ use Rattle.resolution.specs.Summary.{summaryText}
 use Rattle.resolution.specs.Listing.{isFound, summaryFor}
 
 module _ (cells : List ℕ) where
-  -- one for each query, in their sequence, and each is by the query's entries
+  -- one for each query, in their sequence, and each is by the declarations of the query's entries
   abbrev pub FoundsAre : List (Query (language (rulesOf cells))) → List Found → Type 0
   FoundsAre [] [] = Unit {0}
   FoundsAre [] (f ∷ fs) = ⊥

@@ -1,6 +1,7 @@
 // A query's listing and the summary: over a table's board, over a table that was read, over a text.
 mod ask;
 mod awaits;
+mod found;
 mod lists;
 mod queries;
 mod share;

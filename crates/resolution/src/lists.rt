@@ -1,13 +1,13 @@
-// A query's listing. One walk counts its entries, measures their rows and keeps those that are
-// short; nothing is written before the whole is known to fit.
+// A query's listing. One walk over its entries compares their declarations, measures their rows and
+// keeps the first of them; nothing is written before the whole is known to fit.
 use crate::ask::ask_of;
 use crate::awaits::awaits_of;
+use crate::found::found_by;
 use crate::queries::query_at;
 use crate::queries::query_count;
 use crate::text::Found;
 use crate::text::put_head;
-use crate::walks::SEVERAL;
-use crate::walks::found_by;
+use crate::walks::MOST;
 use crate::walks::take_entries;
 use block::SIZE;
 use board::put_board;
@@ -40,7 +40,8 @@ const HEAD: usize = 128;
 // again.
 const KEPT: usize = 512;
 
-// What a listing answers, and the query's `found`, which is known of a refused listing too.
+// What a listing answers, and the query's `found`, which is known of a listing that is too long too.
+// Where there is no such query it says nothing.
 pub struct Listed {
     pub answer: Answer,
     pub found: Found,
@@ -69,11 +70,11 @@ fn list(table: &[u64], block: &[u64], ask: &[u64], out: &mut [u8]) -> Listed
     let bounds = Bounds {
         limit: room,
         kept: KEPT,
-        most: SEVERAL,
+        most: MOST,
     };
     let t = take_entries(table, block, ask, bounds, &mut kept, 0);
     let n = t.bytes;
-    let found = found_by(t.entries);
+    let found = found_by(table, block, ask, bounds, t);
     if t.over {
         return Listed {
             answer: Answer::Refused(9),
@@ -100,7 +101,7 @@ fn list(table: &[u64], block: &[u64], ask: &[u64], out: &mut [u8]) -> Listed
     let all = Bounds {
         limit: room,
         kept: room,
-        most: SEVERAL,
+        most: MOST,
     };
     take_entries(table, block, ask, all, out, h);
     Listed {

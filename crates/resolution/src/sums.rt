@@ -74,7 +74,7 @@ pub fn counted(c: Figures, f: Found) -> Figures
     }
 }
 
-// All queries of a table that was read, by their entries.
+// All queries of a table that was read, by their `found`.
 fn figures_of(table: &[u64], block: &[u64]) -> Figures
     requires read { ⌜ WasRead (now table) ⌝ }
     requires made { ⌜ Made (now table) (now block) ⌝ }

@@ -17,7 +17,7 @@ ghost use Rattle.follow.specs.Text.{foundText, endText};
 ghost use Rattle.follow.specs.Walk.{letterBytes};
 ghost use Rattle.resolution.specs.Asked.{foundMeaning, awaitsBytes, queryText, headText};
 
-// How many entries a query has: `none`, `one` or `several`.
+// How many declarations the entries of a query have: `none`, `one` or `several`.
 pub enum Found {
     None,
     One,

@@ -5,19 +5,19 @@ use mathlib.Core.Bool.{Bool, true, false, not}
 use lib.Dec.{eqb}
 use mathlib.Core.Logic.{_↔_, ⊎-elim}
 use Rattle.scope_graph.specs.Rows.{anyOf}
-use mathlib.Core.List.{List, [], _∷_, List·Memᴰ·not-nil, List·Memᴰ·eq-of-singleton, Memᴰ·cast}
+use mathlib.Core.List.{List, [], _∷_, Memᴰ·cast}
 use Rattle.scope_graph.specs.Language.{_∈_, stop, Language, Laws}
 use Rattle.scope_graph.specs.Graph.{Graph, InRange, Query}
 use Rattle.scope_graph.specs.Path.{Path, PathRow, lastFrom, Declares, MoreSpecific, Reached, Visible, Shadowed, Unreached, MarkDeclared, Entry}
-use Rattle.scope_graph.specs.Computed.{keep, Node, reachedNodes, cut, rowsAt, entries, foundOf, found, Standing, is-visible, is-shadowed, is-unreached, isReached, standing, marksAt, judged}
-use Rattle.scope_graph.specs.Listing.{Pairwise, EdgeBefore, MarkBefore, RowBefore, FoundIs}
-use Rattle.scope_graph.proofs.Lists.{here, there, Two, not-true, true-false, not-is, is-not, keep-intro, keep-elim, flatMap-intro, flatMap-elim}
+use Rattle.scope_graph.specs.Computed.{keep, Node, reachedNodes, cut, rowsAt, entries, Standing, is-visible, is-shadowed, is-unreached, isReached, standing, marksAt, judged}
+use Rattle.scope_graph.specs.Listing.{Pairwise, EdgeBefore, MarkBefore, RowBefore}
+use Rattle.scope_graph.proofs.Lists.{Two, not-true, true-false, not-is, is-not, keep-intro, keep-elim, flatMap-intro, flatMap-elim}
 use Rattle.scope_graph.proofs.Nodes.{nodes-sound}
 use Rattle.scope_graph.proofs.Reached.{path-eq, marks-elim, marks-intro, rows-elim, rows-intro, reached-node, reached-sound, reached-complete, is-reached}
 use Rattle.scope_graph.proofs.Order.{recursive}
 use Rattle.scope_graph.proofs.Pigeon.{in-true, in-test}
 use Rattle.scope_graph.proofs.Cut.{cut-elim, cut-intro}
-use Rattle.scope_graph.proofs.Ascend.{row-irreflexive, rows-ascend}
+use Rattle.scope_graph.proofs.Ascend.{rows-ascend}
 
 module _ (L : Language) (laws : Laws L) (g : Graph L) (q : Query L) (range : InRange L g) (starts : q .start < g .scopes) where
   -- a path from the query's start is cut exactly if a reached path is more specific
@@ -166,14 +166,3 @@ module _ (L : Language) (laws : Laws L) (g : Graph L) (q : Query L) (range : InR
   module _ (edges-ascend : Pairwise (EdgeBefore L) (g .edges)) (declarations-ascend : Pairwise (MarkBefore L) (g .declarations)) where
     pub entries-ascend : Pairwise (RowBefore L) (entries L g q)
     entries-ascend = rows-ascend L laws g q edges-ascend declarations-ascend
-
-    pub found-is : FoundIs L g q (found L g q)
-    unfolding found foundOf
-    found-is = count (entries L g q) entries-are entries-ascend
-      where
-        count : (es : List (PathRow L)) → ((r : PathRow L) → (r ∈ es) ↔ Entry L g q r) → Pairwise (RowBefore L) es
-            → FoundIs L g q (foundOf es)
-        count [] are up = λ r e. List·Memᴰ·not-nil ((are r) .1 e)
-        count (x ∷ []) are up = (x, (are x) .0 here, λ p e. List·Memᴰ·eq-of-singleton ((are p) .1 e))
-        count (x ∷ y ∷ es) are up =
-            (x, y, (are x) .0 here, (are y) .0 (there here), λ e. row-irreflexive L y (rw e at (up .0 y here)))

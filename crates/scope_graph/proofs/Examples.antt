@@ -8,11 +8,11 @@ use Rattle.scope_graph.specs.Language.{End, stop, by}
 use Rattle.scope_graph.specs.Graph.{Graph, Query, OpenPair}
 use Rattle.scope_graph.specs.Path.{Hop, PathRow}
 use Rattle.scope_graph.specs.Rows.{OrderPair, Transition, PackedName, Rules, sameEnd, sameName, anyOf, preferredBy, nextBy, language}
-use Rattle.scope_graph.specs.Computed.{keep, firstOf, anyBelow, Found, found-none, found-one, found-several, foundOf, Standing, is-visible, is-shadowed, is-unreached, hopsAt, marksAt, declaresAny, behind, hopOn, nodesFrom, leadsOn, usable, sameHop, sameHops, preferredTo, moreSpecific, nodes, reachedNodes, cut, rowsAt, entries, found, isReached, standing, judged, openEnd, followedAt, awaits}
+use Rattle.scope_graph.specs.Computed.{keep, firstOf, anyBelow, Found, found-none, found-one, found-several, sameDeclaration, foundOf, Standing, is-visible, is-shadowed, is-unreached, hopsAt, marksAt, declaresAny, behind, hopOn, nodesFrom, leadsOn, usable, sameHop, sameHops, preferredTo, moreSpecific, nodes, reachedNodes, cut, rowsAt, entries, found, isReached, standing, judged, openEnd, followedAt, awaits}
 
 -- what an example computes with: each names this alone on its `unfolding` line
 computed : Unit {0}
-unfolding flatMap sameEnd sameName anyOf preferredBy nextBy keep firstOf anyBelow foundOf hopsAt marksAt declaresAny behind hopOn nodesFrom leadsOn usable sameHop sameHops preferredTo nodes reachedNodes cut rowsAt entries found isReached standing judged openEnd followedAt awaits
+unfolding flatMap sameEnd sameName anyOf preferredBy nextBy keep firstOf anyBelow sameDeclaration foundOf hopsAt marksAt declaresAny behind hopOn nodesFrom leadsOn usable sameHop sameHops preferredTo nodes reachedNodes cut rowsAt entries found isReached standing judged openEnd followedAt awaits
 computed = tt
 
 -- Rows as a file has them. Labels, scopes, states and marks by number.
@@ -156,13 +156,26 @@ self-edge : Stands gym imports (1, hours) (9, 1, (I, 1) ∷ (I, 2) ∷ []) is-un
 unfolding computed
 self-edge = (refl, refl)
 
--- Two routes to one scope are two entries: a scope is barred on its own path only.
+-- Two routes to one scope are two entries: a scope is barred on its own path only. Both end at one
+-- declaration, so one is found.
 abbrev diamond : Graph (language gym)
 diamond = graph gym 4 ((0, P, 1) ∷ (0, P, 2) ∷ (1, P, 3) ∷ (2, P, 3) ∷ []) ((3, hours, 5) ∷ [])
 
-two-routes : Shows gym diamond ((3, stop) ∷ []) (0, hours) ((5, 0, (P, 1) ∷ (P, 3) ∷ []) ∷ (5, 0, (P, 2) ∷ (P, 3) ∷ []) ∷ []) found-several (some (3, stop))
+two-routes : Shows gym diamond ((3, stop) ∷ []) (0, hours) ((5, 0, (P, 1) ∷ (P, 3) ∷ []) ∷ (5, 0, (P, 2) ∷ (P, 3) ∷ []) ∷ []) found-one (some (3, stop))
 unfolding computed
 two-routes = (refl, refl, refl)
+
+-- A second mark there is a second declaration, seen along both routes.
+two-routes-two-marks : Shows gym (graph gym 4 ((0, P, 1) ∷ (0, P, 2) ∷ (1, P, 3) ∷ (2, P, 3) ∷ []) ((3, hours, 5) ∷ (3, hours, 6) ∷ [])) [] (0, hours)
+    ((5, 0, (P, 1) ∷ (P, 3) ∷ []) ∷ (6, 0, (P, 1) ∷ (P, 3) ∷ []) ∷ (5, 0, (P, 2) ∷ (P, 3) ∷ []) ∷ (6, 0, (P, 2) ∷ (P, 3) ∷ []) ∷ []) found-several none
+unfolding computed
+two-routes-two-marks = (refl, refl, refl)
+
+-- Two scopes with equal marks are two declarations.
+equal-marks : Shows gym (graph gym 3 ((0, P, 1) ∷ (0, P, 2) ∷ []) ((1, hours, 5) ∷ (2, hours, 5) ∷ [])) [] (0, hours)
+    ((5, 0, (P, 1) ∷ []) ∷ (5, 0, (P, 2) ∷ []) ∷ []) found-several none
+unfolding computed
+equal-marks = (refl, refl, refl)
 
 -- Neither of two labels is preferred to the other: both ways are seen. Here any word of the two is lawful.
 abbrev unordered : Rules

@@ -12,6 +12,9 @@ pub mod Extension
 pub mod Changes
 pub mod Witness
 pub mod FollowedAt
+pub mod Among
+pub mod Found
+pub mod Ends
 pub mod Settled
 pub mod Promises
 pub mod Examples

@@ -17,7 +17,9 @@ use Rattle.scope_graph.proofs.Lists.{Two, true-false, and-left, and-rig
 use Rattle.scope_graph.proofs.Order.{recursive, irreflexive, transitive}
 use Rattle.scope_graph.proofs.Reached.{reached-sound, reached-complete}
 use Rattle.scope_graph.proofs.Cut.{preferred-to}
-use Rattle.scope_graph.proofs.Entries.{visible, shadowed, unreached, shadowed-by, judged-is, entries-are, entries-ascend, found-is}
+use Rattle.scope_graph.proofs.Entries.{visible, shadowed, unreached, shadowed-by, judged-is, entries-are, entries-ascend}
+use Rattle.scope_graph.proofs.Found.{found-is}
+use Rattle.scope_graph.proofs.Ends.{ends-are, found-told}
 use Rattle.scope_graph.proofs.Ascend.{row-irreflexive}
 use Rattle.scope_graph.proofs.Settled.{decisive, settled, awaits-is, awaits-none}
 use Rattle.scope_graph.proofs.FollowedAt.{followed-is}
@@ -82,7 +84,9 @@ query L g opens q ok =
       entries-are = entries-are L laws g q range starts;
       entries-ascend = entries-ascend L laws g q range starts (ok .edges-ascend) (ok .declarations-ascend);
       once = row-irreflexive L;
-      found-is = found-is L laws g q range starts (ok .edges-ascend) (ok .declarations-ascend);
+      found-is = found-is L laws g q range starts;
+      ends-are = ends-are L laws g q range starts;
+      found-told = found-told L laws g q range starts (ok .declarations-ascend);
       decisive = decisive L laws g opens q dec reached seen range starts;
       followed = followed;
       settled = settled L laws g opens q dec reached seen range starts;

@@ -7,7 +7,7 @@ use mathlib.Core.List.{List, [], _∷_, map, flatMap}
 use lib.Dec.{eqb}
 use Rattle.scope_graph.specs.Language.{End, stop, by, Language}
 use Rattle.scope_graph.specs.Graph.{Edge, Declaration, Graph, Query, OpenPair}
-use Rattle.scope_graph.specs.Path.{HopOf, Hop, Path, PathRow, lastFrom}
+use Rattle.scope_graph.specs.Path.{HopOf, Hop, Path, PathRow, lastFrom, rowDeclaration}
 use Rattle.scope_graph.specs.Rows.{anyOf}
 
 -- the elements that meet the test, in their sequence; the first of them
@@ -24,14 +24,9 @@ unfoldable pub anyBelow : (ℕ → Bool) → ℕ → Bool
 anyBelow f zero = false
 anyBelow f (suc n) = elim (f n) [ true ↦ true | false ↦ anyBelow f n ]
 
--- 01's `found`
+-- `found`, of declarations as 02, K2 has it
 pub data Found : Type 0 where
   found-none found-one found-several : Found
-
-unfoldable pub foundOf : {A : Type 0} → List A → Found
-foundOf [] = found-none
-foundOf (x ∷ []) = found-one
-foundOf (x ∷ y ∷ xs) = found-several
 
 -- 01's three standings of a path
 pub data Standing : Type 0 where
@@ -57,6 +52,14 @@ module _ (L : Language) where
 
   unfoldable pub declaresAny : List (Declaration L) → ℕ → L .Name → Bool
   declaresAny ds s x = anyOf (λ d. eqb (d .at) s && L .same-name (d .name) x) ds
+
+  unfoldable pub sameDeclaration : Declaration L → Declaration L → Bool
+  sameDeclaration d e = eqb (d .at) (e .at) && (L .same-name (d .name) (e .name) && eqb (d .mark) (e .mark))
+
+  -- how many different declarations are listed (02, K2): each is held against the first
+  unfoldable pub foundOf : List (Declaration L) → Found
+  foundOf [] = found-none
+  foundOf (d ∷ ds) = elim (anyOf (λ e. not (sameDeclaration d e)) ds) [ true ↦ found-several | false ↦ found-one ]
 
   unfoldable pub behind : Hop L → Node L → Node L
   behind h n = record { hops = h ∷ n .hops; at = n .at; state = n .state }
@@ -131,7 +134,7 @@ module _ (L : Language) where
     entries = flatMap rowsAt (keep (λ n. not (cut (n .hops) stop)) reachedNodes)
 
     unfoldable pub found : Found
-    found = foundOf entries
+    found = foundOf (map (rowDeclaration L q) entries)
 
     unfoldable pub isReached : Path L → Bool
     isReached p = eqb (p .start) (q .start) && anyOf (λ n. sameHops (n .hops) (p .hops)) reachedNodes

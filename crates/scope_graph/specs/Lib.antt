@@ -6,5 +6,6 @@ pub mod Rows
 pub mod Followed
 pub mod Computed
 pub mod Listing
+pub mod Ends
 pub mod Promises
 pub mod Order

@@ -5,7 +5,7 @@ use mathlib.Core.Logic.{_⊎_}
 use mathlib.Core.List.{List, [], _∷_}
 use Rattle.scope_graph.specs.Language.{_∈_, Language, Laws}
 use Rattle.scope_graph.specs.Graph.{Edge, Declaration, Graph, InRange, Query, OpenPair}
-use Rattle.scope_graph.specs.Path.{Hop, PathRow, Entry}
+use Rattle.scope_graph.specs.Path.{Hop, PathRow, rowDeclaration, Entry}
 use Rattle.scope_graph.specs.Completion.{PairBefore}
 use Rattle.scope_graph.specs.Computed.{Found, found-none, found-one, found-several}
 
@@ -48,8 +48,11 @@ module _ (L : Language) where
     pub opens-ascend : Pairwise (PairBefore L) opens
     pub starts : q .start < g .scopes
 
-  -- 01's `found`: no entry, exactly one, two that are not the same
+  -- `found` as 02, K2 has it: no entry; an entry whose declaration every entry has; two entries with
+  -- different declarations
   abbrev pub FoundIs : Graph L → Query L → Found → Type 0
   FoundIs g q found-none = (r : PathRow L) → ¬ Entry L g q r
-  FoundIs g q found-one = (r : PathRow L) × Entry L g q r × ((p : PathRow L) → Entry L g q p → p ≡ r)
-  FoundIs g q found-several = (r : PathRow L) × (p : PathRow L) × Entry L g q r × Entry L g q p × ¬ (r ≡ p)
+  FoundIs g q found-one =
+      (r : PathRow L) × Entry L g q r × ((p : PathRow L) → Entry L g q p → rowDeclaration L q p ≡ rowDeclaration L q r)
+  FoundIs g q found-several =
+      (r : PathRow L) × (p : PathRow L) × Entry L g q r × Entry L g q p × ¬ (rowDeclaration L q r ≡ rowDeclaration L q p)

@@ -5,7 +5,7 @@ use mathlib.Core.Bool.{true}
 use mathlib.Core.Option.{Option, some, none}
 use mathlib.Core.List.{List, [], _∷_, _++_}
 use Rattle.scope_graph.specs.Language.{_∈_, End, stop, by, Language}
-use Rattle.scope_graph.specs.Graph.{Graph, Query}
+use Rattle.scope_graph.specs.Graph.{Declaration, Graph, Query}
 
 -- no element twice
 abbrev pub Distinct : List ℕ → Type 0
@@ -79,6 +79,11 @@ module _ (L : Language) where
     pub mark : ℕ
     pub declared : Declares g (lastFrom (p .start) (p .hops)) (q .name) mark
 
+  -- the declaration that a row of a query speaks of (02, K2): the scope where its path ends, the
+  -- name sought, its mark
+  abbrev pub rowDeclaration : Query L → PathRow → Declaration L
+  rowDeclaration q r = record { at = lastFrom (r .path .start) (r .path .hops); name = q .name; mark = r .mark }
+
   -- how the hops go on, and their first hop
   abbrev pub onward : List (Hop L) → End (L .Step)
   onward [] = stop
@@ -114,7 +119,7 @@ module _ (L : Language) where
 
     -- the row's mark is that of a matching declaration at the path's last scope
     abbrev pub MarkDeclared : PathRow → Type 0
-    MarkDeclared r = Declares g (lastFrom (r .path .start) (r .path .hops)) (q .name) (r .mark)
+    MarkDeclared r = rowDeclaration q r ∈ g .declarations
 
     -- 01's term *entry*
     pub record Entry (r : PathRow) : Type 0 where

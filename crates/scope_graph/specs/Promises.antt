@@ -1,4 +1,5 @@
 -- What is proved of the rules: each field is a statement, and proofs/Promises.antt has the value. Assumes nothing: these are statements.
+use Prim.Native.Nat.{ℕ, _≤_}
 use mathlib.Core.Path.{_≡_}
 use mathlib.Core.Bool.{true}
 use mathlib.Core.Logic.{_↔_}
@@ -6,13 +7,14 @@ use mathlib.Core.Option.{none}
 use mathlib.Core.List.{List}
 use Rattle.scope_graph.specs.Language.{_∈_, stop, Language, Laws}
 use Rattle.scope_graph.specs.Graph.{Graph, Query, OpenPair}
-use Rattle.scope_graph.specs.Path.{Path, PathRow, MoreSpecific, Reached, Visible, Shadowed, Unreached, MarkDeclared, Entry}
+use Rattle.scope_graph.specs.Path.{Path, PathRow, rowDeclaration, MoreSpecific, Reached, Visible, Shadowed, Unreached, MarkDeclared, Entry}
 use Rattle.scope_graph.specs.Completion.{Decisive, Settled, Awaits}
 use Rattle.scope_graph.specs.Rows.{Rules, RulesPass}
 use Rattle.scope_graph.specs.Rows.{language as languageOf}
 use Rattle.scope_graph.specs.Followed.{Preferred, FollowedAt}
 use Rattle.scope_graph.specs.Computed.{is-visible, is-shadowed, is-unreached, moreSpecific, standing, judged, entries, found, followedAt, awaits}
 use Rattle.scope_graph.specs.Listing.{Pairwise, RowBefore, Accepted, FoundIs}
+use Rattle.scope_graph.specs.Ends.{foundAmong, endsAt, severalMarks}
 
 -- rules that refusals 3 and 6 let pass give a language with the laws
 abbrev pub LanguageLaws : Type 0
@@ -42,6 +44,9 @@ module _ (L : Language) where
       pub entries-ascend : Pairwise (RowBefore L) (entries L g q)
       pub once : (r : PathRow L) → ¬ RowBefore L r r
       pub found-is : FoundIs L g q (found L g q)
+      -- the scopes where visible paths end are the entries'; they and their marks tell the same `found`
+      pub ends-are : (s : ℕ) → (endsAt L g q s ≡ true) ↔ ((r : PathRow L) × Entry L g q r × (rowDeclaration L q r .at ≡ s))
+      pub found-told : (n : ℕ) → g .scopes ≤ n → foundAmong (endsAt L g q) (severalMarks L g q) n ≡ found L g q
       -- decisive is open and followed; settled is that no pair is decisive; the computed `awaits` is the first decisive pair, and `-` exactly if settled
       pub decisive : (o : OpenPair L) → Decisive L g opens q o ↔ ((o ∈ opens) × FollowedAt L g q o)
       pub followed : (o : OpenPair L) → (followedAt L g q o ≡ true) ↔ FollowedAt L g q o

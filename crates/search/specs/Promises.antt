@@ -23,8 +23,8 @@ module _ (L : Language) (g : Graph L) (q : Query L) (free : ℕ → Bool) where
   pub record AnswersAre : Type 0 where
     -- the entries are the rows of the followed places where a path may stop (01, "The listing")
     pub entries-are : entries L g q ≡ flatMap (rowsAt L g q) (followed (boardOf L g (q .name) .here) stop)
-    -- an open pair is decisive exactly if the search finds a place for it (01, "The listing",
-    -- `awaits`)
+    -- a pair is followed exactly if the search finds a place for it: an open one is decisive then
+    -- (01, "The listing", `awaits`), and with `$` a visible path ends where the name is (02, K2)
     pub pair-is : (o : OpenPair L) → followedAt L g q o
         ≡ anyOf (λ n. true) (followed (λ s st. eqb s (o .at) && usable L st (openEnd L g q (o .end))) (openEnd L g q (o .end)))
     -- a path is reached exactly if the search comes along it (01, "Paths")

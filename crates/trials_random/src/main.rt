@@ -35,13 +35,13 @@ pub struct Found {
     pub left_out: usize,
 }
 
-// One query more, of which so many entries are due.
-fn with_query(f: Found, entries: usize) -> Found {
+// One query more, which sees so many declarations; the largest number where it was left out.
+fn with_query(f: Found, seen: usize) -> Found {
     let none = f.none;
     let one = f.one;
     let several = f.several;
     let left_out = f.left_out;
-    if entries == 0 {
+    if seen == 0 {
         return Found {
             none: plus(none, 1),
             one,
@@ -49,7 +49,7 @@ fn with_query(f: Found, entries: usize) -> Found {
             left_out,
         };
     }
-    if entries == 1 {
+    if seen == 1 {
         return Found {
             none,
             one: plus(one, 1),
@@ -57,7 +57,7 @@ fn with_query(f: Found, entries: usize) -> Found {
             left_out,
         };
     }
-    if entries == usize::MAX {
+    if seen == usize::MAX {
         return Found {
             none,
             one,
@@ -74,8 +74,8 @@ fn with_query(f: Found, entries: usize) -> Found {
 }
 
 // The place in the counts of what was found, and of what is awaited.
-fn found_place(entries: usize) -> usize {
-    match entries {
+fn found_place(seen: usize) -> usize {
+    match seen {
         0 => say::FOUND,
         1 => say::FOUND + 1,
         _ => say::FOUND + 2,
@@ -123,8 +123,8 @@ fn compare_settled(counts: &mut [u64], text: &[u8], due: &[u8], pair: usize, all
     say::difference(counts, text, due, b"all open pairs at once\n");
 }
 
-// Query i with so many entries, whose rows are given.
-fn entries_due(counts: &mut [u64], g: &[u8], text: &[u8], i: usize, entries: usize, rows: &[u8]) {
+// Query i, which sees so many declarations; the rows of its entries are given.
+fn entries_due(counts: &mut [u64], g: &[u8], text: &[u8], i: usize, seen: usize, rows: &[u8]) {
     let pair = completed::awaited(g, i / 2, i % 2, rows);
     let all = completed::unsettled(g, i / 2, i % 2, rows);
     if pair == TOO_MANY || all == 2 {
@@ -132,16 +132,15 @@ fn entries_due(counts: &mut [u64], g: &[u8], text: &[u8], i: usize, entries: usi
         return;
     }
     let mut due = [0u8; TEXT];
-    let n = due::put_listing(&mut due, g, i / 2, i % 2, entries, pair, rows);
+    let n = due::put_listing(&mut due, g, i / 2, i % 2, seen, pair, rows);
     say::add(counts, say::QUERIES, 1);
-    say::add(counts, say::ENTRIES, entries);
-    say::add(counts, found_place(entries), 1);
+    say::add(counts, found_place(seen), 1);
     say::add(counts, awaits_place(pair), 1);
     compare_listing(counts, text, i, part(&due, 0, n));
     compare_settled(counts, text, part(&due, 0, n), pair, all);
 }
 
-// Query i; its entries, or the largest number where there are too many paths.
+// Query i; the declarations that it sees, or the largest number where there are too many paths.
 fn query(counts: &mut [u64], g: &[u8], text: &[u8], i: usize) -> usize {
     let mut table = [0u8; ROOM];
     let n = paths::resolve(g, i / 2, i % 2, &mut table);
@@ -152,9 +151,10 @@ fn query(counts: &mut [u64], g: &[u8], text: &[u8], i: usize) -> usize {
         return usize::MAX;
     }
     say::add(counts, say::PATHS, n);
-    let entries = paths::entries(g, i % 2, &table, n);
-    entries_due(counts, g, text, i, entries, part(&rows, 0, m));
-    entries
+    say::add(counts, say::ENTRIES, paths::entries(g, i % 2, &table, n));
+    let seen = paths::seen(g, i % 2, &table, n);
+    entries_due(counts, g, text, i, seen, part(&rows, 0, m));
+    seen
 }
 
 fn queries(counts: &mut [u64], g: &[u8], text: &[u8]) -> Found {

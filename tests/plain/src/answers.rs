@@ -14,8 +14,9 @@ pub enum Standing {
 const HEAD: &[u8] = b"start seek found awaits\n";
 const ROWS: &[u8] = b"mark path\n";
 
-/// Appends a query's listing to `out` and answers its number of entries, two meaning several; or,
-/// where the listing is longer than `limit`, appends nothing and answers `None`.
+/// Appends a query's listing to `out` and answers how many declarations its entries have, two
+/// meaning several; or, where the listing is longer than `limit`, appends nothing and answers
+/// `None`.
 pub fn push_listing(
     rules: &Rules,
     gym: &Gym,
@@ -26,8 +27,13 @@ pub fn push_listing(
     let search = Search::new(rules, query.start, query.name);
     let mut rows = Vec::new();
     let mut found = 0;
+    let mut first = None;
     search.entries(&mut |steps, mark| {
-        found = 2.min(found + 1);
+        let declaration = (steps.last().map_or(query.start, |step| step.to), mark);
+        if *first.get_or_insert(declaration) != declaration {
+            found = 2;
+        }
+        found = 1.max(found);
         push_number(&mut rows, u64::from(mark));
         rows.push(b' ');
         push_number(&mut rows, u64::from(query.start));
@@ -68,17 +74,34 @@ pub fn push_listing(
     Some(found)
 }
 
-/// A query's entries, counted up to two.
+/// How many routes to one declaration are gone before the scopes are asked one by one: that takes
+/// longer than a few routes, but there may be 2^30 of them.
+const ROUTES: usize = 64;
+
+/// The declarations of a query's entries, counted up to two: by its first entries and, where these
+/// are many routes to one declaration, by the scopes where a visible path ends.
 pub fn count(rules: &Rules, query: Query) -> u8 {
+    let search = Search::new(rules, query.start, query.name);
+    let mut first = None;
+    let mut routes = 0;
     let mut found = 0;
-    Search::new(rules, query.start, query.name).entries(&mut |_, _| {
-        found += 1;
-        if found == 2 {
+    search.entries(&mut |steps, mark| {
+        let declaration = (steps.last().map_or(query.start, |step| step.to), mark);
+        found = if *first.get_or_insert(declaration) == declaration {
+            1
+        } else {
+            2
+        };
+        routes += 1;
+        if found == 2 || routes == ROUTES {
             Go::Stop
         } else {
             Go::On
         }
     });
+    if found == 1 && routes == ROUTES {
+        return search.declarations_seen(2) as u8;
+    }
     found
 }
 

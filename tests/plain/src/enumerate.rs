@@ -224,10 +224,18 @@ pub fn awaits(gym: &Gym, query: Query) -> Option<(u8, u8)> {
     })
 }
 
+/// How many declarations of the name sought the entries have: pairs of a scope and a mark.
+pub fn declarations(entries: &[Entry]) -> usize {
+    let mut seen: Vec<(usize, u64)> = entries.iter().map(|(p, mark)| (p.last(), *mark)).collect();
+    seen.sort();
+    seen.dedup();
+    seen.len()
+}
+
 /// A query's listing.
 pub fn listing(gym: &Gym, query: Query) -> Vec<u8> {
     let entries = Graph::of(gym).entries(query.start as usize, query.name);
-    let found = match entries.len() {
+    let found = match declarations(&entries) {
         0 => "none",
         1 => "one",
         _ => "several",

@@ -326,6 +326,21 @@ impl<'a> Search<'a> {
         Go::On
     }
 
+    /// The declarations at the scopes where visible paths end, counted up to `most`. A path may end
+    /// at a scope exactly if `$` is followed there, as at an open pair.
+    pub fn declarations_seen(&self, most: usize) -> usize {
+        let mut seen = 0;
+        let mut left = self.declaring;
+        while left != 0 && seen < most {
+            let scope = left.trailing_zeros() as u8;
+            left &= left - 1;
+            if self.decisive(scope, STOP) {
+                seen += self.marks(scope).count();
+            }
+        }
+        seen.min(most)
+    }
+
     /// The first open pair, in their order, that a followed node has.
     pub fn awaits(&self) -> Option<(u8, u8)> {
         self.rules

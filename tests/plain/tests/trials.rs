@@ -81,6 +81,42 @@ fn marked() {
     assert_eq!(judged(&text, 0, "5 2P1P0"), Ok(Standing::Unreached));
 }
 
+/// `found` counts declarations (02, K2), and all routes are listed.
+#[test]
+fn routes() {
+    let ladder = |rungs: usize, declared: &str| {
+        let edges: String = (0..rungs)
+            .map(|s| format!("{s} I {0} / {s} P {0} / ", s + 1))
+            .collect();
+        lines(&format!(
+            "label / I / P / less more / state label next / 0 I 0 / 0 P 0 / accept / 0 / scopes / {} / \
+            from label to / {edges}at name mark / {declared}at open / start seek / 0 a / ",
+            rungs + 2
+        ))
+    };
+    assert_eq!(
+        listed(&ladder(1, "1 a 7 / "), 0),
+        "0 a one - / 7 0I1 / 7 0P1"
+    );
+    assert_eq!(
+        listed(&ladder(1, "1 a 7 / 1 a 8 / "), 0),
+        "0 a several - / 7 0I1 / 8 0I1 / 7 0P1 / 8 0P1"
+    );
+    assert_eq!(
+        listed(&ladder(1, "0 a 7 / 1 a 7 / "), 0),
+        "0 a several - / 7 0 / 7 0I1 / 7 0P1"
+    );
+    for (declared, due) in [
+        ("30 a 7 / ", "1 1 0 0 100"),
+        ("30 a 7 / 31 a 8 / ", "1 1 0 0 100"),
+        ("30 a 7 / 30 a 8 / ", "1 0 1 0 0"),
+        ("29 a 7 / 30 a 7 / ", "1 0 1 0 0"),
+    ] {
+        let due = format!("refused 9\nqueries one several none share\n{due}\n");
+        assert_eq!(printed(&ladder(30, declared)), due);
+    }
+}
+
 #[test]
 fn unmarked() {
     let none = example("accept / 0 / 1 / ", "accept / ");

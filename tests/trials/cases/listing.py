@@ -175,9 +175,9 @@ def wrong_ways():
     listed("no order: the shorter path is not preferred", g(s1=[]), 0, b"start seek found awaits\n2 service several -\nmark path\n21 2\n10 2P1\n")
     listed("$ after P: the longer path wins", g(s1=["P $"]), 0, b"start seek found awaits\n2 service one -\nmark path\n10 2P1\n")
     square = dict(s1=[], s2=["0 P 0"], s3=["0"], s4=["4"], s5=["0 P 1", "0 P 2", "1 P 3", "2 P 3"], s6=["3 a 7"], s7=[], s8=["0 a"])
-    listed("two paths to one scope", g(**square), 0, b"start seek found awaits\n0 a several -\nmark path\n7 0P1P3\n7 0P2P3\n")
+    listed("two paths to one scope", g(**square), 0, b"start seek found awaits\n0 a one -\nmark path\n7 0P1P3\n7 0P2P3\n")
     square.update(s5=["0 P 1", "0 P 2", "1 P 2", "1 P 3", "2 P 1", "2 P 3"])
-    listed("four paths to one scope", g(**square), 0, b"start seek found awaits\n0 a several -\nmark path\n7 0P1P2P3\n7 0P1P3\n7 0P2P1P3\n7 0P2P3\n")
+    listed("four paths to one scope", g(**square), 0, b"start seek found awaits\n0 a one -\nmark path\n7 0P1P2P3\n7 0P1P3\n7 0P2P1P3\n7 0P2P3\n")
     fork = dict(s1=order, s5=["0 I 1", "0 P 2"], s6=["1 b 1", "2 a 2"], s7=[], s8=["0 a"])
     listed("a path without the name shadows nothing", g(**fork), 0, b"start seek found awaits\n0 a one -\nmark path\n2 0P2\n")
     fork.update(s2=["0 P 0", "1 I 1"], s6=["1 a 1", "2 a 2"])
@@ -199,6 +199,40 @@ def wrong_ways():
     listed("sorted by end, label number, scope, mark", g(**sort), 0, due)
     order_two = dict(s0=["P", "I"], s1=["I P"], s2=["0 P 0", "0 I 0"], s3=["0"], s5=["0 P 1", "0 I 2"], s6=["1 a 1", "2 a 2"], s7=["0 I"], s8=["0 a"])
     listed("labels P I, I preferred", g(**order_two), 0, b"start seek found awaits\n0 a one 0I\nmark path\n2 0I2\n")
+
+
+def ladder(rungs, declared, **sections):
+    """From each scope to the next by either of two labels, without an order: so many rungs, twice as many routes with each. Each is visible."""
+    edges = ["%d %s %d" % (s, label, s + 1) for s in range(rungs) for label in "IP"]
+    rows = dict(s1=[], s2=["0 I 0", "0 P 0"], s3=["0"], s4=[str(rungs + 2)], s5=edges, s6=declared, s7=[], s8=["0 a"])
+    return text_of(changed(EXAMPLE, **dict(rows, **sections)))
+
+
+def route_cases():
+    """`found` counts declarations (02, K2), and all routes are listed."""
+    head = b"start seek found awaits\n0 a %s -\nmark path\n"
+    listed("two routes to one row", ladder(1, ["1 a 7"]), 0, head % b"one" + b"7 0I1\n7 0P1\n")
+    listed("two routes to two marks at one scope", ladder(1, ["1 a 7", "1 a 8"]), 0, head % b"several" + b"7 0I1\n8 0I1\n7 0P1\n8 0P1\n")
+    listed("two scopes with equal marks", ladder(1, ["0 a 7", "1 a 7"]), 0, head % b"several" + b"7 0\n7 0I1\n7 0P1\n")
+    listed("two routes to one row, another name beside it", ladder(1, ["1 a 7", "1 b 8"]), 0, head % b"one" + b"7 0I1\n7 0P1\n")
+    listed("the second of two routes is shadowed", ladder(1, ["1 a 7"], s1=["I P"]), 0, head % b"one" + b"7 0I1\n")
+    awaited = b"start seek found awaits\n0 a one 1$\nmark path\n7 0I1\n7 0P1\n"
+    listed("two routes to one row, its scope open", ladder(1, ["1 a 7"], s7=["1 $"]), 0, awaited)
+    # With thirty rungs there are 2^30 routes, more than an enumerator can list. So what is due then is said here, and held to the reference for the same gym
+    # with five rungs: the listing is longer than any buffer lent, the summary is the same.
+    for title, rows, order, due in [
+        ("to one row", lambda n: ["%d a 7" % n], [], b"1 1 0 0 100"),
+        ("to two marks at one scope", lambda n: ["%d a 7" % n, "%d a 8" % n], [], b"1 0 1 0 0"),
+        ("to two scopes with equal marks", lambda n: ["%d a 7" % (n - 1), "%d a 7" % n], [], b"1 0 1 0 0"),
+        ("to one row, another that nothing leads to", lambda n: ["%d a 7" % n, "%d a 7" % (n + 1)], [], b"1 1 0 0 100"),
+        ("to one row, another is shadowed", lambda n: ["%d a 7" % (n - 1), "%d a 7" % n], ["$ I", "$ P"], b"1 1 0 0 100"),
+    ]:  # fmt: skip
+        gym = lambda n: ladder(n, rows(n), s1=order)
+        summary = b"queries one several none share\n" + due + b"\n"
+        whole("five rungs %s" % title, gym(5))
+        summed("five rungs %s" % title, gym(5), summary)
+        case(b"l", "listing: 2^30 routes %s" % title, shown(b"listed", 9, 65536), gym(30), room=65536)
+        case(b"s", "summary: 2^30 routes %s" % title, shown(b"summed", summary, 100), gym(30), room=100)
 
 
 def long_cases():
@@ -243,6 +277,7 @@ def cases():
     number_cases()
     share_cases()
     wrong_ways()
+    route_cases()
     long_cases()
     whole("a gym of 27 scopes and 80 queries", realistic())
     random_cases()

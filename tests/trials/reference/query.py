@@ -91,18 +91,20 @@ class Gym:
             raise Refused(7)
         start, name = self.queries[query]
         entries = self.entries(start, name)
-        lines = [b"start seek found awaits", b"%d %s %s %s" % (start, name, found(entries), self.awaits(start, name)), b"mark path"]
+        lines = [b"start seek found awaits", b"%d %s %s %s" % (start, name, found(start, entries), self.awaits(start, name)), b"mark path"]
         for steps, mark in entries:
             lines.append(b"%d %d" % (mark, start) + b"".join(b"%s%d" % step for step in steps))
         return b"".join(line + b"\n" for line in lines)
 
     def summary(self):
-        words = [found(self.entries(start, name)) for start, name in self.queries]
+        words = [found(start, self.entries(start, name)) for start, name in self.queries]
         one, several, none = (words.count(w) for w in (b"one", b"several", b"none"))
         # 02, K1: `round` takes a fraction's half to the even number
         share = b"%d" % round(Fraction(one * 100, len(words))) if words else b"-"
         return b"queries one several none share\n%d %d %d %d %s\n" % (len(words), one, several, none, share)
 
 
-def found(entries):
-    return b"none" if not entries else b"one" if len(entries) == 1 else b"several"
+def found(start, entries):
+    """02, K2: by the declarations, that is the scopes where the entries' paths end, with their marks; all have the name sought."""
+    declared = {(steps[-1][1] if steps else start, mark) for steps, mark in entries}
+    return b"none" if not declared else b"one" if len(declared) == 1 else b"several"

@@ -9,6 +9,7 @@ use plain::enumerate::{self, Graph, Path, Verdict};
 use plain::gym::{self, Gym, Query};
 use plain::path_row::{self, Compared, PathRow, Step};
 use plain::random::{self, Rng};
+use plain::search::{Rules, Search};
 
 const BLANK: Step = Step {
     letter: 0,
@@ -20,6 +21,7 @@ struct Counts {
     listings: usize,
     unsettled: usize,
     several: usize,
+    one_by_more_routes: usize,
     none: usize,
     completions: usize,
     visible: usize,
@@ -115,7 +117,14 @@ fn check_listing(
     let graph = Graph::of(gym);
     let entries = graph.entries(query.start as usize, query.name);
     c.listings += 1;
-    c.several += usize::from(entries.len() > 1);
+    let declarations = enumerate::declarations(&entries);
+    let rules = Rules::new(gym);
+    let by_scopes = Search::new(&rules, query.start, query.name).declarations_seen(2);
+    if [usize::from(answers::count(&rules, query)), by_scopes] != [declarations.min(2); 2] {
+        fail(seed, &format!("found {n}, as the summary has it"), text);
+    }
+    c.several += usize::from(declarations > 1);
+    c.one_by_more_routes += usize::from(declarations == 1 && entries.len() > 1);
     c.none += usize::from(entries.is_empty());
     if enumerate::awaits(gym, query).is_some() {
         c.unsettled += 1;

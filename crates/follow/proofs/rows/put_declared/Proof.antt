@@ -18,8 +18,8 @@ use Rattle.follow.proofs.rows.put_declared.Tie as tie
 abbrev Inv-loop : tie.InvT-loop
 Inv-loop block decls p ask path s bounds out₀ n start high low size t₀ i₀ out t i =
     (n ≡ length decls) × (length out ≡ length out₀)
-    × (takeRows bounds (out, t) (entryRows (letterBytes block) start (pathHops path) (marksIn (drop i decls) s high low))
-    ≡ takeRows bounds (out₀, t₀) (entryRows (letterBytes block) (askStart ask) (pathHops path) (marksIn (drop p decls) s (askHigh ask) (askLow ask))))
+    × (takeRows bounds (out, t) (entryRows (letterBytes block) start (pathHops path) s (marksIn (drop i decls) s high low))
+    ≡ takeRows bounds (out₀, t₀) (entryRows (letterBytes block) (askStart ask) (pathHops path) s (marksIn (drop p decls) s (askHigh ask) (askLow ask))))
 
 abbrev μ-loop : tie.MeasureT-loop
 μ-loop block decls p ask path s bounds out₀ n start high low size t₀ i₀ out t i = length decls - i
@@ -70,7 +70,7 @@ loop-less-2 : tie.Need-loop-less-2 Inv-loop μ-loop
 loop-less-2 c = omega arith
 
 loop-again-2 : tie.Need-loop-again-2 Inv-loop μ-loop
-loop-again-2 c = let a = c .before .before .before .before .before .before .before .before .before .before .before .before .before .before .before .before .before .before .args in let i = c .before .before .before .before .before .before .before .before .before .loop in (refl, c .before .before .put-entry .kept .1 .1 .1 .1 .1 .1 .0 ∙ i .inv .1, rows-step _ _ _ _ _ _ _ (c .before .before .put-entry .ensures ∙ rows-one _ _ _) (rows-here (letterBytes (a .block .now)) (c .before .before .before .before .before .before .before .before .before .before .before .before .before .ask-start .result) (pathHops (a .path)) (a .decls .now) (a .s) (c .before .before .before .before .before .before .before .before .before .before .before .before .ask-high .result) (c .before .before .before .before .before .before .before .before .before .before .before .ask-low .result) (i .i) _ (c .before .before .before .before .before .before .declaration-row .ensures) (omega arith) (sym (c .before .before .before .before .before .declares .ensures) ∙ not-false (c .before .before .before .before .before .declares .result) (c .before .before .before .before .if2 .left))) (i .inv .2))
+loop-again-2 c = let a = c .before .before .before .before .before .before .before .before .before .before .before .before .before .before .before .before .before .before .args in let i = c .before .before .before .before .before .before .before .before .before .loop in (refl, c .before .before .put-entry .kept .1 .1 .1 .1 .1 .1 .1 .0 ∙ i .inv .1, rows-step _ _ _ _ _ _ _ (c .before .before .put-entry .ensures ∙ rows-one _ _ _) (rows-here (letterBytes (a .block .now)) (c .before .before .before .before .before .before .before .before .before .before .before .before .before .ask-start .result) (pathHops (a .path)) (a .decls .now) (a .s) (c .before .before .before .before .before .before .before .before .before .before .before .before .ask-high .result) (c .before .before .before .before .before .before .before .before .before .before .before .ask-low .result) (i .i) _ (c .before .before .before .before .before .before .declaration-row .ensures) (omega arith) (sym (c .before .before .before .before .before .declares .ensures) ∙ not-false (c .before .before .before .before .before .declares .result) (c .before .before .before .before .if2 .left))) (i .inv .2))
 
 same-length-2 : tie.Need-same-length-2 Inv-loop μ-loop
 same-length-2 c = search needs

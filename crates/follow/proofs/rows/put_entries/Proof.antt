@@ -9,16 +9,9 @@ use lib.Seq.{length-take-le}
 use Rattle.block.specs.Ask.{askStart}
 use Rattle.follow.specs.Tally.{takeRows}
 use Rattle.follow.specs.Walk.{pathHops, letterBytes, entryRows}
-use Rattle.follow.proofs.TallyLaws.{rows-done}
 use Rattle.follow.proofs.EntryLaws.{marks-part}
 use Rattle.follow.proofs.rows.put_entries.Statement.{statement}
 use Rattle.follow.proofs.rows.put_entries.Tie as tie
-
-is-done-requires : tie.Need-is-done-requires
-is-done-requires c κs = search needs
-
-returns : tie.Need-returns
-returns c = sym (rows-done _ _ _ _ (sym (c .before .is-done .ensures) ∙ c .if1 .taken))
 
 declared-end-requires : tie.Need-declared-end-requires
 declared-end-requires c κs = search needs
@@ -38,19 +31,17 @@ put-declared-requires c κs = search needs
 same-length : tie.Need-same-length
 same-length c = search needs
 
-returns-2 : tie.Need-returns-2
-returns-2 c = let a = c .before .before .before .before .before .before .before .before .before .before .before .before .before .before .args in let end = c .before .before .before .before .before .before .clipped in c .before .before .put-declared .ensures ∙ ap (λ (z : List ℕ). takeRows (a .bounds) (a .out .now, a .tally) (entryRows (letterBytes (a .block .now)) (askStart (a .ask .now)) (pathHops (a .path)) z)) (marks-part (a .block .now) (a .table .now) (a .ask .now) (a .s) (c .before .before .before .before .before .declared-from .result) (end .result) (c .before .before .before .before .before .declared-from .ensures) (end .ensures .1 (a .table .now) refl ∙ ap (λ (z : ℕ). take z (a .table .now)) (c .before .before .before .before .before .before .before .declared-end .ensures)))
+returns : tie.Need-returns
+returns c = let a = c .before .before .before .before .before .before .before .before .before .before .before .before .args in let end = c .before .before .before .before .before .before .clipped in c .before .before .put-declared .ensures ∙ ap (λ (z : List ℕ). takeRows (a .bounds) (a .out .now, a .tally) (entryRows (letterBytes (a .block .now)) (askStart (a .ask .now)) (pathHops (a .path)) (a .s) z)) (marks-part (a .block .now) (a .table .now) (a .ask .now) (a .s) (c .before .before .before .before .before .declared-from .result) (end .result) (c .before .before .before .before .before .declared-from .ensures) (end .ensures .1 (a .table .now) refl ∙ ap (λ (z : ℕ). take z (a .table .now)) (c .before .before .before .before .before .before .before .declared-end .ensures)))
 
 pub put-entries-spec : {M : Type 1} → statement M
 put-entries-spec =
     tie.close
     (tie.spec
-    is-done-requires
-    returns
     declared-end-requires
     clipped-requires
     declared-from-requires
     slice-aggregate-put-declared
     put-declared-requires
     same-length
-    returns-2)
+    returns)

@@ -1,12 +1,12 @@
 -- `list` meets its contract: the rows alone do not fit, or the head does not fit what they leave, or both
 -- are written, the rows from those that were kept or by another walk. Assumes nothing.
 use Prim.Native.Nat.{ℕ}
-use mathlib.Core.Path.{refl, sym, _∙_}
+use mathlib.Core.Path.{refl, sym, ap, _∙_}
 use native.Mathlib.Omega.{arith}
 use lib.Seq.{length-take-le}
 use lib.ListN.{replicate, length-replicate}
 use Rattle.text_field.specs.Answer.{answerOf}
-use Rattle.resolution.proofs.Answers.{found-taken}
+use Rattle.follow.specs.Tally.{State}
 use Rattle.resolution.proofs.Heads.{list-over, rows-room, head-within, list-no-head, list-kept, list-again}
 use borrow.Author.Needs.{needs}
 use Rattle.resolution.proofs.lists.list.Statement.{statement}
@@ -19,24 +19,24 @@ take-entries-requires : tie.Need-take-entries-requires
 take-entries-requires c κs = search needs
 
 found-by-requires : tie.Need-found-by-requires
-found-by-requires c κs = search needs
+found-by-requires c κs = (c .before .before .before .before .before .before .before .pre, (_, sym (ap (λ (s : State). s .1) (c .before .take-entries .ensures))))
 
 returns : tie.Need-returns
 unfolding answerOf
-returns c = let a = c .before .before .before .before .before .before .before .before .before .args in let p = c .before .before .before .before .before .before .before .before .before .pre in let t = c .before .before .before .take-entries .ensures in let x = list-over (a .table .now) (a .block .now) (a .ask .now) p (a .out .now) _ _ refl (_, _) t (c .if1 .taken) in (x .0, (x .1, c .before .found-by .ensures ∙ found-taken (a .table .now) _ _ _ (_, _) refl t))
+returns c = let a = c .before .before .before .before .before .before .before .before .before .args in let p = c .before .before .before .before .before .before .before .before .before .pre in let t = c .before .before .before .take-entries .ensures in let x = list-over (a .table .now) (a .block .now) (a .ask .now) p (a .out .now) _ _ refl (_, _) t (c .if1 .taken) in (x .0, (x .1, c .before .found-by .ensures))
 
 slice-aggregate-put-heading : tie.Need-slice-aggregate-put-heading
 slice-aggregate-put-heading c = search needs
 
 put-heading-requires : tie.Need-put-heading-requires
-put-heading-requires c κs = let a = c .before .before .before .before .before .before .before .before .before .before .args in let p = c .before .before .before .before .before .before .before .before .before .before .pre in let t = c .before .before .before .before .take-entries .ensures in (p, c .before .before .found-by .ensures ∙ found-taken (a .table .now) _ _ _ (_, _) refl t)
+put-heading-requires c κs = let a = c .before .before .before .before .before .before .before .before .before .before .args in let p = c .before .before .before .before .before .before .before .before .before .before .pre in let t = c .before .before .before .before .take-entries .ensures in (p, c .before .before .found-by .ensures)
 
 sub-if2 : tie.Need-sub-if2
 sub-if2 c = let a = c .before .before .before .before .before .before .before .before .before .before .before .before .args in let p = c .before .before .before .before .before .before .before .before .before .before .before .before .pre in let t = c .before .before .before .before .before .before .take-entries .ensures in rows-room (a .table .now) (a .block .now) (a .ask .now) p (a .out .now) _ _ refl (_, _) t (c .before .before .before .if1 .left)
 
 returns-2 : tie.Need-returns-2
 unfolding answerOf
-returns-2 c = let a = c .before .before .before .before .before .before .before .before .before .before .before .before .before .args in let p = c .before .before .before .before .before .before .before .before .before .before .before .before .before .pre in let t = c .before .before .before .before .before .before .before .take-entries .ensures in let x = list-no-head (a .table .now) (a .block .now) (a .ask .now) p (a .out .now) _ _ refl (_, _) t (c .before .before .before .before .if1 .left) (replicate 128 0) _ _ (length-replicate {A = ℕ} 128 0) (c .before .before .put-heading .ensures) (c .if2 .taken) in (x .0, (x .1, c .before .before .before .before .before .found-by .ensures ∙ found-taken (a .table .now) _ _ _ (_, _) refl t))
+returns-2 c = let a = c .before .before .before .before .before .before .before .before .before .before .before .before .before .args in let p = c .before .before .before .before .before .before .before .before .before .before .before .before .before .pre in let t = c .before .before .before .before .before .before .before .take-entries .ensures in let x = list-no-head (a .table .now) (a .block .now) (a .ask .now) p (a .out .now) _ _ refl (_, _) t (c .before .before .before .before .if1 .left) (replicate 128 0) _ _ (length-replicate {A = ℕ} 128 0) (c .before .before .put-heading .ensures) (c .if2 .taken) in (x .0, (x .1, c .before .before .before .before .before .found-by .ensures))
 
 add-size : tie.Need-add-size
 add-size c = search needs
@@ -64,7 +64,7 @@ same-length c = search needs
 
 returns-3 : tie.Need-returns-3
 unfolding answerOf
-returns-3 c = let a = c .before .before .before .before .before .before .before .before .before .before .before .before .before .before .before .before .before .before .before .before .before .before .before .before .args in let p = c .before .before .before .before .before .before .before .before .before .before .before .before .before .before .before .before .before .before .before .before .before .before .before .before .pre in let t = c .before .before .before .before .before .before .before .before .before .before .before .before .before .before .before .before .before .before .take-entries .ensures in let x = list-kept (a .table .now) (a .block .now) (a .ask .now) p (a .out .now) _ _ refl (_, _) t (c .before .before .before .before .before .before .before .before .before .before .before .before .before .before .before .if1 .left) (replicate 128 0) _ _ (length-replicate {A = ℕ} 128 0) (c .before .before .before .before .before .before .before .before .before .before .before .before .before .put-heading .ensures) (c .before .before .before .before .before .before .before .before .before .before .before .if2 .left) (_, _) (c .before .before .before .before .before .before .before .before .put-bytes .ensures) (omega arith) (omega arith) (_, _) (c .before .before .put-bytes2 .ensures) in (x .0, (x .1, c .before .before .before .before .before .before .before .before .before .before .before .before .before .before .before .before .found-by .ensures ∙ found-taken (a .table .now) _ _ _ (_, _) refl t))
+returns-3 c = let a = c .before .before .before .before .before .before .before .before .before .before .before .before .before .before .before .before .before .before .before .before .before .before .before .before .args in let p = c .before .before .before .before .before .before .before .before .before .before .before .before .before .before .before .before .before .before .before .before .before .before .before .before .pre in let t = c .before .before .before .before .before .before .before .before .before .before .before .before .before .before .before .before .before .before .take-entries .ensures in let x = list-kept (a .table .now) (a .block .now) (a .ask .now) p (a .out .now) _ _ refl (_, _) t (c .before .before .before .before .before .before .before .before .before .before .before .before .before .before .before .if1 .left) (replicate 128 0) _ _ (length-replicate {A = ℕ} 128 0) (c .before .before .before .before .before .before .before .before .before .before .before .before .before .put-heading .ensures) (c .before .before .before .before .before .before .before .before .before .before .before .if2 .left) (_, _) (c .before .before .before .before .before .before .before .before .put-bytes .ensures) (omega arith) (omega arith) (_, _) (c .before .before .put-bytes2 .ensures) in (x .0, (x .1, c .before .before .before .before .before .before .before .before .before .before .before .before .before .before .before .before .found-by .ensures))
 
 take-entries-requires-2 : tie.Need-take-entries-requires-2
 take-entries-requires-2 c κs = search needs
@@ -74,7 +74,7 @@ same-length-2 c = search needs
 
 returns-4 : tie.Need-returns-4
 unfolding answerOf
-returns-4 c = let a = c .before .before .before .before .before .before .before .before .before .before .before .before .before .before .before .before .before .before .before .before .before .before .before .args in let p = c .before .before .before .before .before .before .before .before .before .before .before .before .before .before .before .before .before .before .before .before .before .before .before .pre in let t = c .before .before .before .before .before .before .before .before .before .before .before .before .before .before .before .before .before .take-entries .ensures in let x = list-again (a .table .now) (a .block .now) (a .ask .now) p (a .out .now) _ _ refl (_, _) t (c .before .before .before .before .before .before .before .before .before .before .before .before .before .before .if1 .left) (replicate 128 0) _ _ (length-replicate {A = ℕ} 128 0) (c .before .before .before .before .before .before .before .before .before .before .before .before .put-heading .ensures) (c .before .before .before .before .before .before .before .before .before .before .if2 .left) (_, _) (c .before .before .before .before .before .before .before .put-bytes .ensures) _ refl refl (_, _) (c .before .before .take-entries2 .ensures) in (x .0, (x .1, c .before .before .before .before .before .before .before .before .before .before .before .before .before .before .before .found-by .ensures ∙ found-taken (a .table .now) _ _ _ (_, _) refl t))
+returns-4 c = let a = c .before .before .before .before .before .before .before .before .before .before .before .before .before .before .before .before .before .before .before .before .before .before .before .args in let p = c .before .before .before .before .before .before .before .before .before .before .before .before .before .before .before .before .before .before .before .before .before .before .before .pre in let t = c .before .before .before .before .before .before .before .before .before .before .before .before .before .before .before .before .before .take-entries .ensures in let x = list-again (a .table .now) (a .block .now) (a .ask .now) p (a .out .now) _ _ refl (_, _) t (c .before .before .before .before .before .before .before .before .before .before .before .before .before .before .if1 .left) (replicate 128 0) _ _ (length-replicate {A = ℕ} 128 0) (c .before .before .before .before .before .before .before .before .before .before .before .before .put-heading .ensures) (c .before .before .before .before .before .before .before .before .before .before .if2 .left) (_, _) (c .before .before .before .before .before .before .before .put-bytes .ensures) _ refl refl (_, _) (c .before .before .take-entries2 .ensures) in (x .0, (x .1, c .before .before .before .before .before .before .before .before .before .before .before .before .before .before .before .found-by .ensures))
 
 pub list-spec : {M : Type 1} → statement M
 list-spec =

@@ -1,10 +1,9 @@
-use mathlib.Core.Path.{refl, _∙_}
-use Rattle.resolution.proofs.Answers.{found-taken}
+-- `found_of` meets its contract. Assumes nothing.
+use mathlib.Core.Path.{sym, ap}
+use Rattle.follow.specs.Tally.{State}
 use borrow.Author.Needs.{needs}
 use Rattle.resolution.proofs.walks.found_of.Statement.{statement}
 use Rattle.resolution.proofs.walks.found_of.Tie as tie
-
--- `found_of` meets its contract. Assumes nothing.
 
 slice-aggregate-take-entries : tie.Need-slice-aggregate-take-entries
 slice-aggregate-take-entries c = search needs
@@ -13,10 +12,10 @@ take-entries-requires : tie.Need-take-entries-requires
 take-entries-requires c κs = search needs
 
 found-by-requires : tie.Need-found-by-requires
-found-by-requires c κs = search needs
+found-by-requires c κs = (c .before .before .before .before .before .before .pre, (_, sym (ap (λ (s : State). s .1) (c .before .take-entries .ensures))))
 
 returns : tie.Need-returns
-returns c = let a = c .before .before .before .before .before .before .before .args in c .found-by .ensures ∙ found-taken (a .table .now) _ _ _ (_, _) refl (c .before .before .take-entries .ensures)
+returns c = c .found-by .ensures
 
 pub found-of-spec : {M : Type 1} → statement M
 found-of-spec =
