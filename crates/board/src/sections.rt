@@ -9,12 +9,12 @@ ghost use Rattle.graph_table.specs.Sections.{startCell, partOf};
 ghost use Rattle.board.specs.Tables.{tabulate};
 ghost use Rattle.board.specs.Made.{Starts, Made};
 
-// Nine sections start somewhere, and the last one ends somewhere.
-const SECTIONS: usize = 10;
+// The places of nine sections, and where the last one ends.
+const PLACES: usize = 10;
 
 // Where each section's rows start, and where the last one's end: one pass, as each is looked for
 // from the one before it on.
-pub fn starts(table: &[u64]) -> [u64; SECTIONS]
+pub fn starts(table: &[u64]) -> [u64; PLACES]
     ensures answer { λ r. ⌜ r ≡ tabulate (startCell (now (table .entry))) 10 ⌝ }
 {
     let mut t = [0; 10];
@@ -45,5 +45,5 @@ pub fn part<'a>(table: &'a [u64], block: &[u64], k: usize) -> &'a [u64]
     requires section { ⌜ k < 9 ⌝ }
     ensures answer { λ r. ⌜ now r ≡ partOf k (now (table .entry)) ⌝ }
 {
-    rows_at(table, &block[START..START + SECTIONS], k)
+    rows_at(table, &block[START..START + PLACES], k)
 }

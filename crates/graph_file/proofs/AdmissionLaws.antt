@@ -14,7 +14,7 @@ use Rattle.graph_file.specs.declared.rows.Counts.{Counts}
 use Rattle.graph_file.specs.Format.{Sequence, ascending, once, free, sectionAt}
 use Rattle.graph_file.specs.Admission.{Row, value, rowOf, inRange, keyLess, listed, follows, unless, admission}
 use Rattle.graph_file.specs.Line.{place}
-use Rattle.graph_file.specs.Table.{formatBytes, keyStep, keyAt, itemsAt, rowPlace, sequenceNumber, lettersAt, lastAt, sofarAt}
+use Rattle.graph_file.specs.Table.{formatBytes, keyStep, keyAt, itemsAt, rowPlace, lettersAt, lastAt, sofarAt}
 use Rattle.graph_file.proofs.FormatLaws.{keys-step, key-more, key-last, row-items}
 use Rattle.graph_file.proofs.RowLaws.{place-hit, place-miss, letters-length}
 
@@ -62,19 +62,19 @@ listed-place x (y ∷ l) = go (eqb y x) refl (listed-place x l)
 pub letter-unlisted : (x n : ℕ) (t : List ℕ) → eqb (place x (lettersAt n t)) n ≡ not (listed x (lettersAt n t))
 letter-unlisted x n t = rw (letters-length n t) at (listed-place x (lettersAt n t))
 
--- how rows follow, by the sequence's number
+-- how rows follow, by their sequence
 module _ (q : Sequence) (key letters : List ℕ) (rows : ℕ) (last row : Row) where
-  pub follows-ascending : sequenceNumber q ≡ 0 → follows q key letters rows last row ≡ (eqb rows 0 || keyLess key last row)
-  unfolding follows sequenceNumber
-  follows-ascending = elim q [ ascending ↦ λ e. refl | once ↦ λ e. absurd (omega arith) | free ↦ λ e. absurd (omega arith) ]
+  pub follows-ascending : ascending ≡ q → follows q key letters rows last row ≡ (eqb rows 0 || keyLess key last row)
+  unfolding follows
+  follows-ascending e = ap (λ (s : Sequence). follows s key letters rows last row) (sym e)
 
-  pub follows-once : sequenceNumber q ≡ 1 → follows q key letters rows last row ≡ not (listed (value row 0) letters)
-  unfolding follows sequenceNumber
-  follows-once = elim q [ ascending ↦ λ e. absurd (omega arith) | once ↦ λ e. refl | free ↦ λ e. absurd (omega arith) ]
+  pub follows-once : once ≡ q → follows q key letters rows last row ≡ not (listed (value row 0) letters)
+  unfolding follows
+  follows-once e = ap (λ (s : Sequence). follows s key letters rows last row) (sym e)
 
-  pub follows-free : (sequenceNumber q ≡ 0 → ⊥) → (sequenceNumber q ≡ 1 → ⊥) → follows q key letters rows last row ≡ true
-  unfolding follows sequenceNumber
-  follows-free = elim q [ ascending ↦ λ e f. absurd (e refl) | once ↦ λ e f. absurd (f refl) | free ↦ λ e f. refl ]
+  pub follows-free : free ≡ q → follows q key letters rows last row ≡ true
+  unfolding follows
+  follows-free e = ap (λ (s : Sequence). follows s key letters rows last row) (sym e)
 
 -- the refusals of the row at place p of a table, in their sequence
 module _ (k : ℕ) (t : List ℕ) (p : ℕ) (c : Counts) where

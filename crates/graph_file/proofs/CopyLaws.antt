@@ -8,8 +8,6 @@ use lib.ListN.{length, getD, take, drop, length-take, drop-of-length-le}
 use lib.Seq.{drop-cons, getD-take}
 use Rattle.text_field.specs.Buffer.{Buf, puts}
 use Rattle.text_field.proofs.BufferLaws.{puts-none}
-use Rattle.text_field.specs.declared.answer.Answer.{Answer}
-use Rattle.text_field.specs.declared.answer.Answer.the-variants.{Refused, Written}
 use Rattle.graph_file.specs.declared.reader.Part.{Part}
 use Rattle.text_field.specs.Outcome.{refused, done, andThen}
 use Rattle.graph_file.specs.File.{readStage, madeOf, readCells}
@@ -38,10 +36,3 @@ cells-refused r u text e z = rw (← e, part-refused r u text z)
 pub cells-done : (r : Part) (u text : List ℕ) → partOutcome r u text ≡ readStage text → r .refusal ≡ 0 → readCells text ≡ done (take (r .cells) u)
 unfolding readCells madeOf andThen stageAt
 cells-done r u text e z = rw (← e, part-done r u text z)
-
--- what an answer says it is
-pub refused-written : (m n : ℕ) → Refused m ≡ Written n → ⊥
-refused-written m n e = let z : _≡_ {A = ℕ} 0 1 = cc in omega arith
-
-pub written-same : (m n : ℕ) → Written m ≡ Written n → m ≡ n
-written-same m n e = cc

@@ -1,7 +1,7 @@
 -- The fixed string holds the nine sections' names lines, rows and keys, at the places given.
 -- Assumes nothing.
 use Prim.Native.Nat.{ℕ, zero, suc, _+_, _-_, _/_, _%_, _≤_, _<_}
-use mathlib.Core.Path.{_≡_, refl, sym, _∙_}
+use mathlib.Core.Path.{_≡_, refl, sym, ap, _∙_}
 use mathlib.Core.List.{List, [], _∷_, map}
 use mathlib.Core.Bool.{Bool, true, false, _&&_}
 use native.Mathlib.Omega.{arith}
@@ -11,7 +11,7 @@ use borrow.Author.Tests.{ne-eqb, lt-ltb, le-ltb, le-leb}
 use lib.ListN.{length, getD, drop, List·getD-map}
 use Rattle.graph_file.specs.Format.{name, Item, byte, field, valuesOf, everyItem, Section, labels, pairs, transitions, accepts, scopeCount, edges, declarations, openPairs, queries, pastLast, sections, sectionAt}
 use Rattle.graph_file.specs.Line.{sparesPlace}
-use Rattle.graph_file.specs.Table.{kindNumber, code, kindOf, itemOf, layout, layouts, formatBytes, lineStep, lineOf, itemsAt, keyStep, keyOf, keyAt, namesPlace, rowPlace, keyPlace, sequenceNumber}
+use Rattle.graph_file.specs.Table.{kindNumber, code, kindOf, itemOf, layout, layouts, formatBytes, lineStep, lineOf, itemsAt, keyStep, keyOf, keyAt, namesPlace, rowPlace, keyPlace}
 
 -- the line at each section's places is its names line, its row, and the key there its key
 pub names-items : (k : ℕ) → itemsAt (namesPlace k) ≡ map byte (sectionAt k .names)
@@ -72,12 +72,8 @@ pub least-at : (k : ℕ) → getD leasts k 0 ≡ sectionAt k .least
 unfolding labels pairs transitions accepts scopeCount edges declarations openPairs queries pastLast sections
 least-at k = field-at (λ s. s .least) k
 
-abbrev pub sequences : List ℕ
-sequences = 1 ∷ 0 ∷ 0 ∷ 0 ∷ 2 ∷ 0 ∷ 0 ∷ 0 ∷ 2 ∷ []
-
-pub sequence-at : (k : ℕ) → getD sequences k 2 ≡ sequenceNumber (sectionAt k .sequence)
-unfolding labels pairs transitions accepts scopeCount edges declarations openPairs queries pastLast sections sequenceNumber
-sequence-at k = field-at (λ s. sequenceNumber (s .sequence)) k
+pub sequence-at : (k i : ℕ) → k ≡ i → sectionAt i .sequence ≡ sectionAt k .sequence
+sequence-at k i e = ap (λ (j : ℕ). sectionAt j .sequence) (sym e)
 
 -- a number listed for each section, by the section's number; a number that is none of them
 pub number-of : (ns : List ℕ) (k i d : ℕ) → k ≡ i → getD ns i d ≡ getD ns k d

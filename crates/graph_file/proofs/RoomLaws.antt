@@ -1,9 +1,9 @@
 -- A row takes a line: reading makes no more rows than it passes lines, so that a table with room
 -- for the lines that are left has room for the rows. Assumes nothing.
 use Prim.Native.Nat.{ℕ, zero, suc, _+_, _-_, _*_, _≤_, _<_}
-use mathlib.Core.Path.{_≡_, refl, sym, ap, _∙_}
+use mathlib.Core.Path.{_≡_, refl, sym, ap}
 use mathlib.Core.Bool.{Bool, true, false}
-use mathlib.Core.Logic.{_⊎_, inl, inr, ⊎-elim}
+use mathlib.Core.Logic.{inl, inr, ⊎-elim}
 use mathlib.Core.List.{List, [], _∷_, map}
 use native.Mathlib.Omega.{arith}
 use borrow.Author.Tests.{eqb-true}
@@ -17,10 +17,10 @@ use Rattle.text_field.specs.declared.NameRead.the-variants.{Name, NoName}
 use Rattle.text_field.specs.Bytes.{isCapital}
 use Rattle.text_field.specs.Number.{numberMeaning, numberHere}
 use Rattle.text_field.specs.Name.{nameMeaning, nameHere}
-use Rattle.text_field.specs.Outcome.{Outcome, refused, done, andThen}
+use Rattle.text_field.specs.Outcome.{done, andThen}
 use Rattle.text_field.proofs.OutcomeLaws.{done-same, not-done}
 use Rattle.graph_file.specs.declared.rows.Counts.{Counts}
-use Rattle.graph_file.specs.Format.{Kind, state, scope, mark, count, letter, label, end, name, Item, byte, field, labels, pairs, transitions, accepts, scopeCount, edges, declarations, openPairs, queries, sections, pastLast, sectionAt, ownCells}
+use Rattle.graph_file.specs.Format.{Kind, state, scope, mark, count, letter, label, end, name, Item, byte, field, labels, pairs, transitions, accepts, scopeCount, edges, declarations, openPairs, queries, sections, pastLast, sectionAt}
 use Rattle.graph_file.specs.Admission.{Row, blank, begun, taken}
 use Rattle.graph_file.specs.Line.{Reading, numberTaken, nameTaken, byteTaken, place, endTaken, first, readField, startsWith, readItem, placeOf, readItems}
 use Rattle.graph_file.specs.File.{Piece, Stage, afterRow, oneRow, throughRows, afterNames, throughSection, readNames, readRow, reading}

@@ -1,8 +1,9 @@
 -- What is known of a text that was read over a table: it is refused, or the table's first cells are
 -- what it is read as. Assumes nothing.
 use Prim.Native.Nat.{ℕ, _≤_}
-use mathlib.Core.Path.{_≡_, refl, sym, ap, _∙_}
+use mathlib.Core.Path.{_≡_, sym, ap, _∙_}
 use mathlib.Core.List.{List}
+use native.Mathlib.Omega.{arith}
 use lib.ListN.{length, take}
 use lib.Seq.{length-take-le}
 use Rattle.text_field.specs.declared.answer.Answer.{Answer}
@@ -11,6 +12,13 @@ use Rattle.text_field.specs.Outcome.{refused, done}
 use Rattle.graph_file.specs.File.{readCells}
 use Rattle.graph_file.specs.Decode.{WasRead}
 use Rattle.graph_file.specs.Reader.{tableRead, WrittenIn}
+
+-- what an answer says it is
+pub refused-written : (m n : ℕ) → Refused m ≡ Written n → ⊥
+refused-written m n e = let z : _≡_ {A = ℕ} 0 1 = cc in omega arith
+
+pub written-same : (m n : ℕ) → Written m ≡ Written n → m ≡ n
+written-same m n e = cc
 
 -- the first n cells of the table are what the text is read as
 pub record ReadInto (text : List ℕ) (n : ℕ) (t : List ℕ) : Type 0 where

@@ -7,6 +7,8 @@ use mathlib.Core.Bool.{Bool, true, false}
 use lib.Dec.{eqb, ltb}
 use lib.ListN.{length, getD, drop}
 use Rattle.graph_file.specs.declared.rows.Counts.{Counts}
+use Rattle.graph_file.specs.declared.format.Sequence as told
+use Rattle.graph_file.specs.declared.format.Sequence.the-variants.{Ascending, Once, Free}
 use Rattle.graph_file.specs.Format.{Kind, state, scope, mark, count, letter, label, end, name, Item, byte, field, Sequence, ascending, once, free, Section, sections, sectionAt}
 use Rattle.graph_file.specs.Admission.{Row, value, rowOf, blank, Sofar}
 
@@ -96,11 +98,11 @@ keyPlaces = 8 ∷ 23 ∷ 49 ∷ 61 ∷ 72 ∷ 93 ∷ 116 ∷ 133 ∷ 151 ∷ []
 unfoldable pub keyPlace : ℕ → ℕ
 keyPlace k = getD keyPlaces k 152
 
--- the ways that rows follow one another, by number
-unfoldable pub sequenceNumber : Sequence → ℕ
-sequenceNumber ascending = 0
-sequenceNumber once = 1
-sequenceNumber free = 2
+-- what the code's enum says of how rows follow one another
+unfoldable pub sequenceMeaning : told.Sequence → Sequence
+sequenceMeaning Ascending = ascending
+sequenceMeaning Once = once
+sequenceMeaning Free = free
 
 -- n rows of a table, from its front
 unfoldable pub rowsAt : ℕ → List ℕ → List Row

@@ -2,10 +2,11 @@
 use crate::format::MARKS;
 use crate::format::MOST_SCOPES;
 use crate::format::STATES;
+use crate::format::Sequence;
 use crate::format::item;
 use crate::format::key_place;
 use crate::format::row_place;
-use crate::format::sequence;
+use crate::format::sequence_of;
 use crate::rows::Counts;
 use crate::rows::label_place;
 use crate::rows::value_at;
@@ -124,10 +125,11 @@ fn row_follows(format: &[u8], k: usize, table: &[u64], p: usize, labels: u32, ro
         (lettersAt labels (drop 1 (now (table .entry)))) rows (lastAt rows p (now (table .entry)))
         (rowOf (drop p (now (table .entry)))) ⌝ }
 {
-    match sequence(k) {
-        0 => ascends(format, k, table, p, rows),
-        1 => unlisted(table, labels, value_at(table, p, 0)),
-        _ => true,
+    let asked = sequence_of(k);
+    match asked {
+        Sequence::Ascending => ascends(format, k, table, p, rows),
+        Sequence::Once => unlisted(table, labels, value_at(table, p, 0)),
+        Sequence::Free => true,
     }
 }
 

@@ -7,7 +7,7 @@ ghost use lib.Dec.{leb};
 ghost use lib.ListN.{getD};
 ghost use Rattle.graph_file.specs.Format.{sectionAt, everyItem};
 ghost use Rattle.graph_file.specs.Line.{sparesPlace};
-ghost use Rattle.graph_file.specs.Table.{formatBytes, namesPlace, rowPlace, keyPlace, sequenceNumber};
+ghost use Rattle.graph_file.specs.Table.{formatBytes, namesPlace, rowPlace, keyPlace, sequenceMeaning};
 
 // The bytes of a file at most (document 01, "The gym file").
 pub const TEXT_BYTES: usize = 32768;
@@ -109,21 +109,28 @@ pub fn least(k: usize) -> usize
     if k < 9 { LEAST[k] } else { 0 }
 }
 
-// How its rows follow one another: 0 they ascend, 1 none repeats, 2 free.
-pub fn sequence(k: usize) -> u8
-    ensures answer { λ r. ⌜ r ≡ sequenceNumber (sectionAt k .sequence) ⌝ }
+// How a section's rows follow one another.
+pub enum Sequence {
+    Ascending,
+    Once,
+    Free,
+}
+
+// How the rows of section k do.
+pub fn sequence_of(k: usize) -> Sequence
+    ensures answer { λ r. ⌜ sequenceMeaning r ≡ sectionAt k .sequence ⌝ }
 {
     match k {
-        0 => 1,
-        1 => 0,
-        2 => 0,
-        3 => 0,
-        4 => 2,
-        5 => 0,
-        6 => 0,
-        7 => 0,
-        8 => 2,
-        _ => 2,
+        0 => Sequence::Once,
+        1 => Sequence::Ascending,
+        2 => Sequence::Ascending,
+        3 => Sequence::Ascending,
+        4 => Sequence::Free,
+        5 => Sequence::Ascending,
+        6 => Sequence::Ascending,
+        7 => Sequence::Ascending,
+        8 => Sequence::Free,
+        _ => Sequence::Free,
     }
 }
 

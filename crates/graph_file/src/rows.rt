@@ -7,7 +7,7 @@ ghost use Rattle.graph_file.specs.Admission.{rowOf, value};
 ghost use Rattle.graph_file.specs.Line.{place};
 ghost use Rattle.graph_file.specs.Table.{lettersAt};
 
-// A table to read any text in: the form, six cells for each of the 2,045 rows that the nine sections
+// A table to read any text in: the form, six cells for each of the 2,045 rows that the sections
 // admit, and six more for a row past a limit while it is tested.
 pub const OWN_CELLS: usize = 12277;
 

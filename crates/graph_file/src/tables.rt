@@ -20,7 +20,8 @@ const SHORT_LINES: usize = 41;
 // A text of more bytes is not looked through for its lines: hardly any has so few.
 const SHORT_BYTES: usize = 512;
 
-// Does a short table serve for the text?
+// Does a short table serve for the text? Of which short texts it says so is left open: a larger
+// table serves too, and only time depends on it.
 pub fn is_short(text: &[u8]) -> bool
     ensures room { λ r. ⌜ (r ≡ true → TextRoom (now (text .entry)) shortCells) ⌝ }
 {
@@ -31,7 +32,8 @@ pub fn is_short(text: &[u8]) -> bool
 }
 
 // The text read over a table with room for it, whatever stood there: how many cells it made, or the
-// refusal, after which the table is of no use.
+// refusal. What the cells behind them hold, and after a refusal all cells, is left open: the table is
+// the caller's own memory to work in. A host's table is lent to `read`.
 pub fn read_over(text: &[u8], table: &mut [u64]) -> Answer
     requires room { ⌜ TextRoom (now text) (length (now table)) ⌝ }
     ensures answer { λ r. ⌜ tableRead r (now (table .exit)) ≡ readCells (now (text .entry)) ⌝ }

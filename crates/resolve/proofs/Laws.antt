@@ -23,7 +23,6 @@ use Rattle.text_field.specs.declared.answer.Answer.{Answer}
 use Rattle.text_field.specs.declared.answer.Answer.the-variants.{Refused, Written}
 use Rattle.graph_file.specs.Decode.{rulesOf, queriesOf}
 use Rattle.graph_file.proofs.DecodeWay.{done-is}
-use Rattle.graph_file.proofs.DecodeAccepted.{read-accepted}
 use Rattle.resolution.specs.Listing.{listingText, listingOf, summaryOf}
 use Rattle.board.specs.Queries.{queryAt}
 use Rattle.graph_file.specs.Decode.{WasRead}

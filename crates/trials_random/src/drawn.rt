@@ -1,24 +1,24 @@
 // Gyms drawn by chance, of a sequence of numbers that is the same in every run.
-use enumerator::cells::at;
-use enumerator::cells::minus;
-use enumerator::cells::set;
-use enumerator::gym::ACCEPTS;
-use enumerator::gym::EDGES;
-use enumerator::gym::LETTERS;
-use enumerator::gym::MARKS;
-use enumerator::gym::MOVES;
-use enumerator::gym::OPEN;
-use enumerator::gym::PAIRS;
-use enumerator::gym::QUERIES;
-use enumerator::gym::RANKS;
-use enumerator::gym::SCOPES;
-use enumerator::gym::SIZE;
-use enumerator::gym::label_of;
-use enumerator::gym::labels;
-use enumerator::gym::scope_of;
-use enumerator::gym::scopes;
-use enumerator::gym::section;
-use enumerator::gym::states;
+use crate::enumerator::cells::at;
+use crate::enumerator::cells::minus;
+use crate::enumerator::cells::set;
+use crate::enumerator::gym::ACCEPTS;
+use crate::enumerator::gym::EDGES;
+use crate::enumerator::gym::LETTERS;
+use crate::enumerator::gym::MARKS;
+use crate::enumerator::gym::MOVES;
+use crate::enumerator::gym::OPEN;
+use crate::enumerator::gym::PAIRS;
+use crate::enumerator::gym::QUERIES;
+use crate::enumerator::gym::RANKS;
+use crate::enumerator::gym::SCOPES;
+use crate::enumerator::gym::SIZE;
+use crate::enumerator::gym::label_of;
+use crate::enumerator::gym::labels;
+use crate::enumerator::gym::scope_of;
+use crate::enumerator::gym::scopes;
+use crate::enumerator::gym::section;
+use crate::enumerator::gym::states;
 
 // The number after x in the sequence of Park and Miller, from 1 to 2147483646.
 pub fn next(x: usize) -> usize {

@@ -1,23 +1,24 @@
 // Draws small gyms by chance, and compares for each of their queries what `resolution` and `judge`
-// answer with what a plain enumerator finds (crate `enumerator`).
+// answer with what a plain enumerator finds (module `enumerator`).
 mod drawn;
+mod enumerator;
 mod judged;
 mod say;
 
-use enumerator::cells::part;
-use enumerator::cells::plus;
-use enumerator::completed;
-use enumerator::completed::NONE;
-use enumerator::completed::ROWS;
-use enumerator::completed::TOO_MANY;
-use enumerator::due;
-use enumerator::gym;
-use enumerator::gym::SIZE;
-use enumerator::paths;
-use enumerator::paths::MOST;
-use enumerator::paths::ROOM;
-use enumerator::rows;
-use enumerator::text;
+use crate::enumerator::cells::part;
+use crate::enumerator::cells::plus;
+use crate::enumerator::completed;
+use crate::enumerator::completed::NONE;
+use crate::enumerator::completed::ROWS;
+use crate::enumerator::completed::TOO_MANY;
+use crate::enumerator::due;
+use crate::enumerator::gym;
+use crate::enumerator::gym::SIZE;
+use crate::enumerator::paths;
+use crate::enumerator::paths::MOST;
+use crate::enumerator::paths::ROOM;
+use crate::enumerator::rows;
+use crate::enumerator::text;
 use resolution::listing;
 use resolution::summary;
 use text_field::Answer;
@@ -92,23 +93,25 @@ fn awaits_place(pair: usize) -> usize {
     say::LABEL
 }
 
-// The library's listing of query i, held to what is due.
+// What the library answered and wrote, held to what is due.
+fn compare_answer(counts: &mut [u64], text: &[u8], due: &[u8], a: Answer, out: &[u8]) {
+    match a {
+        Answer::Written(n) => say::compare(counts, text, due, part(out, 0, n)),
+        Answer::Refused(_) => say::compare(counts, text, due, b"refused\n"),
+    }
+}
+
+// The library's listing of query i.
 fn compare_listing(counts: &mut [u64], text: &[u8], i: usize, due: &[u8]) {
     let mut out = [0u8; TEXT];
     let a = listing(text, i, &mut out);
-    match a {
-        Answer::Written(n) => say::compare(counts, text, due, part(&out, 0, n)),
-        Answer::Refused(_) => say::compare(counts, text, due, b"refused\n"),
-    }
+    compare_answer(counts, text, due, a, &out);
 }
 
 fn compare_summary(counts: &mut [u64], text: &[u8], due: &[u8]) {
     let mut out = [0u8; 128];
     let a = summary(text, &mut out);
-    match a {
-        Answer::Written(n) => say::compare(counts, text, due, part(&out, 0, n)),
-        Answer::Refused(_) => say::compare(counts, text, due, b"refused\n"),
-    }
+    compare_answer(counts, text, due, a, &out);
 }
 
 // A pair is awaited exactly if the completion at all open pairs at once has other entries: else the
@@ -123,6 +126,27 @@ fn compare_settled(counts: &mut [u64], text: &[u8], due: &[u8], pair: usize, all
     say::difference(counts, text, due, b"all open pairs at once\n");
 }
 
+fn count_query(counts: &mut [u64], seen: usize, pair: usize) {
+    say::add(counts, say::QUERIES, 1);
+    say::add(counts, found_place(seen), 1);
+    say::add(counts, awaits_place(pair), 1);
+}
+
+// The listing that is due of query i, by the rows of its entries and the pair that is awaited.
+fn listing_due(
+    counts: &mut [u64],
+    g: &[u8],
+    text: &[u8],
+    i: usize,
+    seen: usize,
+    pair: usize,
+    rows: &[u8],
+) {
+    let mut due = [0u8; TEXT];
+    let n = due::put_listing(&mut due, g, i / 2, i % 2, seen, pair, rows);
+    compare_listing(counts, text, i, part(&due, 0, n));
+}
+
 // Query i, which sees so many declarations; the rows of its entries are given.
 fn entries_due(counts: &mut [u64], g: &[u8], text: &[u8], i: usize, seen: usize, rows: &[u8]) {
     let pair = completed::awaited(g, i / 2, i % 2, rows);
@@ -131,13 +155,9 @@ fn entries_due(counts: &mut [u64], g: &[u8], text: &[u8], i: usize, seen: usize,
         say::add(counts, say::LEFT_OUT, 1);
         return;
     }
-    let mut due = [0u8; TEXT];
-    let n = due::put_listing(&mut due, g, i / 2, i % 2, seen, pair, rows);
-    say::add(counts, say::QUERIES, 1);
-    say::add(counts, found_place(seen), 1);
-    say::add(counts, awaits_place(pair), 1);
-    compare_listing(counts, text, i, part(&due, 0, n));
-    compare_settled(counts, text, part(&due, 0, n), pair, all);
+    count_query(counts, seen, pair);
+    listing_due(counts, g, text, i, seen, pair, rows);
+    compare_settled(counts, text, rows, pair, all);
 }
 
 // Query i; the declarations that it sees, or the largest number where there are too many paths.

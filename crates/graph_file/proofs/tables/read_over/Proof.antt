@@ -1,7 +1,8 @@
 use mathlib.Core.Path.{sym}
 use native.Mathlib.Omega.{arith}
 use Rattle.graph_file.specs.Reader.{tableRead}
-use Rattle.graph_file.proofs.CopyLaws.{cells-refused, cells-done, refused-written, written-same}
+use Rattle.graph_file.proofs.CopyLaws.{cells-refused, cells-done}
+use Rattle.graph_file.proofs.TableLaws.{refused-written, written-same}
 use borrow.Author.Needs.{needs}
 use Rattle.graph_file.proofs.tables.read_over.Statement.{statement}
 use Rattle.graph_file.proofs.tables.read_over.Tie as tie

@@ -1,5 +1,5 @@
--- `path_row::file::decide_over` meets its contract: the text is refused, or the rows are compared by
--- what it is read as. Assumes nothing.
+-- `path_row::file::decide_over` meets its contract: the text is refused, or the rows are compared
+-- by what it is read as. Assumes nothing.
 use Rattle.graph_file.proofs.TableLaws.{made-read, over-refused, over-written}
 use Rattle.path_row.proofs.FileSteps.{decide-refused, decide-read}
 use borrow.Author.Needs.{needs}
