@@ -39,21 +39,21 @@ row-ascends least k (v ∷ w ∷ x ∷ y ∷ []) more e h a = absurd (omega arit
 row-ascends least k (v ∷ w ∷ x ∷ y ∷ z ∷ []) more e h a = (h, a)
 row-ascends least k (v ∷ w ∷ x ∷ y ∷ z ∷ u ∷ row) more e h a = absurd (omega arith)
 
-rows-ascend : (least k : ℕ) (st : Sofar) (rows : List Row) (more : List ℕ) → least ≤ k → AdmittedRows k st rows → SectionsAscend k more → SectionsAscend least (cellsOf k rows ++ more)
+rows-ascend : (form least k : ℕ) (st : Sofar) (rows : List Row) (more : List ℕ) → least ≤ k → AdmittedRows form k st rows → SectionsAscend k more → SectionsAscend least (cellsOf k rows ++ more)
 unfolding cellsOf
-rows-ascend least k st [] more h r a = ascend-from least k more h a
-rows-ascend least k st (row ∷ rows) more h r a =
+rows-ascend form least k st [] more h r a = ascend-from least k more h a
+rows-ascend form least k st (row ∷ rows) more h r a =
     rw (append-assoc row (cellsOf k rows) more)
-    (row-ascends least k row (cellsOf k rows ++ more) (r .1) h (rows-ascend k k (taken k st row) rows more (omega arith) (r .2) a))
+    (row-ascends least k row (cellsOf k rows ++ more) (r .1) h (rows-ascend form k k (taken k st row) rows more (omega arith) (r .2) a))
 
-sections-ascend : (least k : ℕ) (st : Sofar) (sections : List (List Row)) → least ≤ k → AdmittedSections k st sections → SectionsAscend least (tableCells k sections)
+sections-ascend : (form least k : ℕ) (st : Sofar) (sections : List (List Row)) → least ≤ k → AdmittedSections form k st sections → SectionsAscend least (tableCells k sections)
 unfolding tableCells
-sections-ascend least k st [] h r = tt
-sections-ascend least k st (rows ∷ rest) h r =
-    rows-ascend least k (begun st) rows (tableCells (suc k) rest) h (r .0) (sections-ascend k (suc k) (takenAll k (begun st) rows) rest (omega arith) (r .2))
+sections-ascend form least k st [] h r = tt
+sections-ascend form least k st (rows ∷ rest) h r =
+    rows-ascend form least k (begun st) rows (tableCells (suc k) rest) h (r .0) (sections-ascend form k (suc k) (takenAll k (begun st) rows) rest (omega arith) (r .2))
 
 table-ascends : (cells : List ℕ) → AdmittedTable cells → SectionsAscend 0 (drop 1 cells)
-table-ascends cells t = rw (t .cells-are) (sections-ascend 0 0 nothing (t .sections) (omega arith) (t .admitted))
+table-ascends cells t = rw (t .cells-are) (sections-ascend (t .form) 0 0 nothing (t .sections) (omega arith) (t .admitted))
 
 end-below : (labels : ℕ) (e : End ℕ) → labels ≤ 8 → EndListed labels e → endNumber e < 9
 unfolding endNumber

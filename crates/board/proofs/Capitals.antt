@@ -11,7 +11,7 @@ use borrow.Author.Tests.{eqb-true}
 use Rattle.scope_graph.specs.Language.{_∈_}
 use Rattle.scope_graph.proofs.Lists.{here, there}
 use Rattle.text_field.specs.Bytes.{isCapital}
-use Rattle.graph_file.specs.Format.{byte, labels, sections, sectionAt, form, labelSection}
+use Rattle.graph_file.specs.Format.{byte, shapesOf, shapeAt, oldForm, labelSection}
 use Rattle.text_field.specs.Outcome.{done}
 use Rattle.graph_file.specs.Admission.{Row, value, blank}
 use Rattle.graph_file.specs.Line.{Reading, byteTaken, first, readField, startsWith, readItem, placeOf, readItems}
@@ -37,9 +37,9 @@ bare-taken letters b text r e =
     (either-done (startsWith b text) _ _ e)
 
 -- a label's row holds a capital
-letter-read : (letters text : List ℕ) (r : Reading) → readItems letters (sectionAt labelSection .row) blank text ≡ done r → isCapital (value (r .values) 0) ≡ true
-unfolding sectionAt sections labels readItems readItem readField placeOf
-letter-read letters text r e =
+letter-read : (form : ℕ) (letters text : List ℕ) (r : Reading) → readItems letters (shapeAt form labelSection .row) blank text ≡ done r → isCapital (value (r .values) 0) ≡ true
+unfolding shapeAt shapesOf readItems readItem readField placeOf
+letter-read form letters text r e =
     let a = andThen-done (byteTaken (isCapital (first text)) (first text) text) _ e in
     let t = byte-taken (isCapital (first text)) (first text) text (a .0) (a .1) in
     let b = andThen-done (readItem letters (byte 10) (a .0 .rest)) _ (a .2) in
@@ -57,28 +57,28 @@ flat rs = flatMap (λ (p : Placed). p .0 ∷ p .1) rs
 Good : Placed → Type 0
 Good p = (length (p .1) ≡ 5) × (p .0 ≡ labelSection → isCapital (value (p .1) 0) ≡ true)
 
-record Told (made rest cells : List ℕ) : Type 0 where
+record Told (form : ℕ) (made rest cells : List ℕ) : Type 0 where
   so-far : made ≡ cells
   rows : List Placed
   cells-are : cells ≡ form ∷ flat rows
   good : (p : Placed) → p ∈ rows → Good p
 
-letter-at : (k : ℕ) (letters text : List ℕ) (r : Reading) → readItems letters (sectionAt k .row) blank text ≡ done r → k ≡ labelSection → isCapital (value (r .values) 0) ≡ true
-letter-at k letters text r e z = letter-read letters text r (subst (λ (n : ℕ). readItems letters (sectionAt n .row) blank text ≡ done r) z e)
+letter-at : (form k : ℕ) (letters text : List ℕ) (r : Reading) → readItems letters (shapeAt form k .row) blank text ≡ done r → k ≡ labelSection → isCapital (value (r .values) 0) ≡ true
+letter-at form k letters text r e z = letter-read form letters text r (subst (λ (n : ℕ). readItems letters (shapeAt form n .row) blank text ≡ done r) z e)
 
-letter-made : (k : ℕ) (letters rest : List ℕ) (p : Piece) → readRow k letters rest ≡ done p → k ≡ labelSection → isCapital (value (p .row) 0) ≡ true
+letter-made : (form k : ℕ) (letters rest : List ℕ) (p : Piece) → readRow form k letters rest ≡ done p → k ≡ labelSection → isCapital (value (p .row) 0) ≡ true
 unfolding readRow
-letter-made k letters rest p e =
-    let c = andThen-done (readItems letters (sectionAt k .row) blank rest) _ e in
-    subst (λ (x : Piece). k ≡ labelSection → isCapital (value (x .row) 0) ≡ true) (done-is (c .2)) (letter-at k letters rest (c .0) (c .1))
+letter-made form k letters rest p e =
+    let c = andThen-done (readItems letters (shapeAt form k .row) blank rest) _ e in
+    subst (λ (x : Piece). k ≡ labelSection → isCapital (value (x .row) 0) ≡ true) (done-is (c .2)) (letter-at form k letters rest (c .0) (c .1))
 
-reading-tells : Tells reading Told
+reading-tells : (form : ℕ) → Tells (reading form) (Told form)
 unfolding reading flat flatMap Good
-reading-tells = record {
+reading-tells form = record {
   names = λ k made rest cells p e t.
-      record { so-far = rw (names-made k rest p e, append-nil made) (t .so-far); rows = t .rows; cells-are = t .cells-are; good = t .good };
+      record { so-far = rw (names-made form k rest p e, append-nil made) (t .so-far); rows = t .rows; cells-are = t .cells-are; good = t .good };
   row = λ k letters made rest cells p m e t.
-      let r = row-made k letters rest p e in
+      let r = row-made form k letters rest p e in
       let one : List Placed = (k, p .row) ∷ [] in (
         r .0,
         record {
@@ -90,7 +90,7 @@ reading-tells = record {
               ∙ ap (λ (l : List ℕ). form ∷ l) (sym (flatMap-append (λ (x : Placed). x .0 ∷ x .1) (t .rows) one));
           good = λ x i.
               ⊎-elim (λ j. t .good x j)
-              (λ j. ⊎-elim (λ s. rw s (r .0, letter-made k letters rest p e)) (λ n. absurd (List·Memᴰ·not-nil n)) (List·Memᴰ·cases-cons j))
+              (λ j. ⊎-elim (λ s. rw s (r .0, letter-made form k letters rest p e)) (λ n. absurd (List·Memᴰ·not-nil n)) (List·Memᴰ·cases-cons j))
               (List·Memᴰ·append-cases (t .rows) i);
         },
       );
@@ -108,14 +108,14 @@ among-good (p ∷ rs) h row m =
     kept false e n later = later n
 
 pub capitals : (text cells : List ℕ) → readCells text ≡ done cells → (row : Row) → row ∈ rowsIn labelSection cells → isCapital (value row 0) ≡ true
-unfolding readCells readStage madeOf rowsIn flat flatMap
+unfolding readCells readStage madeOf rowsIn flat flatMap reading
 capitals text cells e row m =
     let c = andThen-done (readStage text) (λ g. done (g .made)) e in
     ⊎-elim (λ x. absurd (let z : _≡_ {A = ℕ} 0 1 = cc in omega arith))
     (λ x.
-    let a = whole-admitted reading Told reading-tells (form ∷ []) text (c .0) (x .1)
+    let a = whole-admitted (reading oldForm) (Told oldForm) (reading-tells oldForm) (oldForm ∷ []) text (c .0) (x .1)
     (record { so-far = refl; rows = []; cells-are = refl; good = λ p i. absurd (List·Memᴰ·not-nil i) }) in
     let t = a .1 in
-    let s : cells ≡ form ∷ flat (t .rows) = sym (done-is (c .2)) ∙ t .so-far ∙ t .cells-are in
+    let s : cells ≡ oldForm ∷ flat (t .rows) = sym (done-is (c .2)) ∙ t .so-far ∙ t .cells-are in
     among-good (t .rows) (t .good) row (rw s at m))
     (either-done (ltb 32768 (length text)) _ _ (c .1))

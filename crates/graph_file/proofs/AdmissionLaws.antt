@@ -11,7 +11,7 @@ use lib.ListN.{drop}
 use native.Mathlib.Nat.{sub-zero}
 use lib.Dec.{eqb·zero-suc, eqb·suc-suc}
 use Rattle.graph_file.specs.declared.rows.Counts.{Counts}
-use Rattle.graph_file.specs.Format.{Sequence, ascending, once, free, sectionAt}
+use Rattle.graph_file.specs.Format.{Sequence, ascending, once, free, sectionAt, shapeAt}
 use Rattle.graph_file.specs.Admission.{Row, value, rowOf, inRange, keyLess, listed, follows, unless, admission}
 use Rattle.graph_file.specs.Line.{place}
 use Rattle.graph_file.specs.Table.{formatBytes, keyStep, keyAt, itemsAt, rowPlace, lettersAt, lastAt, sofarAt}
@@ -77,17 +77,17 @@ module _ (q : Sequence) (key letters : List ℕ) (rows : ℕ) (last row : Row) w
   follows-free e = ap (λ (s : Sequence). follows s key letters rows last row) (sym e)
 
 -- the refusals of the row at place p of a table, in their sequence
-module _ (k : ℕ) (t : List ℕ) (p : ℕ) (c : Counts) where
-  pub refused-full : sectionAt k .most ≤ c .rows → admission (sectionAt k) (sofarAt t p c) (rowOf (drop p t)) ≡ 5
+module _ (form k : ℕ) (t : List ℕ) (p : ℕ) (c : Counts) where
+  pub refused-full : sectionAt k .most ≤ c .rows → admission form k (sofarAt t p c) (rowOf (drop p t)) ≡ 5
   unfolding admission sofarAt unless
   refused-full h = rw (le-ltb (c .rows) (sectionAt k .most) h)
 
   module _ (room : c .rows < sectionAt k .most) where
-    pub refused-range : inRange (c .labels) (c .scopes) (itemsAt (rowPlace k)) (rowOf (drop p t)) ≡ false → admission (sectionAt k) (sofarAt t p c) (rowOf (drop p t)) ≡ 3
+    pub refused-range : inRange (c .labels) (c .scopes) (itemsAt (rowPlace form k)) (rowOf (drop p t)) ≡ false → admission form k (sofarAt t p c) (rowOf (drop p t)) ≡ 3
     unfolding admission sofarAt unless
-    refused-range e = rw (lt-ltb (c .rows) (sectionAt k .most) room, letters-length (c .labels) (drop 1 t), ← row-items k, e)
+    refused-range e = rw (lt-ltb (c .rows) (sectionAt k .most) room, letters-length (c .labels) (drop 1 t), ← row-items form k, e)
 
-    module _ (ranged : inRange (c .labels) (c .scopes) (itemsAt (rowPlace k)) (rowOf (drop p t)) ≡ true) where
-      pub follows-last : {b : Bool} → follows (sectionAt k .sequence) (sectionAt k .key) (lettersAt (c .labels) (drop 1 t)) (c .rows) (lastAt (c .rows) p t) (rowOf (drop p t)) ≡ b → admission (sectionAt k) (sofarAt t p c) (rowOf (drop p t)) ≡ unless b 4 0
+    module _ (ranged : inRange (c .labels) (c .scopes) (itemsAt (rowPlace form k)) (rowOf (drop p t)) ≡ true) where
+      pub follows-last : {b : Bool} → follows (sectionAt k .sequence) (sectionAt k .key) (lettersAt (c .labels) (drop 1 t)) (c .rows) (lastAt (c .rows) p t) (rowOf (drop p t)) ≡ b → admission form k (sofarAt t p c) (rowOf (drop p t)) ≡ unless b 4 0
       unfolding admission sofarAt unless
-      follows-last e = rw (lt-ltb (c .rows) (sectionAt k .most) room, letters-length (c .labels) (drop 1 t), ← row-items k, ranged, e)
+      follows-last e = rw (lt-ltb (c .rows) (sectionAt k .most) room, letters-length (c .labels) (drop 1 t), ← row-items form k, ranged, e)

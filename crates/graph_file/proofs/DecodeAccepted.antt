@@ -16,8 +16,8 @@ use Rattle.scope_graph.specs.Order.{endOf}
 use Rattle.scope_graph.specs.Listing.{Pairwise, EdgeBefore, MarkBefore, Accepted}
 use Rattle.scope_graph.proofs.Lists.{here, there, and-left, and-right, map-elim}
 use Rattle.scope_graph.proofs.Rows.{language-laws}
-use Rattle.graph_file.specs.Format.{Kind, state, scope, mark, count, label, end, field, ascending, labels, pairs, transitions, accepts, scopeCount, edges, declarations, openPairs, queries, sections, sectionAt, labelSection, pairSection, transitionSection, acceptSection, countSection, edgeSection, declarationSection, openSection, querySection}
-use Rattle.graph_file.specs.Admission.{Row, value, blank, kindInRange, itemInRange, inRange}
+use Rattle.graph_file.specs.Format.{Content, state, scope, mark, count, label, end, field, ascending, labels, pairs, transitions, accepts, scopeCount, edges, declarations, openPairs, queries, sections, sectionAt, shapesOf, shapeAt, labelSection, pairSection, transitionSection, acceptSection, countSection, edgeSection, declarationSection, openSection, querySection}
+use Rattle.graph_file.specs.Admission.{Row, value, blank, contentInRange, itemInRange, inRange}
 use Rattle.graph_file.specs.Decode.{rowsIn, lettersOf, orderPairOf, transitionOf, rulesOf, nameAt, edgeOf, declarationOf, openPairOf, queryOf, scopesOf, graphOf, opensOf, queriesOf}
 use Rattle.graph_file.specs.Accepted.{EndListed, TransitionBefore, AcceptedTable, ReadAccepted, WrittenAccepted}
 use Rattle.graph_file.proofs.DecodeWay.{AdmittedTable, read-admitted, written-admitted}
@@ -63,38 +63,38 @@ open-key r a b k =
 
 module _ (cells : List ℕ) (t : AdmittedTable cells) where
   -- a field of a row is in its range
-  field-in : (k : ℕ) → k < 9 → (kind : Kind) (c : ℕ) → field kind c ∈ sectionAt k .row → (row : Row) → row ∈ rowsIn k cells
-      → kindInRange (length (lettersOf cells)) (scopesOf cells) kind (value row c) ≡ true
+  field-in : (k : ℕ) → k < 9 → (content : Content) (c : ℕ) → field content c ∈ shapeAt (t .form) k .row → (row : Row) → row ∈ rowsIn k cells
+      → contentInRange (length (lettersOf cells)) (scopesOf cells) content (value row c) ≡ true
   unfolding inRange itemInRange
-  field-in k h kind c m row r = item-in _ (sectionAt k .row) (field kind c) m (table-in-range cells t k h row r)
+  field-in k h content c m row r = item-in _ (shapeAt (t .form) k .row) (field content c) m (table-in-range cells t k h row r)
 
   module _ (k : ℕ) (h : k < 9) (c : ℕ) where
-    scope-in : field scope c ∈ sectionAt k .row → (row : Row) → row ∈ rowsIn k cells → value row c < scopesOf cells
-    unfolding kindInRange
+    scope-in : field scope c ∈ shapeAt (t .form) k .row → (row : Row) → row ∈ rowsIn k cells → value row c < scopesOf cells
+    unfolding contentInRange
     scope-in m row r = ltb-true _ _ (field-in k h scope c m row r)
 
-    label-in : field label c ∈ sectionAt k .row → (row : Row) → row ∈ rowsIn k cells → value row c < length (lettersOf cells)
-    unfolding kindInRange
+    label-in : field label c ∈ shapeAt (t .form) k .row → (row : Row) → row ∈ rowsIn k cells → value row c < length (lettersOf cells)
+    unfolding contentInRange
     label-in m row r = ltb-true _ _ (field-in k h label c m row r)
 
-    state-in : field state c ∈ sectionAt k .row → (row : Row) → row ∈ rowsIn k cells → value row c < 16
-    unfolding kindInRange
+    state-in : field state c ∈ shapeAt (t .form) k .row → (row : Row) → row ∈ rowsIn k cells → value row c < 16
+    unfolding contentInRange
     state-in m row r = ltb-true _ _ (field-in k h state c m row r)
 
-    mark-in : field mark c ∈ sectionAt k .row → (row : Row) → row ∈ rowsIn k cells → value row c < 65536
-    unfolding kindInRange
+    mark-in : field mark c ∈ shapeAt (t .form) k .row → (row : Row) → row ∈ rowsIn k cells → value row c < 65536
+    unfolding contentInRange
     mark-in m row r = ltb-true _ _ (field-in k h mark c m row r)
 
-    end-in : field end c ∈ sectionAt k .row → (row : Row) → row ∈ rowsIn k cells → EndListed (length (lettersOf cells)) (endOf (value row c))
-    unfolding kindInRange
+    end-in : field end c ∈ shapeAt (t .form) k .row → (row : Row) → row ∈ rowsIn k cells → EndListed (length (lettersOf cells)) (endOf (value row c))
+    unfolding contentInRange
     end-in m row r = endOf-listed _ _ (leb-true _ _ (field-in k h end c m row r))
 
   count-in : (leb 1 (scopesOf cells) && leb (scopesOf cells) 64) ≡ true
-  unfolding sectionAt sections scopeCount kindInRange scopesOf
+  unfolding shapeAt shapesOf contentInRange scopesOf
   count-in = field-in countSection (omega arith) count 0 here (getD (rowsIn countSection cells) 0 blank) (rw (table-count cells t) here)
 
   rules-pass : RulesPass (rulesOf cells)
-  unfolding rulesOf transitionOf sectionAt sections transitions
+  unfolding rulesOf transitionOf shapeAt shapesOf
   rules-pass = record {
     order = order-passes (rowsIn pairSection cells) (table-order cells t);
     labels = each transitionOf (λ (x : Transition). x .label < length (lettersOf cells)) (rowsIn transitionSection cells)
@@ -116,7 +116,7 @@ module _ (cells : List ℕ) (t : AdmittedTable cells) where
   asOpenPair = openPairOf (rulesOf cells)
 
   in-range : InRange L (graphOf cells)
-  unfolding graphOf edgeOf declarationOf rulesOf sectionAt sections edges declarations
+  unfolding graphOf edgeOf declarationOf rulesOf shapeAt shapesOf
   in-range = record {
     from-scope = each asEdge (λ (e : Edge L). e .from < scopesOf cells) (rowsIn edgeSection cells) (scope-in edgeSection (omega arith) 0 here);
     to-scope = each asEdge (λ (e : Edge L). e .to < scopesOf cells) (rowsIn edgeSection cells)
@@ -145,7 +145,7 @@ module _ (cells : List ℕ) (t : AdmittedTable cells) where
   }
 
   pub table-accepted : AcceptedTable cells
-  unfolding rulesOf graphOf opensOf queriesOf orderPairOf transitionOf declarationOf openPairOf queryOf lettersOf sectionAt sections labels pairs transitions accepts declarations openPairs queries
+  unfolding rulesOf graphOf opensOf queriesOf orderPairOf transitionOf declarationOf openPairOf queryOf lettersOf sectionAt sections labels transitions shapeAt shapesOf
   table-accepted = record {
     rules = rules-pass;
     accepted = accepted;

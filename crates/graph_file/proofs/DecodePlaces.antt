@@ -16,12 +16,12 @@ use Rattle.graph_file.proofs.DecodeSections.{joinedIf, gathered, gather
 use Rattle.graph_file.proofs.DecodeTable.{rows-are, section-in, table-limit}
 
 -- six cells to a row
-pub cells-length : (k : ℕ) (st : Sofar) (rows : List Row) → AdmittedRows k st rows → length (cellsOf k rows) ≡ 6 * length rows
+pub cells-length : (form k : ℕ) (st : Sofar) (rows : List Row) → AdmittedRows form k st rows → length (cellsOf k rows) ≡ 6 * length rows
 unfolding cellsOf
-cells-length k st [] h = refl
-cells-length k st (row ∷ rows) h =
+cells-length form k st [] h = refl
+cells-length form k st (row ∷ rows) h =
     let five = h .1 in
-    omega (arith, cells-length k (taken k st row) rows (h .2), length-append row (cellsOf k rows))
+    omega (arith, cells-length form k (taken k st row) rows (h .2), length-append row (cellsOf k rows))
 
 row-first : (k : ℕ) (row more : List ℕ) → length row ≡ 5 → rowOf (k ∷ (row ++ more)) ≡ row
 unfolding rowOf
@@ -33,12 +33,12 @@ row-first k (a ∷ b ∷ c ∷ d ∷ []) more h = absurd (omega arith)
 row-first k (a ∷ b ∷ c ∷ d ∷ e ∷ []) more h = refl
 row-first k (a ∷ b ∷ c ∷ d ∷ e ∷ f ∷ l) more h = absurd (omega arith)
 
-rows-first : (k : ℕ) (st : Sofar) (rows : List Row) (more : List ℕ) → AdmittedRows k st rows → rowsAt (length rows) (cellsOf k rows ++ more) ≡ rows
+rows-first : (form k : ℕ) (st : Sofar) (rows : List Row) (more : List ℕ) → AdmittedRows form k st rows → rowsAt (length rows) (cellsOf k rows ++ more) ≡ rows
 unfolding rowsAt cellsOf
-rows-first k st [] more h = refl
-rows-first k st (row ∷ rows) more h =
+rows-first form k st [] more h = refl
+rows-first form k st (row ∷ rows) more h =
     rw (append-assoc row (cellsOf k rows) more, row-first k row (cellsOf k rows ++ more) (h .1), drop-at row (cellsOf k rows ++ more) 5 (h .1))
-    (ap (λ (l : List Row). row ∷ l) (rows-first k (taken k st row) rows more (h .2)))
+    (ap (λ (l : List Row). row ∷ l) (rows-first form k (taken k st row) rows more (h .2)))
 
 -- the lists hold section k's rows at place k
 gathered-at : (j k i : ℕ) (sections : List (List Row)) → j ≡ k + i → gathered j k sections ≡ getD sections i []
@@ -67,13 +67,13 @@ module _ (cells : List ℕ) (t : AdmittedTable cells) where
       let s = section-in cells t k (omega arith) in
       sym (drop-drop (6 * length (rowsIn k cells)) (sectionPlace k cells) cells)
       ∙ ap (drop (6 * length (rowsIn k cells))) (place-split k (omega arith) (place-cells k (omega arith)))
-      ∙ drop-at (cellsOf k (rowsIn k cells)) (tableCells (suc k) (drop (suc k) (t .sections))) (6 * length (rowsIn k cells)) (cells-length k (begun (s .before)) (rowsIn k cells) (s .admitted))
+      ∙ drop-at (cellsOf k (rowsIn k cells)) (tableCells (suc k) (drop (suc k) (t .sections))) (6 * length (rowsIn k cells)) (cells-length (t .form) k (begun (s .before)) (rowsIn k cells) (s .admitted))
 
   pub table-rows : (k : ℕ) → k < 9 → rowsAt (length (rowsIn k cells)) (drop (sectionPlace k cells) cells) ≡ rowsIn k cells
   table-rows k h =
       let s = section-in cells t k h in
       ap (rowsAt (length (rowsIn k cells))) (place-split k h (place-cells k (omega arith)))
-      ∙ rows-first k (begun (s .before)) (rowsIn k cells) (tableCells (suc k) (drop (suc k) (t .sections))) (s .admitted)
+      ∙ rows-first (t .form) k (begun (s .before)) (rowsIn k cells) (tableCells (suc k) (drop (suc k) (t .sections))) (s .admitted)
 
   -- the table ends where the last section does
   rest-length : (k : ℕ) → k < 9 → length (tableCells k (drop k (t .sections))) ≡ 6 * length (rowsIn k cells) + length (tableCells (suc k) (drop (suc k) (t .sections)))
@@ -83,7 +83,7 @@ module _ (cells : List ℕ) (t : AdmittedTable cells) where
       let s = section-in cells t k h in
       ap (λ (l : List (List Row)). length (tableCells k l)) (drop-cons (t .sections) k [] (omega arith) ∙ ap (λ (l : List Row). l ∷ drop (suc k) (t .sections)) (listed-at k))
       ∙ length-append (cellsOf k (rowsIn k cells)) (tableCells (suc k) (drop (suc k) (t .sections)))
-      ∙ ap (λ n. n + length (tableCells (suc k) (drop (suc k) (t .sections)))) (cells-length k (begun (s .before)) (rowsIn k cells) (s .admitted))
+      ∙ ap (λ n. n + length (tableCells (suc k) (drop (suc k) (t .sections)))) (cells-length (t .form) k (begun (s .before)) (rowsIn k cells) (s .admitted))
 
   length-from : (k : ℕ) → k ≤ 9 → length cells ≡ sectionPlace k cells + length (tableCells k (drop k (t .sections)))
   unfolding sectionPlace

@@ -13,8 +13,8 @@ use Rattle.scope_graph.specs.Language.{_∈_}
 use Rattle.scope_graph.specs.Path.{Distinct}
 use Rattle.scope_graph.specs.Listing.{Pairwise}
 use Rattle.scope_graph.proofs.Lists.{Two, and-left, and-right, and-both, or-cases, or-left, or-right, true-false, not-is, not-true}
-use Rattle.graph_file.specs.Format.{Kind, state, scope, mark, count, letter, label, end, name, Item, byte, field, everyItem, ascending, Section, labels, scopeCount, sections, sectionAt, labelSection, countSection}
-use Rattle.graph_file.specs.Admission.{Row, value, Sofar, joined, counted, taken, kindInRange, itemInRange, inRange, keyLess, listed, follows, unless, admission}
+use Rattle.graph_file.specs.Format.{Content, state, scope, mark, count, letter, label, end, name, Item, byte, field, everyItem, ascending, labels, scopeCount, sections, sectionAt, shapeAt, labelSection, countSection}
+use Rattle.graph_file.specs.Admission.{Row, value, Sofar, joined, counted, taken, contentInRange, itemInRange, inRange, keyLess, listed, follows, unless, admission}
 use Rattle.graph_file.proofs.DecodeWay.{takenAll, AdmittedRows}
 
 -- the three tests of an admitted row
@@ -23,46 +23,46 @@ unfolding unless
 unless-zero true n o e = (refl, e)
 unless-zero false n o e = absurd (let z : _≡_ {A = ℕ} (suc n) 0 = e in omega arith)
 
-pub record Passed (s : Section) (st : Sofar) (row : Row) : Type 0 where
-  pub room : st .rows < s .most
-  pub in-range : inRange (length (st .letters)) (st .scopes) (s .row) row ≡ true
-  pub follow : follows (s .sequence) (s .key) (st .letters) (st .rows) (st .last) row ≡ true
+pub record Passed (form k : ℕ) (st : Sofar) (row : Row) : Type 0 where
+  pub room : st .rows < sectionAt k .most
+  pub in-range : inRange (length (st .letters)) (st .scopes) (shapeAt form k .row) row ≡ true
+  pub follow : follows (sectionAt k .sequence) (sectionAt k .key) (st .letters) (st .rows) (st .last) row ≡ true
 
-pub passed : (s : Section) (st : Sofar) (row : Row) → admission s st row ≡ 0 → Passed s st row
+pub passed : (form k : ℕ) (st : Sofar) (row : Row) → admission form k st row ≡ 0 → Passed form k st row
 unfolding admission
-passed s st row e =
+passed form k st row e =
     let a = unless-zero _ 4 _ e in
     let b = unless-zero _ 2 _ (a .1) in
     let c = unless-zero _ 3 _ (b .1) in
     record { room = ltb-true _ _ (a .0); in-range = b .0; follow = c .0 }
 
 -- a section's limit
-pub rows-limit : (k : ℕ) (st : Sofar) (rows : List Row) → AdmittedRows k st rows → st .rows ≤ sectionAt k .most → st .rows + length rows ≤ sectionAt k .most
+pub rows-limit : (form k : ℕ) (st : Sofar) (rows : List Row) → AdmittedRows form k st rows → st .rows ≤ sectionAt k .most → st .rows + length rows ≤ sectionAt k .most
 unfolding taken
-rows-limit k st [] h l = omega arith
-rows-limit k st (row ∷ rows) h l =
-    let p = passed (sectionAt k) st row (h .0) in
+rows-limit form k st [] h l = omega arith
+rows-limit form k st (row ∷ rows) h l =
+    let p = passed form k st row (h .0) in
     let r = p .room in
-    let n : st .rows + 1 + length rows ≤ sectionAt k .most = rows-limit k (taken k st row) rows (h .2) (omega arith) in
+    let n : st .rows + 1 + length rows ≤ sectionAt k .most = rows-limit form k (taken k st row) rows (h .2) (omega arith) in
     omega arith
 
 -- What is in range stays so when labels or scopes are added.
 module _ (a b c d : ℕ) (labels : a ≤ b) (scopes : c ≤ d) where
-  kind-grows : (k : Kind) (v : ℕ) → kindInRange a c k v ≡ true → kindInRange b d k v ≡ true
-  unfolding kindInRange
-  kind-grows state v h = h
-  kind-grows scope v h = lt-ltb v d (let l = ltb-true v c h in omega arith)
-  kind-grows mark v h = h
-  kind-grows count v h = h
-  kind-grows letter v h = h
-  kind-grows label v h = lt-ltb v b (let l = ltb-true v a h in omega arith)
-  kind-grows end v h = le-leb v b (let l = leb-true v a h in omega arith)
-  kind-grows name v h = h
+  content-grows : (k : Content) (v : ℕ) → contentInRange a c k v ≡ true → contentInRange b d k v ≡ true
+  unfolding contentInRange
+  content-grows state v h = h
+  content-grows scope v h = lt-ltb v d (let l = ltb-true v c h in omega arith)
+  content-grows mark v h = h
+  content-grows count v h = h
+  content-grows letter v h = h
+  content-grows label v h = lt-ltb v b (let l = ltb-true v a h in omega arith)
+  content-grows end v h = le-leb v b (let l = leb-true v a h in omega arith)
+  content-grows name v h = h
 
   item-grows : (row : Row) (i : Item) → itemInRange a c row i ≡ true → itemInRange b d row i ≡ true
   unfolding itemInRange
   item-grows row (byte x) h = h
-  item-grows row (field k p) h = kind-grows k (value row p) h
+  item-grows row (field k p) h = content-grows k (value row p) h
 
   pub range-grows : (items : List Item) (row : Row) → inRange a c items row ≡ true → inRange b d items row ≡ true
   unfolding inRange everyItem
@@ -102,10 +102,10 @@ count-most : (k : ℕ) → k ≡ countSection → sectionAt k .most ≡ 1
 unfolding sectionAt sections scopeCount
 count-most k e = rw e
 
-count-first : (k : ℕ) (st : Sofar) (row : Row) → Passed (sectionAt k) st row → Fresh k st → k ≡ countSection → st .scopes ≡ 0
-count-first k st row p (inl z) e = z
-count-first k st row p (inr (inl l)) e = absurd (omega arith)
-count-first k st row p (inr (inr m)) e = let r = p .room in let o = m .1 in absurd (omega (arith, count-most k e))
+count-first : (form k : ℕ) (st : Sofar) (row : Row) → Passed form k st row → Fresh k st → k ≡ countSection → st .scopes ≡ 0
+count-first form k st row p (inl z) e = z
+count-first form k st row p (inr (inl l)) e = absurd (omega arith)
+count-first form k st row p (inr (inr m)) e = let r = p .room in let o = m .1 in absurd (omega (arith, count-most k e))
 
 scopes-other : (k : ℕ) (st : Sofar) (row : Row) → eqb k countSection ≡ false → taken k st row .scopes ≡ st .scopes
 unfolding taken counted
@@ -117,39 +117,39 @@ fresh-row k st row e (inl z) = inl (e ∙ z)
 fresh-row k st row e (inr (inl l)) = inr (inl l)
 fresh-row k st row e (inr (inr m)) = inr (inr (m .0, omega arith))
 
-row-grows : (k : ℕ) (st : Sofar) (row : Row) → Passed (sectionAt k) st row → Fresh k st → Grows st (taken k st row) × Fresh k (taken k st row)
+row-grows : (form k : ℕ) (st : Sofar) (row : Row) → Passed form k st row → Fresh k st → Grows st (taken k st row) × Fresh k (taken k st row)
 unfolding taken
-row-grows k st row p f =
+row-grows form k st row p f =
     ⊎-elim
     (λ e.
-    let z = count-first k st row p f (eqb-true k countSection e) in
+    let z = count-first form k st row p f (eqb-true k countSection e) in
     (record { labels = joined-grows _ _ _; scopes = omega arith }, inr (inr (eqb-true k countSection e, omega arith))))
     (λ e.
     let s = scopes-other k st row e in
     (record { labels = joined-grows _ _ _; scopes = omega arith }, fresh-row k st row s f))
     (Two (eqb k countSection))
 
-pub rows-grow : (k : ℕ) (st : Sofar) (rows : List Row) → AdmittedRows k st rows → Fresh k st → Grows st (takenAll k st rows) × Fresh k (takenAll k st rows)
+pub rows-grow : (form k : ℕ) (st : Sofar) (rows : List Row) → AdmittedRows form k st rows → Fresh k st → Grows st (takenAll k st rows) × Fresh k (takenAll k st rows)
 unfolding takenAll
-rows-grow k st [] h f = (record { labels = omega arith; scopes = omega arith }, f)
-rows-grow k st (row ∷ rows) h f =
-    let a = row-grows k st row (passed (sectionAt k) st row (h .0)) f in
-    let b = rows-grow k (taken k st row) rows (h .2) (a .1) in
+rows-grow form k st [] h f = (record { labels = omega arith; scopes = omega arith }, f)
+rows-grow form k st (row ∷ rows) h f =
+    let a = row-grows form k st row (passed form k st row (h .0)) f in
+    let b = rows-grow form k (taken k st row) rows (h .2) (a .1) in
     (grows-then st (taken k st row) (takenAll k (taken k st row) rows) (a .0) (b .0), b .1)
 
 -- so each row is in range by the labels and the scopes of any later moment
-pub rows-in-range : (k : ℕ) (st f : Sofar) (rows : List Row) → AdmittedRows k st rows → Fresh k st → Grows (takenAll k st rows) f
-    → (row : Row) → row ∈ rows → inRange (length (f .letters)) (f .scopes) (sectionAt k .row) row ≡ true
+pub rows-in-range : (form k : ℕ) (st f : Sofar) (rows : List Row) → AdmittedRows form k st rows → Fresh k st → Grows (takenAll k st rows) f
+    → (row : Row) → row ∈ rows → inRange (length (f .letters)) (f .scopes) (shapeAt form k .row) row ≡ true
 unfolding takenAll
-rows-in-range k st f [] h r g row m = absurd (List·Memᴰ·not-nil m)
-rows-in-range k st f (first ∷ rows) h r g row m =
-    let p = passed (sectionAt k) st first (h .0) in
-    let a = row-grows k st first p r in
+rows-in-range form k st f [] h r g row m = absurd (List·Memᴰ·not-nil m)
+rows-in-range form k st f (first ∷ rows) h r g row m =
+    let p = passed form k st first (h .0) in
+    let a = row-grows form k st first p r in
     ⊎-elim
     (λ e.
-    let all = grows-then st (takenAll k st (first ∷ rows)) f (rows-grow k st (first ∷ rows) h r .0) g in
-    rw e (range-grows _ _ _ _ (all .labels) (all .scopes) (sectionAt k .row) first (p .in-range)))
-    (λ n. rows-in-range k (taken k st first) f rows (h .2) (a .1) g row n)
+    let all = grows-then st (takenAll k st (first ∷ rows)) f (rows-grow form k st (first ∷ rows) h r .0) g in
+    rw e (range-grows _ _ _ _ (all .labels) (all .scopes) (shapeAt form k .row) first (p .in-range)))
+    (λ n. rows-in-range form k (taken k st first) f rows (h .2) (a .1) g row n)
     (List·Memᴰ·cases-cons m)
 
 -- the order by a key: less at the first place where the rows differ
@@ -173,27 +173,27 @@ key-then (p ∷ key) a b c (inr h) (inl k) = inl (let e = h .0 in omega arith)
 key-then (p ∷ key) a b c (inr h) (inr k) = inr (h .0 ∙ k .0, key-then key a b c (h .1) (k .1))
 
 -- rows of an ascending section ascend, each before all that come later
-follow-key : (k : ℕ) (st : Sofar) (row : Row) → sectionAt k .sequence ≡ ascending → Passed (sectionAt k) st row → 1 ≤ st .rows
+follow-key : (form k : ℕ) (st : Sofar) (row : Row) → sectionAt k .sequence ≡ ascending → Passed form k st row → 1 ≤ st .rows
     → KeyBefore (sectionAt k .key) (st .last) row
 unfolding follows
-follow-key k st row e p n =
+follow-key form k st row e p n =
     ⊎-elim (λ z. absurd (let q = eqb-true (st .rows) 0 z in omega arith)) (λ l. key-before (sectionAt k .key) (st .last) row l)
     (or-cases (eqb (st .rows) 0) _ (rw e at (p .follow)))
 
-rows-ascend-after : (k : ℕ) (st : Sofar) (rows : List Row) → sectionAt k .sequence ≡ ascending → AdmittedRows k st rows → 1 ≤ st .rows
+rows-ascend-after : (form k : ℕ) (st : Sofar) (rows : List Row) → sectionAt k .sequence ≡ ascending → AdmittedRows form k st rows → 1 ≤ st .rows
     → ((row : Row) → row ∈ rows → KeyBefore (sectionAt k .key) (st .last) row) × Pairwise (KeyBefore (sectionAt k .key)) rows
 unfolding taken
-rows-ascend-after k st [] e h n = ((λ row m. absurd (List·Memᴰ·not-nil m)), tt)
-rows-ascend-after k st (row ∷ rows) e h n =
-    let p = follow-key k st row e (passed (sectionAt k) st row (h .0)) n in
-    let r = rows-ascend-after k (taken k st row) rows e (h .2) (omega arith) in
+rows-ascend-after form k st [] e h n = ((λ row m. absurd (List·Memᴰ·not-nil m)), tt)
+rows-ascend-after form k st (row ∷ rows) e h n =
+    let p = follow-key form k st row e (passed form k st row (h .0)) n in
+    let r = rows-ascend-after form k (taken k st row) rows e (h .2) (omega arith) in
     ((λ later m. ⊎-elim (λ q. rw q p) (λ q. key-then (sectionAt k .key) (st .last) row later p (r .0 later q)) (List·Memᴰ·cases-cons m)), r)
 
-pub rows-ascend : (k : ℕ) (st : Sofar) (rows : List Row) → sectionAt k .sequence ≡ ascending → AdmittedRows k st rows
+pub rows-ascend : (form k : ℕ) (st : Sofar) (rows : List Row) → sectionAt k .sequence ≡ ascending → AdmittedRows form k st rows
     → Pairwise (KeyBefore (sectionAt k .key)) rows
 unfolding taken
-rows-ascend k st [] e h = tt
-rows-ascend k st (row ∷ rows) e h = rows-ascend-after k (taken k st row) rows e (h .2) (omega arith)
+rows-ascend form k st [] e h = tt
+rows-ascend form k st (row ∷ rows) e h = rows-ascend-after form k (taken k st row) rows e (h .2) (omega arith)
 
 -- a label's letter is none of the letters before it, so each stands once
 not-listed : (x : ℕ) (ys : List ℕ) → listed x ys ≡ false → ¬ (x ∈ ys)
@@ -204,13 +204,13 @@ not-listed x (y ∷ ys) h m =
     (λ n. not-listed x ys (not-true (listed x ys) (λ t. true-false (or-right (eqb y x) (listed x ys) t) h)) n)
     (List·Memᴰ·cases-cons m)
 
-pub rows-once : (st : Sofar) (rows : List Row) → AdmittedRows labelSection st rows
+pub rows-once : (form : ℕ) (st : Sofar) (rows : List Row) → AdmittedRows form labelSection st rows
     → ((x : ℕ) → x ∈ map (λ (row : Row). value row 0) rows → ¬ (x ∈ st .letters)) × Distinct (map (λ (row : Row). value row 0) rows)
 unfolding taken joined follows sectionAt sections labels
-rows-once st [] h = ((λ x m. absurd (List·Memᴰ·not-nil m)), tt)
-rows-once st (row ∷ rows) h =
-    let new = not-listed (value row 0) (st .letters) (not-is _ (passed (sectionAt labelSection) st row (h .0) .follow)) in
-    let r = rows-once (taken labelSection st row) rows (h .2) in (
+rows-once form st [] h = ((λ x m. absurd (List·Memᴰ·not-nil m)), tt)
+rows-once form st (row ∷ rows) h =
+    let new = not-listed (value row 0) (st .letters) (not-is _ (passed form labelSection st row (h .0) .follow)) in
+    let r = rows-once form (taken labelSection st row) rows (h .2) in (
       (λ x m. ⊎-elim (λ e n. new (Memᴰ·cast (sym e) n)) (λ k n. r .0 x k (Memᴰ·append-left (value row 0 ∷ []) n)) (List·Memᴰ·cases-cons m)),
       ((λ m. r .0 (value row 0) m (Memᴰ·append-right (st .letters) (List·Memᴰ·head refl))), r .1),
     )

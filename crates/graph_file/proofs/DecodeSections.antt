@@ -45,23 +45,23 @@ unfolding joinedIf
 joined-none true more = refl
 joined-none false more = refl
 
-among-rows : (j k : ℕ) (st : Sofar) (rows : List Row) (more : List ℕ) → AdmittedRows k st rows
+among-rows : (form j k : ℕ) (st : Sofar) (rows : List Row) (more : List ℕ) → AdmittedRows form k st rows
     → rowsAmong j (cellsOf k rows ++ more) ≡ joinedIf (eqb k j) rows (rowsAmong j more)
 unfolding cellsOf
-among-rows j k st [] more h = joined-none (eqb k j) (rowsAmong j more)
-among-rows j k st (row ∷ rows) more h =
+among-rows form j k st [] more h = joined-none (eqb k j) (rowsAmong j more)
+among-rows form j k st (row ∷ rows) more h =
     ap (λ (l : List ℕ). rowsAmong j (k ∷ l)) (append-assoc row (cellsOf k rows) more)
     ∙ among-row j k row (cellsOf k rows ++ more) (h .1)
-    ∙ ap (keptIf (eqb k j) row) (among-rows j k (taken k st row) rows more (h .2))
+    ∙ ap (keptIf (eqb k j) row) (among-rows form j k (taken k st row) rows more (h .2))
     ∙ kept-joined (eqb k j) row rows (rowsAmong j more)
 
-pub among-sections : (j k : ℕ) (st : Sofar) (sections : List (List Row)) → AdmittedSections k st sections
+pub among-sections : (form j k : ℕ) (st : Sofar) (sections : List (List Row)) → AdmittedSections form k st sections
     → rowsAmong j (tableCells k sections) ≡ gathered j k sections
 unfolding tableCells gathered rowsAmong
-among-sections j k st [] h = refl
-among-sections j k st (rows ∷ rest) h =
-    among-rows j k (begun st) rows (tableCells (suc k) rest) (h .0)
-    ∙ ap (joinedIf (eqb k j) rows) (among-sections j (suc k) (takenAll k (begun st) rows) rest (h .2))
+among-sections form j k st [] h = refl
+among-sections form j k st (rows ∷ rest) h =
+    among-rows form j k (begun st) rows (tableCells (suc k) rest) (h .0)
+    ∙ ap (joinedIf (eqb k j) rows) (among-sections form j (suc k) (takenAll k (begun st) rows) rest (h .2))
 
 -- section j has none among the sections after it
 pub gathered-later : (j k : ℕ) (sections : List (List Row)) → j < k → gathered j k sections ≡ []
@@ -71,9 +71,9 @@ gathered-later j k (rows ∷ rest) h =
     rw (ne-eqb k j (λ e. omega arith)) (gathered-later j (suc k) rest (omega arith))
 
 -- A section of an admitted table: its rows after those above it, and what the table's end adds.
-pub record SectionAt (f : Sofar) (j : ℕ) (rows : List Row) : Type 0 where
+pub record SectionAt (form : ℕ) (f : Sofar) (j : ℕ) (rows : List Row) : Type 0 where
   pub before : Sofar
-  pub admitted : AdmittedRows j (begun before) rows
+  pub admitted : AdmittedRows form j (begun before) rows
   pub enough : sectionAt j .least ≤ length rows
   pub fresh : Fresh j (begun before)
   pub grows : Grows (takenAll j (begun before) rows) f
@@ -88,35 +88,35 @@ begun-grows : (st f : Sofar) → Grows (begun st) f → Grows st f
 unfolding begun
 begun-grows st f g = record { labels = g .labels; scopes = g .scopes }
 
-sections-grow : (k : ℕ) (st : Sofar) (sections : List (List Row)) → AdmittedSections k st sections → Fresh k (begun st) → Grows st (sofarAfter k st sections)
+sections-grow : (form k : ℕ) (st : Sofar) (sections : List (List Row)) → AdmittedSections form k st sections → Fresh k (begun st) → Grows st (sofarAfter k st sections)
 unfolding sofarAfter
-sections-grow k st [] h f = record { labels = omega arith; scopes = omega arith }
-sections-grow k st (rows ∷ rest) h f =
+sections-grow form k st [] h f = record { labels = omega arith; scopes = omega arith }
+sections-grow form k st (rows ∷ rest) h f =
     let m = takenAll k (begun st) rows in
-    let g = rows-grow k (begun st) rows (h .0) f in
+    let g = rows-grow form k (begun st) rows (h .0) f in
     begun-grows st (sofarAfter (suc k) m rest)
-    (grows-then (begun st) m (sofarAfter (suc k) m rest) (g .0) (sections-grow (suc k) m rest (h .2) (next-fresh k m (g .1))))
+    (grows-then (begun st) m (sofarAfter (suc k) m rest) (g .0) (sections-grow form (suc k) m rest (h .2) (next-fresh k m (g .1))))
 
-pub section-at : (j k : ℕ) (st : Sofar) (sections : List (List Row)) → AdmittedSections k st sections → Fresh k (begun st) → k ≤ j → j < k + length sections
-    → SectionAt (sofarAfter k st sections) j (gathered j k sections)
+pub section-at : (form j k : ℕ) (st : Sofar) (sections : List (List Row)) → AdmittedSections form k st sections → Fresh k (begun st) → k ≤ j → j < k + length sections
+    → SectionAt form (sofarAfter k st sections) j (gathered j k sections)
 unfolding sofarAfter gathered joinedIf
-section-at j k st [] h f l m = absurd (omega arith)
-section-at j k st (rows ∷ rest) h f l m =
+section-at form j k st [] h f l m = absurd (omega arith)
+section-at form j k st (rows ∷ rest) h f l m =
     let after = takenAll k (begun st) rows in
-    let g = rows-grow k (begun st) rows (h .0) f in
+    let g = rows-grow form k (begun st) rows (h .0) f in
     let n = next-fresh k after (g .1) in
     ⊎-elim
     (λ e.
     let same = eqb-true k j e in
-    let here : SectionAt (sofarAfter (suc k) after rest) k rows = record {
+    let here : SectionAt form (sofarAfter (suc k) after rest) k rows = record {
       before = st;
       admitted = h .0;
       enough = h .1;
       fresh = f;
-      grows = sections-grow (suc k) after rest (h .2) n;
+      grows = sections-grow form (suc k) after rest (h .2) n;
     } in
-    rw (e, gathered-later j (suc k) rest (omega arith), append-nil rows) (subst (λ x. SectionAt (sofarAfter (suc k) after rest) x rows) same here))
-    (λ e. rw e (section-at j (suc k) after rest (h .2) n (let d = eqb-false k j e in omega arith) (omega arith)))
+    rw (e, gathered-later j (suc k) rest (omega arith), append-nil rows) (subst (λ x. SectionAt form (sofarAfter (suc k) after rest) x rows) same here))
+    (λ e. rw e (section-at form j (suc k) after rest (h .2) n (let d = eqb-false k j e in omega arith) (omega arith)))
     (Two (eqb k j))
 
 -- What the table's end has of some field of the rows so far is what the rows of one section, number

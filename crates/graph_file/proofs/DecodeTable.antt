@@ -10,7 +10,7 @@ use lib.Seq.{append-snoc}
 use Rattle.scope_graph.specs.Language.{_∈_}
 use Rattle.scope_graph.specs.Path.{Distinct}
 use Rattle.scope_graph.specs.Listing.{Pairwise}
-use Rattle.graph_file.specs.Format.{scopeCount, sections, sectionAt, ascending, labelSection, pairSection, countSection}
+use Rattle.graph_file.specs.Format.{scopeCount, sections, sectionAt, shapeAt, ascending, labelSection, pairSection, countSection}
 use Rattle.graph_file.specs.Admission.{Row, value, blank, Sofar, nothing, begun, joined, counted, taken, inRange}
 use Rattle.graph_file.specs.Order.{orderFault}
 use Rattle.graph_file.specs.Decode.{rowsAmong, rowsIn, lettersOf, scopesOf}
@@ -41,14 +41,14 @@ module _ (cells : List ℕ) (t : AdmittedTable cells) where
   pub rows-are : (k : ℕ) → gathered k 0 (t .sections) ≡ rowsIn k cells
   unfolding rowsIn
   rows-are k =
-      sym (among-sections k 0 nothing (t .sections) (t .admitted))
+      sym (among-sections (t .form) k 0 nothing (t .sections) (t .admitted))
       ∙ ap (λ (l : List ℕ). rowsAmong k (drop 1 l)) (sym (t .cells-are))
 
-  pub section-in : (k : ℕ) → k < 9 → SectionAt atEnd k (rowsIn k cells)
+  pub section-in : (k : ℕ) → k < 9 → SectionAt (t .form) atEnd k (rowsIn k cells)
   unfolding atEnd nothing begun
   section-in k h =
       let c = t .count in
-      rw (rows-are k) at (section-at k 0 nothing (t .sections) (t .admitted) (inl refl) (omega arith) (omega arith))
+      rw (rows-are k) at (section-at (t .form) k 0 nothing (t .sections) (t .admitted) (inl refl) (omega arith) (omega arith))
 
   end-letters : atEnd .letters ≡ lettersOf cells
   unfolding atEnd nothing begun taken joined lettersOf
@@ -70,7 +70,7 @@ module _ (cells : List ℕ) (t : AdmittedTable cells) where
   -- a section has no more rows than its limit
   pub table-limit : (k : ℕ) → k < 9 → length (rowsIn k cells) ≤ sectionAt k .most
   unfolding begun
-  table-limit k h = let s = section-in k h in let l = rows-limit k (begun (s .before)) (rowsIn k cells) (s .admitted) (omega arith) in omega arith
+  table-limit k h = let s = section-in k h in let l = rows-limit (t .form) k (begun (s .before)) (rowsIn k cells) (s .admitted) (omega arith) in omega arith
 
   -- the count has one row, no less and no more
   pub table-count : rowsIn countSection cells ≡ getD (rowsIn countSection cells) 0 blank ∷ []
@@ -85,14 +85,14 @@ module _ (cells : List ℕ) (t : AdmittedTable cells) where
       ∙ ap (fold (λ n row. value row 0) 0) (rows-are countSection ∙ table-count)
 
   -- every row is in range by all the labels and the count of scopes
-  pub table-in-range : (k : ℕ) → k < 9 → (row : Row) → row ∈ rowsIn k cells → inRange (length (lettersOf cells)) (scopesOf cells) (sectionAt k .row) row ≡ true
+  pub table-in-range : (k : ℕ) → k < 9 → (row : Row) → row ∈ rowsIn k cells → inRange (length (lettersOf cells)) (scopesOf cells) (shapeAt (t .form) k .row) row ≡ true
   table-in-range k h row m =
       let s = section-in k h in
-      rw (end-letters, end-scopes) at (rows-in-range k (begun (s .before)) atEnd (rowsIn k cells) (s .admitted) (s .fresh) (s .grows) row m)
+      rw (end-letters, end-scopes) at (rows-in-range (t .form) k (begun (s .before)) atEnd (rowsIn k cells) (s .admitted) (s .fresh) (s .grows) row m)
 
   -- the rows of a section that is to ascend do so by its key
   pub table-ascends : (k : ℕ) → k < 9 → sectionAt k .sequence ≡ ascending → Pairwise (KeyBefore (sectionAt k .key)) (rowsIn k cells)
-  table-ascends k h e = let s = section-in k h in rows-ascend k (begun (s .before)) (rowsIn k cells) e (s .admitted)
+  table-ascends k h e = let s = section-in k h in rows-ascend (t .form) k (begun (s .before)) (rowsIn k cells) e (s .admitted)
 
   -- refusal 6 is not met
   pub table-order : orderFault (rowsIn pairSection cells) ≡ false
@@ -102,4 +102,4 @@ module _ (cells : List ℕ) (t : AdmittedTable cells) where
   -- a label stands once
   pub table-letters : Distinct (lettersOf cells)
   unfolding lettersOf
-  table-letters = let s = section-in labelSection (omega arith) in rows-once (begun (s .before)) (rowsIn labelSection cells) (s .admitted) .1
+  table-letters = let s = section-in labelSection (omega arith) in rows-once (t .form) (begun (s .before)) (rowsIn labelSection cells) (s .admitted) .1

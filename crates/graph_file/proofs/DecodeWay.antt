@@ -10,12 +10,12 @@ use lib.Dec.{ltb}
 use lib.ListN.{length, drop}
 use lib.Seq.{sets, length-sets}
 use borrow.Author.Tests.{ltb-false, eqb-true}
-use Rattle.graph_file.specs.Format.{Item, sectionAt, form}
+use Rattle.graph_file.specs.Format.{Item, sectionAt, shapeAt, oldForm}
 use Rattle.text_field.specs.Outcome.{Outcome, refused, done, andThen, refuseIf}
 use Rattle.graph_file.specs.Admission.{Row, rowOf, blank, Sofar, nothing, begun, taken, admission}
 use Rattle.graph_file.specs.Line.{Reading, readItem, placeOf, readItems}
 use Rattle.graph_file.specs.Order.{orderFault}
-use Rattle.graph_file.specs.File.{Piece, Way, Stage, ifAdmitted, afterRow, oneRow, throughRows, afterNames, enough, throughSection, isEmpty, throughSections, ordered, atStart, whole, readNames, readRow, reading, readStage, madeOf, readCells, writeNames, cellsFollow, writeRow, writing, hasForm, writeText}
+use Rattle.graph_file.specs.File.{Piece, Way, Stage, ifAdmitted, afterRow, oneRow, throughRows, afterNames, enough, throughSection, isEmpty, throughSections, ordered, atStart, whole, readNames, readRow, reading, readStage, madeOf, readCells, writeNames, cellsFollow, writeRow, writing, hasForm, formIn, writeText}
 
 -- what is done was not refused on the way
 pub andThen-done : {A B : Type 0} (o : Outcome A) (next : A → Outcome B) {b : B} → andThen o next ≡ done b → (a : A) × (o ≡ done a) × (next a ≡ done b)
@@ -46,10 +46,10 @@ unfoldable pub takenAll : ℕ → Sofar → List Row → Sofar
 takenAll k st [] = st
 takenAll k st (row ∷ rows) = takenAll k (taken k st row) rows
 
--- each row has its five values and is admitted after those before it
-abbrev pub AdmittedRows : ℕ → Sofar → List Row → Type 0
-AdmittedRows k st [] = Unit {0}
-AdmittedRows k st (row ∷ rows) = (admission (sectionAt k) st row ≡ 0) × (length row ≡ 5) × AdmittedRows k (taken k st row) rows
+-- each row has its five values and is admitted after those before it, in a file of a form
+abbrev pub AdmittedRows : ℕ → ℕ → Sofar → List Row → Type 0
+AdmittedRows form k st [] = Unit {0}
+AdmittedRows form k st (row ∷ rows) = (admission form k st row ≡ 0) × (length row ≡ 5) × AdmittedRows form k (taken k st row) rows
 
 -- the cells of rows of section k
 unfoldable pub cellsOf : ℕ → List Row → List ℕ
@@ -65,9 +65,9 @@ unfoldable pub sofarAfter : ℕ → Sofar → List (List Row) → Sofar
 sofarAfter k st [] = st
 sofarAfter k st (rows ∷ rest) = sofarAfter (suc k) (takenAll k (begun st) rows) rest
 
-abbrev pub AdmittedSections : ℕ → Sofar → List (List Row) → Type 0
-AdmittedSections k st [] = Unit {0}
-AdmittedSections k st (rows ∷ rest) = AdmittedRows k (begun st) rows × (sectionAt k .least ≤ length rows) × AdmittedSections (suc k) (takenAll k (begun st) rows) rest
+abbrev pub AdmittedSections : ℕ → ℕ → Sofar → List (List Row) → Type 0
+AdmittedSections form k st [] = Unit {0}
+AdmittedSections form k st (rows ∷ rest) = AdmittedRows form k (begun st) rows × (sectionAt k .least ≤ length rows) × AdmittedSections form (suc k) (takenAll k (begun st) rows) rest
 
 -- how many rows the section has by now
 pub rows-counted : (k : ℕ) (st : Sofar) (rows : List Row) → takenAll k st rows .rows ≡ st .rows + length rows
@@ -76,7 +76,7 @@ rows-counted k st [] = omega arith
 rows-counted k st (row ∷ rows) = omega (arith, rows-counted k (taken k st row) rows)
 
 pub row-split : (w : Way) (k : ℕ) (g h : Stage) → oneRow w k g ≡ done h
-    → (p : Piece) × (w .row k (g .sofar .letters) (g .rest) ≡ done p) × (admission (sectionAt k) (g .sofar) (p .row) ≡ 0) × (afterRow k g p ≡ h)
+    → (p : Piece) × (w .row k (g .sofar .letters) (g .rest) ≡ done p) × (admission (w .form) k (g .sofar) (p .row) ≡ 0) × (afterRow k g p ≡ h)
 unfolding oneRow
 row-split w k g h e =
     let r = andThen-done (w .row k (g .sofar .letters) (g .rest)) _ e in
@@ -114,7 +114,7 @@ module _ (w : Way) (Told : List ℕ → List ℕ → List ℕ → Type 0) (tells
   -- from stage g the way has come to stage h by rows of section k
   pub record RowsTaken (k : ℕ) (g h : Stage) (cells : List ℕ) : Type 0 where
     pub rows : List Row
-    pub admitted : AdmittedRows k (g .sofar) rows
+    pub admitted : AdmittedRows (w .form) k (g .sofar) rows
     pub sofar : h .sofar ≡ takenAll k (g .sofar) rows
     pub told : Told (h .made) (h .rest) (cells ++ cellsOf k rows)
 
@@ -128,7 +128,7 @@ module _ (w : Way) (Told : List ℕ → List ℕ → List ℕ → Type 0) (tells
     told = rw (← e, append-nil cells) t;
   }
 
-  one-taken : (k : ℕ) (g h : Stage) (cells : List ℕ) (p : Piece) → admission (sectionAt k) (g .sofar) (p .row) ≡ 0 → length (p .row) ≡ 5
+  one-taken : (k : ℕ) (g h : Stage) (cells : List ℕ) (p : Piece) → admission (w .form) k (g .sofar) (p .row) ≡ 0 → length (p .row) ≡ 5
       → RowsTaken k (afterRow k g p) h (cells ++ (k ∷ p .row)) → RowsTaken k g h cells
   unfolding takenAll cellsOf afterRow
   one-taken k g h cells p a five r = record {
@@ -164,7 +164,7 @@ module _ (w : Way) (Told : List ℕ → List ℕ → List ℕ → Type 0) (tells
   pub record SectionsTaken (left k : ℕ) (g h : Stage) (cells : List ℕ) : Type 0 where
     pub sections : List (List Row)
     pub count : length sections ≡ left
-    pub admitted : AdmittedSections k (g .sofar) sections
+    pub admitted : AdmittedSections (w .form) k (g .sofar) sections
     pub sofar : h .sofar ≡ sofarAfter k (g .sofar) sections
     pub told : Told (h .made) (h .rest) (cells ++ tableCells k sections)
     pub nothing-left : h .rest ≡ []
@@ -215,24 +215,24 @@ read-length letters (i ∷ items) row text r e =
     read-length letters items (sets row (placeOf i) (c .0 .values)) (c .0 .rest) r (c .2) ∙ length-sets row (placeOf i) (c .0 .values)
 
 -- what reading a names line, and a row, makes
-pub names-made : (k : ℕ) (rest : List ℕ) (p : Piece) → readNames k rest ≡ done p → p .made ≡ []
+pub names-made : (form k : ℕ) (rest : List ℕ) (p : Piece) → readNames form k rest ≡ done p → p .made ≡ []
 unfolding readNames
-names-made k rest p e =
+names-made form k rest p e =
     let c = andThen-done (readItems [] _ blank rest) _ e in
     ap (λ (x : Piece). x .made) (sym (done-is (c .2)))
 
-pub row-made : (k : ℕ) (letters rest : List ℕ) (p : Piece) → readRow k letters rest ≡ done p → (length (p .row) ≡ 5) × (p .made ≡ k ∷ p .row)
+pub row-made : (form k : ℕ) (letters rest : List ℕ) (p : Piece) → readRow form k letters rest ≡ done p → (length (p .row) ≡ 5) × (p .made ≡ k ∷ p .row)
 unfolding readRow
-row-made k letters rest p e =
-    let c = andThen-done (readItems letters (sectionAt k .row) blank rest) _ e in
+row-made form k letters rest p e =
+    let c = andThen-done (readItems letters (shapeAt form k .row) blank rest) _ e in
     let s = done-is (c .2) in
-    rw (← s) (read-length letters (sectionAt k .row) blank rest (c .0) (c .1), refl)
+    rw (← s) (read-length letters (shapeAt form k .row) blank rest (c .0) (c .1), refl)
 
-reading-tells : Tells reading Made
+reading-tells : (form : ℕ) → Tells (reading form) Made
 unfolding Made reading
-reading-tells = record {
-  names = λ k made rest cells p e t. rw (names-made k rest p e, append-nil made) t;
-  row = λ k letters made rest cells p m e t. let r = row-made k letters rest p e in (r .0, rw (r .1, t));
+reading-tells form = record {
+  names = λ k made rest cells p e t. rw (names-made form k rest p e, append-nil made) t;
+  row = λ k letters made rest cells p m e t. let r = row-made form k letters rest p e in (r .0, rw (r .1, t));
 }
 
 -- the six cells of a row of section k, and what stands behind them
@@ -251,33 +251,35 @@ module _ (all : List ℕ) where
   Behind : List ℕ → List ℕ → List ℕ → Type 0
   Behind made rest cells = all ≡ cells ++ rest
 
-  row-behind : (k : ℕ) (letters rest : List ℕ) (p : Piece) → cellsFollow k rest ≡ true → writeRow k letters rest ≡ done p
+  row-behind : (form k : ℕ) (letters rest : List ℕ) (p : Piece) → cellsFollow k rest ≡ true → writeRow form k letters rest ≡ done p
       → (length (p .row) ≡ 5) × (rest ≡ (k ∷ p .row) ++ p .rest)
   unfolding writeRow rowOf
-  row-behind k letters rest p m e =
+  row-behind form k letters rest p m e =
       let a = refuseIf-done (ltb (length rest) 6) 2 _ e in
       let b = refuseIf-done _ 2 _ (a .1) in
       let s = done-is (b .1) in
       rw (← s) (refl, split-six k rest m (ltb-false _ _ (a .0)))
 
-  writing-tells : Tells writing Behind
+  writing-tells : (form : ℕ) → Tells (writing form) Behind
   unfolding Behind writing writeNames
-  writing-tells = record {
+  writing-tells form = record {
     names = λ k made rest cells p e t. t ∙ ap (λ (x : Piece). cells ++ x .rest) (done-is e);
-    row = λ k letters made rest cells p m e t. let r = row-behind k letters rest p m e in (r .0, t ∙ ap (λ (x : List ℕ). cells ++ x) (r .1) ∙ sym (append-assoc cells (k ∷ p .row) (p .rest)));
+    row = λ k letters made rest cells p m e t. let r = row-behind form k letters rest p m e in (r .0, t ∙ ap (λ (x : List ℕ). cells ++ x) (r .1) ∙ sym (append-assoc cells (k ∷ p .row) (p .rest)));
   }
 
-form-first : (cells : List ℕ) → hasForm cells ≡ true → cells ≡ (form ∷ []) ++ drop 1 cells
-unfolding hasForm
+form-first : (cells : List ℕ) → hasForm cells ≡ true → cells ≡ (formIn cells ∷ []) ++ drop 1 cells
+unfolding hasForm formIn
 form-first [] h = absurd (false≢true h)
-form-first (x ∷ cells) h = ap (λ y. y ∷ cells) (eqb-true x form h)
+form-first (x ∷ cells) h = refl
 
--- A table whose rows, section by section, are admitted, and whose order pairs have no fault.
+-- A table whose rows, section by section, are admitted in a file of its form, and whose order pairs
+-- have no fault.
 pub record AdmittedTable (cells : List ℕ) : Type 0 where
+  pub form : ℕ
   pub sections : List (List Row)
   pub count : length sections ≡ 9
   pub cells-are : cells ≡ form ∷ tableCells 0 sections
-  pub admitted : AdmittedSections 0 nothing sections
+  pub admitted : AdmittedSections form 0 nothing sections
   pub order : orderFault (sofarAfter 0 nothing sections .pairs) ≡ false
 
 pub whole-split : (w : Way) (made rest : List ℕ) (h : Stage) → whole w made rest ≡ done h
@@ -291,15 +293,16 @@ whole-split w made rest h e =
 
 -- what a way brings to its end is such a table
 module _ (w : Way) (Told : List ℕ → List ℕ → List ℕ → Type 0) (tells : Tells w Told) where
-  pub whole-admitted : (made rest : List ℕ) (h : Stage) → whole w made rest ≡ done h → Told made rest (form ∷ [])
+  pub whole-admitted : (made rest : List ℕ) (h : Stage) → whole w made rest ≡ done h → Told made rest (w .form ∷ [])
       → (cells : List ℕ) × (Told (h .made) (h .rest) cells) × (h .rest ≡ []) × AdmittedTable cells
   whole-admitted made rest h e t =
       let c = whole-split w made rest h e in
-      let s = sections-taken w Told tells 9 0 (record { sofar = nothing; made = made; rest = rest }) h (form ∷ []) (c .0) t in (
-        form ∷ tableCells 0 (s .sections),
+      let s = sections-taken w Told tells 9 0 (record { sofar = nothing; made = made; rest = rest }) h (w .form ∷ []) (c .0) t in (
+        w .form ∷ tableCells 0 (s .sections),
         s .told,
         s .nothing-left,
         record {
+          form = w .form;
           sections = s .sections;
           count = s .count;
           cells-are = refl;
@@ -310,22 +313,22 @@ module _ (w : Way) (Told : List ℕ → List ℕ → List ℕ → Type 0) (tells
 
 -- The cells that a text is read as, and the cells that a text is written of.
 pub read-admitted : (text cells : List ℕ) → readCells text ≡ done cells → AdmittedTable cells
-unfolding readCells readStage madeOf Made
+unfolding readCells readStage madeOf Made reading
 read-admitted text cells e =
     let c = andThen-done (readStage text) (λ g. done (g .made)) e in
     ⊎-elim (λ x. absurd (let z : _≡_ {A = ℕ} 0 1 = cc in omega arith))
     (λ x.
-    let a = whole-admitted reading Made reading-tells (form ∷ []) text (c .0) (x .1) refl in
+    let a = whole-admitted (reading oldForm) Made (reading-tells oldForm) (oldForm ∷ []) text (c .0) (x .1) refl in
     rw (sym (a .1) ∙ done-is (c .2)) at (a .3))
     (either-done (ltb 32768 (length text)) _ _ (c .1))
 
 pub written-admitted : (cells text : List ℕ) → writeText cells ≡ done text → AdmittedTable cells
-unfolding writeText madeOf Behind
+unfolding writeText madeOf Behind writing
 written-admitted cells text e =
     ⊎-elim
     (λ x.
-    let c = andThen-done (whole writing [] (drop 1 cells)) (λ g. done (g .made)) (x .1) in
-    let a = whole-admitted writing (Behind cells) (writing-tells cells) [] (drop 1 cells) (c .0) (c .1) (form-first cells (x .0)) in
+    let c = andThen-done (whole (writing (formIn cells)) [] (drop 1 cells)) (λ g. done (g .made)) (x .1) in
+    let a = whole-admitted (writing (formIn cells)) (Behind cells) (writing-tells cells (formIn cells)) [] (drop 1 cells) (c .0) (c .1) (form-first cells (x .0)) in
     rw (sym (a .1 ∙ ap (λ (l : List ℕ). a .0 ++ l) (a .2) ∙ append-nil (a .0))) at (a .3))
     (λ x. absurd (let z : _≡_ {A = ℕ} 0 1 = cc in omega arith))
     (either-done (hasForm cells) _ _ e)

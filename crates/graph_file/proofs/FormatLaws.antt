@@ -9,39 +9,39 @@ use native.Mathlib.Numerals.{add-one}
 use lib.Dec.{leb}
 use borrow.Author.Tests.{ne-eqb, lt-ltb, le-ltb, le-leb}
 use lib.ListN.{length, getD, drop, List·getD-map}
-use Rattle.graph_file.specs.Format.{name, Item, byte, field, valuesOf, everyItem, Section, labels, pairs, transitions, accepts, scopeCount, edges, declarations, openPairs, queries, pastLast, sections, sectionAt}
+use Rattle.graph_file.specs.Format.{name, Item, byte, field, valuesOf, everyItem, Section, labels, pairs, transitions, accepts, scopeCount, edges, declarations, openPairs, queries, pastLast, sections, sectionAt, shapesOf, shapeAt}
 use Rattle.graph_file.specs.Line.{sparesPlace}
-use Rattle.graph_file.specs.Table.{kindNumber, code, kindOf, itemOf, layout, layouts, formatBytes, lineStep, lineOf, itemsAt, keyStep, keyOf, keyAt, namesPlace, rowPlace, keyPlace}
+use Rattle.graph_file.specs.Table.{contentNumber, code, contentOf, itemOf, layout, layouts, formatBytes, lineStep, lineOf, itemsAt, keyStep, keyOf, keyAt, namesPlace, rowPlace, keyPlace}
 
 -- the line at each section's places is its names line, its row, and the key there its key
-pub names-items : (k : ℕ) → itemsAt (namesPlace k) ≡ map byte (sectionAt k .names)
-unfolding labels pairs transitions accepts scopeCount edges declarations openPairs queries pastLast sections sectionAt kindNumber code kindOf itemOf layout layouts formatBytes lineStep lineOf itemsAt namesPlace
-names-items zero = refl
-names-items (suc zero) = refl
-names-items (suc (suc zero)) = refl
-names-items (suc (suc (suc zero))) = refl
-names-items (suc (suc (suc (suc zero)))) = refl
-names-items (suc (suc (suc (suc (suc zero))))) = refl
-names-items (suc (suc (suc (suc (suc (suc zero)))))) = refl
-names-items (suc (suc (suc (suc (suc (suc (suc zero))))))) = refl
-names-items (suc (suc (suc (suc (suc (suc (suc (suc zero)))))))) = refl
-names-items (suc (suc (suc (suc (suc (suc (suc (suc (suc k))))))))) = refl
+pub names-items : (form k : ℕ) → itemsAt (namesPlace form k) ≡ map byte (shapeAt form k .names)
+unfolding labels pairs transitions accepts scopeCount edges declarations openPairs queries pastLast sections shapesOf shapeAt contentNumber code contentOf itemOf layout layouts formatBytes lineStep lineOf itemsAt namesPlace
+names-items form zero = refl
+names-items form (suc zero) = refl
+names-items form (suc (suc zero)) = refl
+names-items form (suc (suc (suc zero))) = refl
+names-items form (suc (suc (suc (suc zero)))) = refl
+names-items form (suc (suc (suc (suc (suc zero))))) = refl
+names-items form (suc (suc (suc (suc (suc (suc zero)))))) = refl
+names-items form (suc (suc (suc (suc (suc (suc (suc zero))))))) = refl
+names-items form (suc (suc (suc (suc (suc (suc (suc (suc zero)))))))) = refl
+names-items form (suc (suc (suc (suc (suc (suc (suc (suc (suc k))))))))) = refl
 
-pub row-items : (k : ℕ) → itemsAt (rowPlace k) ≡ sectionAt k .row
-unfolding labels pairs transitions accepts scopeCount edges declarations openPairs queries pastLast sections sectionAt kindNumber code kindOf itemOf layout layouts formatBytes lineStep lineOf itemsAt rowPlace
-row-items zero = refl
-row-items (suc zero) = refl
-row-items (suc (suc zero)) = refl
-row-items (suc (suc (suc zero))) = refl
-row-items (suc (suc (suc (suc zero)))) = refl
-row-items (suc (suc (suc (suc (suc zero))))) = refl
-row-items (suc (suc (suc (suc (suc (suc zero)))))) = refl
-row-items (suc (suc (suc (suc (suc (suc (suc zero))))))) = refl
-row-items (suc (suc (suc (suc (suc (suc (suc (suc zero)))))))) = refl
-row-items (suc (suc (suc (suc (suc (suc (suc (suc (suc k))))))))) = refl
+pub row-items : (form k : ℕ) → itemsAt (rowPlace form k) ≡ shapeAt form k .row
+unfolding labels pairs transitions accepts scopeCount edges declarations openPairs queries pastLast sections shapesOf shapeAt contentNumber code contentOf itemOf layout layouts formatBytes lineStep lineOf itemsAt rowPlace
+row-items form zero = refl
+row-items form (suc zero) = refl
+row-items form (suc (suc zero)) = refl
+row-items form (suc (suc (suc zero))) = refl
+row-items form (suc (suc (suc (suc zero)))) = refl
+row-items form (suc (suc (suc (suc (suc zero))))) = refl
+row-items form (suc (suc (suc (suc (suc (suc zero)))))) = refl
+row-items form (suc (suc (suc (suc (suc (suc (suc zero))))))) = refl
+row-items form (suc (suc (suc (suc (suc (suc (suc (suc zero)))))))) = refl
+row-items form (suc (suc (suc (suc (suc (suc (suc (suc (suc k))))))))) = refl
 
 pub key-items : (k : ℕ) → keyAt (keyPlace k) ≡ sectionAt k .key
-unfolding labels pairs transitions accepts scopeCount edges declarations openPairs queries pastLast sections sectionAt kindNumber code kindOf itemOf layout layouts formatBytes keyStep keyOf keyAt keyPlace
+unfolding labels pairs transitions accepts scopeCount edges declarations openPairs queries pastLast sections sectionAt shapesOf contentNumber code contentOf itemOf layout layouts formatBytes keyStep keyOf keyAt keyPlace
 key-items zero = refl
 key-items (suc zero) = refl
 key-items (suc (suc zero)) = refl
@@ -104,22 +104,22 @@ by-place A a b c e f g (suc (suc (suc (suc (suc n))))) = g (suc (suc (suc (suc (
 abbrev pub useds : List ℕ
 useds = 1 ∷ 2 ∷ 3 ∷ 1 ∷ 1 ∷ 3 ∷ 4 ∷ 2 ∷ 3 ∷ []
 
-pub used-at : (k d : ℕ) → everyItem (sparesPlace d) (sectionAt k .row) ≡ leb (getD useds k 0) d
-unfolding labels pairs transitions accepts scopeCount edges declarations openPairs queries pastLast sections sectionAt everyItem sparesPlace valuesOf
-used-at zero = by-place (λ d. everyItem (sparesPlace d) (sectionAt 0 .row) ≡ leb 1 d) refl refl refl refl refl (λ d h. simp (le-ltb d 0 (omega arith), le-ltb d 1 (omega arith), le-ltb d 2 (omega arith), le-ltb d 3 (omega arith), le-leb 1 d (omega arith), le-leb 2 d (omega arith), le-leb 3 d (omega arith), le-leb 4 d (omega arith)))
-used-at (suc zero) = by-place (λ d. everyItem (sparesPlace d) (sectionAt 1 .row) ≡ leb 2 d) refl refl refl refl refl (λ d h. simp (le-ltb d 0 (omega arith), le-ltb d 1 (omega arith), le-ltb d 2 (omega arith), le-ltb d 3 (omega arith), le-leb 1 d (omega arith), le-leb 2 d (omega arith), le-leb 3 d (omega arith), le-leb 4 d (omega arith)))
-used-at (suc (suc zero)) = by-place (λ d. everyItem (sparesPlace d) (sectionAt 2 .row) ≡ leb 3 d) refl refl refl refl refl (λ d h. simp (le-ltb d 0 (omega arith), le-ltb d 1 (omega arith), le-ltb d 2 (omega arith), le-ltb d 3 (omega arith), le-leb 1 d (omega arith), le-leb 2 d (omega arith), le-leb 3 d (omega arith), le-leb 4 d (omega arith)))
-used-at (suc (suc (suc zero))) = by-place (λ d. everyItem (sparesPlace d) (sectionAt 3 .row) ≡ leb 1 d) refl refl refl refl refl (λ d h. simp (le-ltb d 0 (omega arith), le-ltb d 1 (omega arith), le-ltb d 2 (omega arith), le-ltb d 3 (omega arith), le-leb 1 d (omega arith), le-leb 2 d (omega arith), le-leb 3 d (omega arith), le-leb 4 d (omega arith)))
-used-at (suc (suc (suc (suc zero)))) = by-place (λ d. everyItem (sparesPlace d) (sectionAt 4 .row) ≡ leb 1 d) refl refl refl refl refl (λ d h. simp (le-ltb d 0 (omega arith), le-ltb d 1 (omega arith), le-ltb d 2 (omega arith), le-ltb d 3 (omega arith), le-leb 1 d (omega arith), le-leb 2 d (omega arith), le-leb 3 d (omega arith), le-leb 4 d (omega arith)))
-used-at (suc (suc (suc (suc (suc zero))))) = by-place (λ d. everyItem (sparesPlace d) (sectionAt 5 .row) ≡ leb 3 d) refl refl refl refl refl (λ d h. simp (le-ltb d 0 (omega arith), le-ltb d 1 (omega arith), le-ltb d 2 (omega arith), le-ltb d 3 (omega arith), le-leb 1 d (omega arith), le-leb 2 d (omega arith), le-leb 3 d (omega arith), le-leb 4 d (omega arith)))
-used-at (suc (suc (suc (suc (suc (suc zero)))))) = by-place (λ d. everyItem (sparesPlace d) (sectionAt 6 .row) ≡ leb 4 d) refl refl refl refl refl (λ d h. simp (le-ltb d 0 (omega arith), le-ltb d 1 (omega arith), le-ltb d 2 (omega arith), le-ltb d 3 (omega arith), le-leb 1 d (omega arith), le-leb 2 d (omega arith), le-leb 3 d (omega arith), le-leb 4 d (omega arith)))
-used-at (suc (suc (suc (suc (suc (suc (suc zero))))))) = by-place (λ d. everyItem (sparesPlace d) (sectionAt 7 .row) ≡ leb 2 d) refl refl refl refl refl (λ d h. simp (le-ltb d 0 (omega arith), le-ltb d 1 (omega arith), le-ltb d 2 (omega arith), le-ltb d 3 (omega arith), le-leb 1 d (omega arith), le-leb 2 d (omega arith), le-leb 3 d (omega arith), le-leb 4 d (omega arith)))
-used-at (suc (suc (suc (suc (suc (suc (suc (suc zero)))))))) = by-place (λ d. everyItem (sparesPlace d) (sectionAt 8 .row) ≡ leb 3 d) refl refl refl refl refl (λ d h. simp (le-ltb d 0 (omega arith), le-ltb d 1 (omega arith), le-ltb d 2 (omega arith), le-ltb d 3 (omega arith), le-leb 1 d (omega arith), le-leb 2 d (omega arith), le-leb 3 d (omega arith), le-leb 4 d (omega arith)))
-used-at (suc (suc (suc (suc (suc (suc (suc (suc (suc k))))))))) = λ d. sym (le-leb 0 d (omega arith))
+pub used-at : (form k d : ℕ) → everyItem (sparesPlace d) (shapeAt form k .row) ≡ leb (getD useds k 0) d
+unfolding shapesOf shapeAt everyItem sparesPlace valuesOf
+used-at form zero = by-place (λ d. everyItem (sparesPlace d) (shapeAt form 0 .row) ≡ leb 1 d) refl refl refl refl refl (λ d h. simp (le-ltb d 0 (omega arith), le-ltb d 1 (omega arith), le-ltb d 2 (omega arith), le-ltb d 3 (omega arith), le-leb 1 d (omega arith), le-leb 2 d (omega arith), le-leb 3 d (omega arith), le-leb 4 d (omega arith)))
+used-at form (suc zero) = by-place (λ d. everyItem (sparesPlace d) (shapeAt form 1 .row) ≡ leb 2 d) refl refl refl refl refl (λ d h. simp (le-ltb d 0 (omega arith), le-ltb d 1 (omega arith), le-ltb d 2 (omega arith), le-ltb d 3 (omega arith), le-leb 1 d (omega arith), le-leb 2 d (omega arith), le-leb 3 d (omega arith), le-leb 4 d (omega arith)))
+used-at form (suc (suc zero)) = by-place (λ d. everyItem (sparesPlace d) (shapeAt form 2 .row) ≡ leb 3 d) refl refl refl refl refl (λ d h. simp (le-ltb d 0 (omega arith), le-ltb d 1 (omega arith), le-ltb d 2 (omega arith), le-ltb d 3 (omega arith), le-leb 1 d (omega arith), le-leb 2 d (omega arith), le-leb 3 d (omega arith), le-leb 4 d (omega arith)))
+used-at form (suc (suc (suc zero))) = by-place (λ d. everyItem (sparesPlace d) (shapeAt form 3 .row) ≡ leb 1 d) refl refl refl refl refl (λ d h. simp (le-ltb d 0 (omega arith), le-ltb d 1 (omega arith), le-ltb d 2 (omega arith), le-ltb d 3 (omega arith), le-leb 1 d (omega arith), le-leb 2 d (omega arith), le-leb 3 d (omega arith), le-leb 4 d (omega arith)))
+used-at form (suc (suc (suc (suc zero)))) = by-place (λ d. everyItem (sparesPlace d) (shapeAt form 4 .row) ≡ leb 1 d) refl refl refl refl refl (λ d h. simp (le-ltb d 0 (omega arith), le-ltb d 1 (omega arith), le-ltb d 2 (omega arith), le-ltb d 3 (omega arith), le-leb 1 d (omega arith), le-leb 2 d (omega arith), le-leb 3 d (omega arith), le-leb 4 d (omega arith)))
+used-at form (suc (suc (suc (suc (suc zero))))) = by-place (λ d. everyItem (sparesPlace d) (shapeAt form 5 .row) ≡ leb 3 d) refl refl refl refl refl (λ d h. simp (le-ltb d 0 (omega arith), le-ltb d 1 (omega arith), le-ltb d 2 (omega arith), le-ltb d 3 (omega arith), le-leb 1 d (omega arith), le-leb 2 d (omega arith), le-leb 3 d (omega arith), le-leb 4 d (omega arith)))
+used-at form (suc (suc (suc (suc (suc (suc zero)))))) = by-place (λ d. everyItem (sparesPlace d) (shapeAt form 6 .row) ≡ leb 4 d) refl refl refl refl refl (λ d h. simp (le-ltb d 0 (omega arith), le-ltb d 1 (omega arith), le-ltb d 2 (omega arith), le-ltb d 3 (omega arith), le-leb 1 d (omega arith), le-leb 2 d (omega arith), le-leb 3 d (omega arith), le-leb 4 d (omega arith)))
+used-at form (suc (suc (suc (suc (suc (suc (suc zero))))))) = by-place (λ d. everyItem (sparesPlace d) (shapeAt form 7 .row) ≡ leb 2 d) refl refl refl refl refl (λ d h. simp (le-ltb d 0 (omega arith), le-ltb d 1 (omega arith), le-ltb d 2 (omega arith), le-ltb d 3 (omega arith), le-leb 1 d (omega arith), le-leb 2 d (omega arith), le-leb 3 d (omega arith), le-leb 4 d (omega arith)))
+used-at form (suc (suc (suc (suc (suc (suc (suc (suc zero)))))))) = by-place (λ d. everyItem (sparesPlace d) (shapeAt form 8 .row) ≡ leb 3 d) refl refl refl refl refl (λ d h. simp (le-ltb d 0 (omega arith), le-ltb d 1 (omega arith), le-ltb d 2 (omega arith), le-ltb d 3 (omega arith), le-leb 1 d (omega arith), le-leb 2 d (omega arith), le-leb 3 d (omega arith), le-leb 4 d (omega arith)))
+used-at form (suc (suc (suc (suc (suc (suc (suc (suc (suc k))))))))) = λ d. sym (le-leb 0 d (omega arith))
 
 -- the fixed string has 152 bytes
 pub format-length : length formatBytes ≡ 152
-unfolding labels pairs transitions accepts scopeCount edges declarations openPairs queries pastLast sections kindNumber code layout layouts formatBytes
+unfolding labels pairs transitions accepts scopeCount edges declarations openPairs queries pastLast sections shapesOf contentNumber code layout layouts formatBytes
 format-length = refl
 
 -- one item, and the line after it
@@ -154,17 +154,17 @@ within (x ∷ l) (suc o) h = let w : o < length l = within l o h in omega arith
 pub within-format : (o : ℕ) → (getD formatBytes o 10 ≡ 10 → ⊥) → o < 152
 within-format o h = let w : o < length formatBytes = within formatBytes o h in omega (arith, format-length)
 
--- a kind's number that is none of the first seven is read as a name
-pub kind-name : (n : ℕ) → (n ≡ 0 → ⊥) → (n ≡ 1 → ⊥) → (n ≡ 2 → ⊥) → (n ≡ 3 → ⊥) → (n ≡ 4 → ⊥) → (n ≡ 5 → ⊥) → (n ≡ 6 → ⊥) → kindOf n ≡ name
-unfolding kindOf
-kind-name zero a b c d e f g = absurd (a refl)
-kind-name (suc zero) a b c d e f g = absurd (b refl)
-kind-name (suc (suc zero)) a b c d e f g = absurd (c refl)
-kind-name (suc (suc (suc zero))) a b c d e f g = absurd (d refl)
-kind-name (suc (suc (suc (suc zero)))) a b c d e f g = absurd (e refl)
-kind-name (suc (suc (suc (suc (suc zero))))) a b c d e f g = absurd (f refl)
-kind-name (suc (suc (suc (suc (suc (suc zero)))))) a b c d e f g = absurd (g refl)
-kind-name (suc (suc (suc (suc (suc (suc (suc n))))))) a b c d e f g = refl
+-- a number that is none of the first seven contents' is a name's
+pub content-name : (n : ℕ) → (n ≡ 0 → ⊥) → (n ≡ 1 → ⊥) → (n ≡ 2 → ⊥) → (n ≡ 3 → ⊥) → (n ≡ 4 → ⊥) → (n ≡ 5 → ⊥) → (n ≡ 6 → ⊥) → contentOf n ≡ name
+unfolding contentOf
+content-name zero a b c d e f g = absurd (a refl)
+content-name (suc zero) a b c d e f g = absurd (b refl)
+content-name (suc (suc zero)) a b c d e f g = absurd (c refl)
+content-name (suc (suc (suc zero))) a b c d e f g = absurd (d refl)
+content-name (suc (suc (suc (suc zero)))) a b c d e f g = absurd (e refl)
+content-name (suc (suc (suc (suc (suc zero))))) a b c d e f g = absurd (f refl)
+content-name (suc (suc (suc (suc (suc (suc zero)))))) a b c d e f g = absurd (g refl)
+content-name (suc (suc (suc (suc (suc (suc (suc n))))))) a b c d e f g = refl
 
 pub line-more : (x : ℕ) (items : List Item) → (x ≡ 10 → ⊥) → lineStep x items ≡ itemOf x ∷ items
 unfolding lineStep
@@ -202,6 +202,6 @@ pub item-byte : (x : ℕ) → x < 128 → itemOf x ≡ byte x
 unfolding itemOf
 item-byte x h = rw (lt-ltb x 128 h, itemOf)
 
-pub item-field : (x : ℕ) → 128 ≤ x → itemOf x ≡ field (kindOf ((x - 128) / 8)) (x % 8)
+pub item-field : (x : ℕ) → 128 ≤ x → itemOf x ≡ field (contentOf ((x - 128) / 8)) (x % 8)
 unfolding itemOf
 item-field x h = rw (le-ltb x 128 h, itemOf)

@@ -19,17 +19,17 @@ use Rattle.text_field.specs.Name.{nameText, nameHere, isNameCells, nameMeaning}
 use Rattle.text_field.proofs.ByteLaws.{clash, within-bounds}
 use Rattle.text_field.proofs.NumberLaws.{number-back, number-found}
 use Rattle.text_field.proofs.NameLaws.{name-back, name-found}
-use Rattle.graph_file.specs.Format.{Kind, state, scope, mark, count, letter, label, end, name, valuesOf}
+use Rattle.graph_file.specs.Format.{Content, state, scope, mark, count, letter, label, end, name, valuesOf}
 use Rattle.text_field.specs.Outcome.{done, andThen}
-use Rattle.graph_file.specs.Admission.{kindInRange}
+use Rattle.graph_file.specs.Admission.{contentInRange}
 use Rattle.graph_file.specs.Line.{Reading, numberTaken, nameTaken, byteTaken, place, endTaken, first, readField, asByte, endByte, fieldText, fieldFormed}
 use Rattle.text_field.proofs.OutcomeLaws.{done-same, not-done}
 use Rattle.graph_file.proofs.InverseLetters.{Letters, letter-there}
 use Rattle.graph_file.proofs.InverseTable.{closes}
 
--- what a reading of a field of kind k tells of the text, for the value v, and w where the field has
+-- what a reading of a field of content k tells of the text, for the value v, and w where the field has
 -- a second one
-pub record FieldFound (letters : List ℕ) (k : Kind) (text : List ℕ) (r : Reading) (v w : ℕ) : Type 0 where
+pub record FieldFound (letters : List ℕ) (k : Content) (text : List ℕ) (r : Reading) (v w : ℕ) : Type 0 where
   pub whole : text ≡ fieldText letters k v w ++ r .rest
   pub formed : fieldFormed k v w ≡ true
 
@@ -80,8 +80,8 @@ end-count letters x text r e = by (eqb x 36) refl
     by true h = byte-count true 0 text r (sym (end-mark letters x text h) ∙ e)
     by false h = byte-count (isCapital x) (suc (place x letters)) text r (sym (end-label letters x text h) ∙ e)
 
--- a field read has as many values as its kind
-pub field-count : (letters : List ℕ) (k : Kind) (text : List ℕ) (r : Reading) → readField letters k text ≡ done r → length (r .values) ≡ valuesOf k
+-- a field read has as many values as its content
+pub field-count : (letters : List ℕ) (k : Content) (text : List ℕ) (r : Reading) → readField letters k text ≡ done r → length (r .values) ≡ valuesOf k
 unfolding readField valuesOf
 field-count letters state text r e = number-count (numberHere text) text r e
 field-count letters scope text r e = number-count (numberHere text) text r e
@@ -169,10 +169,10 @@ found-end letters text r v w e p l = by (eqb (first text) 36) refl
         in record { whole = front text (f .0) ∙ rw (x, listed-byte letters (first text) (f .0) (omega arith), f .2); formed = refl }
 
 -- what was read is written again, and is of its form
-pub field-found : (letters : List ℕ) (scopes : ℕ) (k : Kind) (text : List ℕ) (r : Reading) (v w : ℕ) → readField letters k text ≡ done r
-    → v ≡ getD (r .values) 0 0 → (valuesOf k ≡ 2 → w ≡ getD (r .values) 1 0) → kindInRange (length letters) scopes k v ≡ true
+pub field-found : (letters : List ℕ) (scopes : ℕ) (k : Content) (text : List ℕ) (r : Reading) (v w : ℕ) → readField letters k text ≡ done r
+    → v ≡ getD (r .values) 0 0 → (valuesOf k ≡ 2 → w ≡ getD (r .values) 1 0) → contentInRange (length letters) scopes k v ≡ true
     → FieldFound letters k text r v w
-unfolding readField valuesOf kindInRange fieldText fieldFormed
+unfolding readField valuesOf contentInRange fieldText fieldFormed
 field-found letters scopes state text r v w e p q g = let f = found-number (numberHere text) text r v refl e p in record { whole = f .whole; formed = f .formed }
 field-found letters scopes scope text r v w e p q g = let f = found-number (numberHere text) text r v refl e p in record { whole = f .whole; formed = f .formed }
 field-found letters scopes mark text r v w e p q g = let f = found-number (numberHere text) text r v refl e p in record { whole = f .whole; formed = f .formed }
@@ -209,10 +209,10 @@ module _ (letters : List ℕ) (L : Letters letters) where
       in end-label letters (asByte (getD letters v 0)) (asByte (getD letters v 0) ∷ rest) (a .2) ∙ rw (a .0, a .1)
 
   -- what was written is read again
-  pub field-again : (scopes : ℕ) (k : Kind) (v w : ℕ) (rest : List ℕ) → fieldFormed k v w ≡ true → kindInRange (length letters) scopes k v ≡ true
+  pub field-again : (scopes : ℕ) (k : Content) (v w : ℕ) (rest : List ℕ) → fieldFormed k v w ≡ true → contentInRange (length letters) scopes k v ≡ true
       → closes k (first rest) ≡ true
       → readField letters k (fieldText letters k v w ++ rest) ≡ done (record { values = take (valuesOf k) (v ∷ w ∷ []); rest = rest })
-  unfolding readField valuesOf kindInRange fieldText fieldFormed closes byteTaken
+  unfolding readField valuesOf contentInRange fieldText fieldFormed closes byteTaken
   field-again scopes state v w rest f g c = number-again v rest f c
   field-again scopes scope v w rest f g c = number-again v rest f c
   field-again scopes mark v w rest f g c = number-again v rest f c

@@ -10,9 +10,9 @@ use lib.ListN.{length}
 use lib.Seq.{sets, length-sets}
 use borrow.Author.Tests.{eqb-true, eq-eqb}
 use Rattle.text_field.proofs.ByteLaws.{both, clash}
-use Rattle.graph_file.specs.Format.{Kind, Item, byte, field, valuesOf, everyItem}
+use Rattle.graph_file.specs.Format.{Content, Item, byte, field, valuesOf, everyItem}
 use Rattle.text_field.specs.Outcome.{done, andThen}
-use Rattle.graph_file.specs.Admission.{Row, value, blank, kindInRange, itemInRange, inRange}
+use Rattle.graph_file.specs.Admission.{Row, value, blank, contentInRange, itemInRange, inRange}
 use Rattle.graph_file.specs.Line.{Reading, first, readField, startsWith, readItem, placeOf, readItems, fieldText, itemText, lineText, itemFormed, sparesPlace, idleZeros, formed}
 use Rattle.text_field.proofs.OutcomeLaws.{done-same, not-done, went}
 use Rattle.graph_file.proofs.InverseLetters.{Letters}
@@ -52,8 +52,8 @@ found-byte letters b items acc text t r e f =
     let p = byte-found letters b text t e
     in record { whole = p .0 ∙ ap (λ (z : List ℕ). b ∷ z) (f .whole); fields = f .fields; five = f .five; kept = λ d s. f .kept d s ∙ ap (λ (z : List ℕ). value (sets acc 0 z) d) (p .1) }
 
-found-field : (letters : List ℕ) (scopes : ℕ) (k : Kind) (c : ℕ) (items : List Item) (acc : Row) (text : List ℕ) (t r : Reading) → length acc ≡ 5
-    → Clear k c items → readField letters k text ≡ done t → kindInRange (length letters) scopes k (value (r .values) c) ≡ true
+found-field : (letters : List ℕ) (scopes : ℕ) (k : Content) (c : ℕ) (items : List Item) (acc : Row) (text : List ℕ) (t r : Reading) → length acc ≡ 5
+    → Clear k c items → readField letters k text ≡ done t → contentInRange (length letters) scopes k (value (r .values) c) ≡ true
     → Found letters items (sets acc c (t .values)) (t .rest) r → Found letters (field k c ∷ items) acc text r
 unfolding lineText itemText everyItem itemFormed lastPlace
 found-field letters scopes k c items acc text t r h C e g f =
@@ -105,7 +105,7 @@ line-found letters scopes items text r o e g =
     in record { whole = f .whole; formed = rw (f .fields) (idle-all items (r .values) (λ d s. f .kept d s ∙ blank-zero d)); five = f .five }
 
 -- a line's text goes on with a byte that ends the field before
-closed-by : (letters : List ℕ) (k : Kind) (items : List Item) (row : Row) (rest : List ℕ) → bounded k items ≡ true
+closed-by : (letters : List ℕ) (k : Content) (items : List Item) (row : Row) (rest : List ℕ) → bounded k items ≡ true
     → closes k (first (lineText letters items row ++ rest)) ≡ true
 unfolding bounded lineText itemText
 closed-by letters k [] row rest h = absurd (clash h refl)

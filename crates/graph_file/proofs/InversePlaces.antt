@@ -9,13 +9,13 @@ use lib.ListN.{length, getD, take, set, length-set}
 use lib.Seq.{sets, length-sets, getD-set-same, getD-set-other, ext-getD}
 use borrow.Author.Tests.{ltb-true, ltb-false, leb-true, leb-false, eqb-true, eq-eqb}
 use Rattle.text_field.proofs.ByteLaws.{both, clash}
-use Rattle.graph_file.specs.Format.{Kind, state, scope, mark, count, letter, label, end, name, Item, byte, field, valuesOf, everyItem}
+use Rattle.graph_file.specs.Format.{Content, state, scope, mark, count, letter, label, end, name, Item, byte, field, valuesOf, everyItem}
 use Rattle.graph_file.specs.Admission.{Row, value, blank}
 use Rattle.graph_file.specs.Line.{placeOf, sparesPlace, idleZero, idleZeros}
 use Rattle.graph_file.proofs.InverseTable.{lastPlace, clear, orderly, field-clear}
 
 -- a field has one value or two
-pub values-some : (k : Kind) → (1 ≤ valuesOf k) × (valuesOf k ≤ 2)
+pub values-some : (k : Content) → (1 ≤ valuesOf k) × (valuesOf k ≤ 2)
 unfolding valuesOf
 values-some state = (omega arith, omega arith)
 values-some scope = (omega arith, omega arith)
@@ -43,13 +43,13 @@ sets-second [] l i h g = absurd (omega arith)
 sets-second (v ∷ vs) l i h g = sets-first vs (set l i v) (suc i) (omega arith) (rw (length-set l i v) g)
 
 -- what a place holds after a field's values are put
-pub record Put (k : Kind) (c : ℕ) (acc row : Row) (vs : List ℕ) : Type 0 where
+pub record Put (k : Content) (c : ℕ) (acc row : Row) (vs : List ℕ) : Type 0 where
   pub five : length row ≡ 5
   pub at : value row c ≡ getD vs 0 0
   pub next : valuesOf k ≡ 2 → value row (c + 1) ≡ getD vs 1 0
   pub others : (d : ℕ) → sparesPlace d (field k c) ≡ true → value row d ≡ value acc d
 
-pub put-values : (k : Kind) (c : ℕ) (acc : Row) (vs : List ℕ) → length acc ≡ 5 → length vs ≡ valuesOf k → lastPlace k c < 5
+pub put-values : (k : Content) (c : ℕ) (acc : Row) (vs : List ℕ) → length acc ≡ 5 → length vs ≡ valuesOf k → lastPlace k c < 5
     → Put k c acc (sets acc c vs) vs
 unfolding lastPlace sparesPlace
 put-values k c acc vs h n l =
@@ -89,7 +89,7 @@ taken-values (suc (suc zero)) v w h g = (refl, refl, λ e. refl)
 taken-values (suc (suc (suc n))) v w h g = absurd (omega arith)
 
 -- a field's own places hold the row's values after it is put
-own-places : (k : Kind) (c : ℕ) (row acc : Row) (d : ℕ) → length acc ≡ 5 → lastPlace k c < 5 → sparesPlace d (field k c) ≡ false
+own-places : (k : Content) (c : ℕ) (row acc : Row) (d : ℕ) → length acc ≡ 5 → lastPlace k c < 5 → sparesPlace d (field k c) ≡ false
     → value (sets acc c (take (valuesOf k) (value row c ∷ value row (c + 1) ∷ []))) d ≡ value row d
 unfolding sparesPlace
 own-places k c row acc d h l s =

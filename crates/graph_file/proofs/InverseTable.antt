@@ -10,11 +10,11 @@ use lib.ListN.{length, getD}
 use borrow.Author.Tests.{ltb-true}
 use Rattle.text_field.specs.Bytes.{within, isDigit, isLower, isNameByte}
 use Rattle.text_field.proofs.ByteLaws.{both}
-use Rattle.graph_file.specs.Format.{Kind, state, scope, mark, count, letter, label, end, name, Item, byte, field, valuesOf, everyItem, Section, labels, pairs, transitions, accepts, scopeCount, edges, declarations, openPairs, queries, pastLast, sections, sectionAt}
+use Rattle.graph_file.specs.Format.{Content, state, scope, mark, count, letter, label, end, name, Item, byte, field, valuesOf, everyItem, Shape, labels, pairs, transitions, accepts, scopeCount, edges, declarations, openPairs, queries, sections, sectionAt, shapesOf, shapeAt}
 use Rattle.graph_file.specs.Line.{sparesPlace}
 
--- Does the byte end a field of this kind: could it be no byte of it?
-unfoldable pub closes : Kind → ℕ → Bool
+-- Does the byte end a field of what it holds: could it be no byte of it?
+unfoldable pub closes : Content → ℕ → Bool
 closes state b = not (isDigit b)
 closes scope b = not (isDigit b)
 closes mark b = not (isDigit b)
@@ -25,13 +25,13 @@ closes end b = true
 closes name b = not (isNameByte b)
 
 -- a field is followed by a byte that ends it
-unfoldable pub bounded : Kind → List Item → Bool
+unfoldable pub bounded : Content → List Item → Bool
 bounded k [] = false
 bounded k (byte b ∷ items) = closes k b
 bounded k (field j c ∷ items) = false
 
--- the last place that a field of the kind fills
-unfoldable pub lastPlace : Kind → ℕ → ℕ
+-- the last place that a field fills
+unfoldable pub lastPlace : Content → ℕ → ℕ
 lastPlace k c = c + (valuesOf k - 1)
 
 -- A field's places are in the row, a byte that ends it follows, and no later field fills its
@@ -45,13 +45,13 @@ orderly [] = true
 orderly (i ∷ items) = clear i items && orderly items
 
 -- what holds of a field before the items that follow it
-pub record Clear (k : Kind) (c : ℕ) (items : List Item) : Type 0 where
+pub record Clear (k : Content) (c : ℕ) (items : List Item) : Type 0 where
   pub inside : lastPlace k c < 5
   pub closed : bounded k items ≡ true
   pub spared : everyItem (sparesPlace c) items ≡ true
   pub last-spared : everyItem (sparesPlace (lastPlace k c)) items ≡ true
 
-pub field-clear : (k : Kind) (c : ℕ) (items : List Item) → clear (field k c) items ≡ true → Clear k c items
+pub field-clear : (k : Content) (c : ℕ) (items : List Item) → clear (field k c) items ≡ true → Clear k c items
 unfolding clear
 field-clear k c items h =
     let p = both (ltb (lastPlace k c) 5) (bounded k items && (everyItem (sparesPlace c) items && everyItem (sparesPlace (lastPlace k c)) items)) h
@@ -66,7 +66,7 @@ startsRow (byte b ∷ items) = not (isLower b)
 startsRow (field k c ∷ items) = eqb (valuesOf k) 1
 
 -- how many bytes a field takes at most: states and scopes have two digits, marks five
-unfoldable pub widest : Kind → ℕ
+unfoldable pub widest : Content → ℕ
 widest state = 2
 widest scope = 2
 widest mark = 5
@@ -86,48 +86,52 @@ unfoldable pub startsNames : List ℕ → Bool
 startsNames [] = false
 startsNames (x ∷ rest) = isLower x
 
-unfoldable pub fine : Section → Bool
+unfoldable pub fine : Shape → Bool
 fine s = orderly (s .row) && (startsRow (s .row) && startsNames (s .names))
 
-unfoldable pub allFine : List Section → Bool
+unfoldable pub allFine : List Shape → Bool
 allFine [] = true
 allFine (s ∷ ss) = fine s && allFine ss
 
--- the nine sections are as they must be: by computing
-sections-fine : allFine sections ≡ true
-unfolding labels pairs transitions accepts scopeCount edges declarations openPairs queries sections allFine fine startsNames startsRow orderly clear lastPlace bounded closes everyItem sparesPlace valuesOf isLower isDigit isNameByte within
-sections-fine = refl
+-- the nine sections are as they must be, in a file of any form: by computing
+shapes-fine : (form : ℕ) → allFine (shapesOf form) ≡ true
+unfolding shapesOf allFine fine startsNames startsRow orderly clear lastPlace bounded closes everyItem sparesPlace valuesOf isLower isDigit isNameByte within
+shapes-fine form = refl
 
-at-fine : (ss : List Section) (d : Section) (k : ℕ) → allFine ss ≡ true → k < length ss → fine (getD ss k d) ≡ true
+at-fine : (ss : List Shape) (d : Shape) (k : ℕ) → allFine ss ≡ true → k < length ss → fine (getD ss k d) ≡ true
 unfolding allFine
 at-fine [] d k h l = absurd (omega arith)
 at-fine (s ∷ ss) d zero h l = both (fine s) (allFine ss) h .0
 at-fine (s ∷ ss) d (suc k) h l = at-fine ss d k (both (fine s) (allFine ss) h .1) (omega arith)
 
--- what holds of a section's number
-pub record Fine (s : Section) : Type 0 where
+nine : (form : ℕ) → length (shapesOf form) ≡ 9
+unfolding shapesOf
+nine form = refl
+
+-- what holds of a section's shape
+pub record Fine (s : Shape) : Type 0 where
   pub line : orderly (s .row) ≡ true
   pub row-first : startsRow (s .row) ≡ true
   pub names-first : startsNames (s .names) ≡ true
 
-pub section-fine : (k : ℕ) → k < 9 → Fine (sectionAt k)
-unfolding sectionAt sections fine
-section-fine k h =
-    let t = at-fine sections pastLast k sections-fine h
-    in let p = both (orderly (sectionAt k .row)) (startsRow (sectionAt k .row) && startsNames (sectionAt k .names)) t
-    in let q = both (startsRow (sectionAt k .row)) (startsNames (sectionAt k .names)) (p .1)
+pub section-fine : (form k : ℕ) → k < 9 → Fine (shapeAt form k)
+unfolding shapeAt fine
+section-fine form k h =
+    let t = at-fine (shapesOf form) _ k (shapes-fine form) (rw (nine form) h)
+    in let p = both (orderly (shapeAt form k .row)) (startsRow (shapeAt form k .row) && startsNames (shapeAt form k .names)) t
+    in let q = both (startsRow (shapeAt form k .row)) (startsNames (shapeAt form k .names)) (p .1)
     in record { line = p .0; row-first = q .0; names-first = q .1 }
 
 -- how many bytes the sections from section k on take at most: each its names line, and its limit of
 -- longest lines
-unfoldable pub room : ℕ → ℕ → ℕ
-room zero k = 0
-room (suc left) k = length (sectionAt k .names) + (sectionAt k .most * longest (sectionAt k .row) + room left (suc k))
+unfoldable pub room : ℕ → ℕ → ℕ → ℕ
+room form zero k = 0
+room form (suc left) k = length (shapeAt form k .names) + (sectionAt k .most * longest (shapeAt form k .row) + room form left (suc k))
 
 -- the nine sections' room is within what refusal 1 allows: by computing
-pub room-enough : leb (room 9 0) 32768 ≡ true
-unfolding labels pairs transitions accepts scopeCount edges declarations openPairs queries sections sectionAt room longest widest
-room-enough = refl
+pub room-enough : (form : ℕ) → leb (room form 9 0) 32768 ≡ true
+unfolding labels pairs transitions accepts scopeCount edges declarations openPairs queries sections sectionAt shapesOf shapeAt room longest widest
+room-enough form = refl
 
 -- the bytes of a names line are a line that holds no field
 pub bytes-orderly : (bs : List ℕ) → orderly (map byte bs) ≡ true

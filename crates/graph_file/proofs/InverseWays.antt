@@ -8,7 +8,7 @@ use mathlib.Core.Bool.{Bool, true, false, not}
 use native.Mathlib.Omega.{arith}
 use lib.Dec.{ltb}
 use Rattle.text_field.proofs.ByteLaws.{clash}
-use Rattle.graph_file.specs.Format.{sectionAt}
+use Rattle.graph_file.specs.Format.{sectionAt, shapeAt}
 use Rattle.text_field.specs.Outcome.{done, andThen, refuseIf}
 use Rattle.graph_file.specs.Admission.{blank, Sofar, nothing, taken, admission}
 use Rattle.graph_file.specs.Line.{formed}
@@ -20,10 +20,10 @@ use Rattle.graph_file.proofs.InverseSofar.{Sound, sound-nothing, sound-
 
 -- A row gone through one way: what it used up, that it can be written, and that the other way goes
 -- from what it made to what it used up.
-pub record RowBack (v : Way) (k : ℕ) (letters s : List ℕ) (p : Piece) : Type 0 where
+pub record RowBack (form : ℕ) (v : Way) (k : ℕ) (letters s : List ℕ) (p : Piece) : Type 0 where
   pub used : List ℕ
   pub whole : s ≡ used ++ p .rest
-  pub formed : formed (sectionAt k .row) (p .row) ≡ true
+  pub formed : formed (shapeAt form k .row) (p .row) ≡ true
   pub more : (t : List ℕ) → v .more k (p .made ++ t) ≡ true
   pub back : (t : List ℕ) → v .row k letters (p .made ++ t) ≡ done (record { row = p .row; made = used; rest = t })
 
@@ -33,10 +33,11 @@ pub record NamesBack (v : Way) (k : ℕ) (s : List ℕ) (p : Piece) : Type 0 whe
   pub whole : s ≡ used ++ p .rest
   pub back : (t : List ℕ) → v .names k (p .made ++ t) ≡ done (record { row = blank; made = used; rest = t })
 
--- Way v mirrors way w. `Outer left k t`: t may be what w makes of `left` sections from section k
--- on; `Inner left k n t`: what it makes of at most n rows of section k and the `left` sections
--- after it.
+-- Way v mirrors way w, in a file of the same form. `Outer left k t`: t may be what w makes of
+-- `left` sections from section k on; `Inner left k n t`: what it makes of at most n rows of section
+-- k and the `left` sections after it.
 pub record Mirror (w v : Way) : Type 1 where
+  pub same : v .form ≡ w .form
   pub Outer : ℕ → ℕ → List ℕ → Type 0
   pub Inner : ℕ → ℕ → ℕ → List ℕ → Type 0
   pub ended : (k : ℕ) → Outer 0 k []
@@ -46,9 +47,9 @@ pub record Mirror (w v : Way) : Type 1 where
   pub names-outer : (left k : ℕ) (s : List ℕ) (p : Piece) (t : List ℕ) → k < 9 → w .names k s ≡ done p → Inner left k (sectionAt k .most) t
       → Outer (suc left) k (p .made ++ t)
   pub row : (k : ℕ) (st : Sofar) (s : List ℕ) (p : Piece) → k < 9 → Sound st → w .more k s ≡ true → w .row k (st .letters) s ≡ done p
-      → Admitted (sectionAt k) st (p .row) → RowBack v k (st .letters) s p
+      → Admitted (w .form) k st (p .row) → RowBack (w .form) v k (st .letters) s p
   pub row-inner : (left k n : ℕ) (st : Sofar) (s : List ℕ) (p : Piece) (t : List ℕ) → Sound st → w .more k s ≡ true
-      → w .row k (st .letters) s ≡ done p → Admitted (sectionAt k) st (p .row) → Inner left k n t → Inner left k (suc n) (p .made ++ t)
+      → w .row k (st .letters) s ≡ done p → Admitted (w .form) k st (p .row) → Inner left k n t → Inner left k (suc n) (p .made ++ t)
 
 -- One turn of the rows, by what the way finds there: no row, or a row that was admitted. Nothing
 -- below looks into `throughRows`.
@@ -57,22 +58,22 @@ unfolding throughRows
 rows-stop w n k g h = rw (h, throughRows)
 
 rows-take : (w : Way) (n k : ℕ) (g : Stage) (p : Piece) → w .more k (g .rest) ≡ true → w .row k (g .sofar .letters) (g .rest) ≡ done p
-    → admission (sectionAt k) (g .sofar) (p .row) ≡ 0 → throughRows w (suc n) k g ≡ throughRows w n k (afterRow k g p)
+    → admission (w .form) k (g .sofar) (p .row) ≡ 0 → throughRows w (suc n) k g ≡ throughRows w n k (afterRow k g p)
 unfolding throughRows oneRow andThen ifAdmitted
 rows-take w n k g p h e a = rw (h, throughRows) (rw (e, a))
 
 record RowTaken (w : Way) (n k : ℕ) (g g′ : Stage) : Type 0 where
   piece : Piece
   came : w .row k (g .sofar .letters) (g .rest) ≡ done piece
-  allowed : admission (sectionAt k) (g .sofar) (piece .row) ≡ 0
+  allowed : admission (w .form) k (g .sofar) (piece .row) ≡ 0
   further : throughRows w n k (afterRow k g piece) ≡ done g′
 
 rows-taken : (w : Way) (n k : ℕ) (g g′ : Stage) → w .more k (g .rest) ≡ true → throughRows w (suc n) k g ≡ done g′ → RowTaken w n k g g′
 unfolding throughRows oneRow
 rows-taken w n k g g′ h e =
     let o = went (oneRow w k g) (throughRows w n k) g′ (rw (h, throughRows) at e)
-    in let s = went (w .row k (g .sofar .letters) (g .rest)) (λ p. ifAdmitted (admission (sectionAt k) (g .sofar) (p .row)) (done (afterRow k g p))) (o .gained) (o .before)
-    in let a = admitted (admission (sectionAt k) (g .sofar) (s .gained .row)) (done (afterRow k g (s .gained))) (o .gained) (s .after)
+    in let s = went (w .row k (g .sofar .letters) (g .rest)) (λ p. ifAdmitted (admission (w .form) k (g .sofar) (p .row)) (done (afterRow k g p))) (o .gained) (o .before)
+    in let a = admitted (admission (w .form) k (g .sofar) (s .gained .row)) (done (afterRow k g (s .gained))) (o .gained) (s .after)
     in record { piece = s .gained; came = s .before; allowed = a .0; further = rw (done-same (afterRow k g (s .gained)) (o .gained) (a .1)) (o .after) }
 
 rows-out : (w : Way) (k : ℕ) (g g′ : Stage) → throughRows w zero k g ≡ done g′ → ⊥
@@ -106,13 +107,13 @@ module _ (w v : Way) (M : Mirror w v) where
       }
 
   rows-one : (left n k : ℕ) (g g′ : Stage) (p : Piece) → k < 9 → Sound (g .sofar) → w .more k (g .rest) ≡ true
-      → w .row k (g .sofar .letters) (g .rest) ≡ done p → admission (sectionAt k) (g .sofar) (p .row) ≡ 0
+      → w .row k (g .sofar .letters) (g .rest) ≡ done p → admission (w .form) k (g .sofar) (p .row) ≡ 0
       → (Sound (taken k (g .sofar) (p .row)) → RowsBack left n k (afterRow k g p) g′) → RowsBack left (suc n) k g g′
   unfolding afterRow
   rows-one left n k g g′ p l S h e a next =
-      let A = row-admitted (sectionAt k) (g .sofar) (p .row) a
+      let A = row-admitted (w .form) k (g .sofar) (p .row) a
       in let b = M .row k (g .sofar) (g .rest) p l S h e A
-      in let r = next (sound-taken k (g .sofar) (p .row) S (b .formed) A)
+      in let r = next (sound-taken (w .form) k (g .sofar) (p .row) S (b .formed) A)
       in record {
         used = b .used ++ r .used;
         made = p .made ++ r .made;
@@ -122,7 +123,7 @@ module _ (w v : Way) (M : Mirror w v) where
         inner = λ t o. rw (append-assoc (p .made) (r .made) t) (M .row-inner left k n (g .sofar) (g .rest) p (r .made ++ t) S h e A (r .inner t o));
         back = λ m t o.
             ap (λ (z : List ℕ). throughRows v (suc (suc n)) k (at (g .sofar) m z)) (append-assoc (p .made) (r .made) t)
-            ∙ rows-take v (suc n) k (at (g .sofar) m (p .made ++ (r .made ++ t))) (record { row = p .row; made = b .used; rest = r .made ++ t }) (b .more (r .made ++ t)) (b .back (r .made ++ t)) a
+            ∙ rows-take v (suc n) k (at (g .sofar) m (p .made ++ (r .made ++ t))) (record { row = p .row; made = b .used; rest = r .made ++ t }) (b .more (r .made ++ t)) (b .back (r .made ++ t)) (ap (λ (f : ℕ). admission f k (g .sofar) (p .row)) (M .same) ∙ a)
             ∙ r .back (m ++ b .used) t o
             ∙ rw (append-assoc m (b .used) (r .used));
       }

@@ -13,7 +13,7 @@ use Rattle.text_field.specs.Bytes.{within, isDigit, isCapital, isLower}
 use Rattle.text_field.specs.Number.{numberHere, numberMeaning}
 use Rattle.text_field.proofs.ByteLaws.{clash, within-bounds, within-below, digit-bounds}
 use Rattle.text_field.proofs.NumberLaws.{first-off}
-use Rattle.graph_file.specs.Format.{Kind, state, scope, mark, count, letter, label, end, name, Item, byte, field, valuesOf, sectionAt}
+use Rattle.graph_file.specs.Format.{Content, state, scope, mark, count, letter, label, end, name, Item, byte, field, valuesOf, sectionAt, shapeAt}
 use Rattle.text_field.specs.Outcome.{done, andThen, refuseIf}
 use Rattle.graph_file.specs.Admission.{Row, rowOf, blank, Sofar, inRange}
 use Rattle.graph_file.specs.Line.{Reading, numberTaken, byteTaken, place, endTaken, first, readField, readItem, placeOf, readItems, lineText, formed}
@@ -62,7 +62,7 @@ end-starts letters text r e = by (eqb (first text) 36) refl
     by true t = mark-starts text (eqb-true (first text) 36 t)
     by false t = capital-starts (suc (place (first text) letters)) text r (sym (end-label letters (first text) text t) ∙ e)
 
-field-starts : (letters : List ℕ) (k : Kind) (text : List ℕ) (r : Reading) → eqb (valuesOf k) 1 ≡ true → readField letters k text ≡ done r
+field-starts : (letters : List ℕ) (k : Content) (text : List ℕ) (r : Reading) → eqb (valuesOf k) 1 ≡ true → readField letters k text ≡ done r
     → rowFollows text ≡ true
 unfolding readField valuesOf
 field-starts letters state text r h e = number-starts text r e
@@ -93,84 +93,85 @@ names-start [] t h = absurd (clash h refl)
 names-start (b ∷ bs) t h = rw h
 
 -- what writing a row makes and leaves
-pub record RowWritten (k : ℕ) (letters s : List ℕ) (p : Piece) : Type 0 where
+pub record RowWritten (form k : ℕ) (letters s : List ℕ) (p : Piece) : Type 0 where
   pub stands : s ≡ (k ∷ rowOf s) ++ drop 6 s
-  pub proper : formed (sectionAt k .row) (rowOf s) ≡ true
-  pub piece : p ≡ record { row = rowOf s; made = lineText letters (sectionAt k .row) (rowOf s); rest = drop 6 s }
+  pub proper : formed (shapeAt form k .row) (rowOf s) ≡ true
+  pub piece : p ≡ record { row = rowOf s; made = lineText letters (shapeAt form k .row) (rowOf s); rest = drop 6 s }
 
-pub row-written : (k : ℕ) (letters s : List ℕ) (p : Piece) → cellsFollow k s ≡ true → writeRow k letters s ≡ done p → RowWritten k letters s p
+pub row-written : (form k : ℕ) (letters s : List ℕ) (p : Piece) → cellsFollow k s ≡ true → writeRow form k letters s ≡ done p → RowWritten form k letters s p
 unfolding writeRow
-row-written k letters s p h e =
-    let made : Piece = record { row = rowOf s; made = lineText letters (sectionAt k .row) (rowOf s); rest = drop 6 s }
-    in let a = passed (ltb (length s) 6) 2 (refuseIf (not (formed (sectionAt k .row) (rowOf s))) 2 (done made)) p e
-    in let b = passed (not (formed (sectionAt k .row) (rowOf s))) 2 (done made) p (a .1)
-    in record { stands = split-six k s h (ltb-false (length s) 6 (a .0)); proper = not-false (formed (sectionAt k .row) (rowOf s)) (b .0); piece = sym (done-same made p (b .1)) }
+row-written form k letters s p h e =
+    let made : Piece = record { row = rowOf s; made = lineText letters (shapeAt form k .row) (rowOf s); rest = drop 6 s }
+    in let a = passed (ltb (length s) 6) 2 (refuseIf (not (formed (shapeAt form k .row) (rowOf s))) 2 (done made)) p e
+    in let b = passed (not (formed (shapeAt form k .row) (rowOf s))) 2 (done made) p (a .1)
+    in record { stands = split-six k s h (ltb-false (length s) 6 (a .0)); proper = not-false (formed (shapeAt form k .row) (rowOf s)) (b .0); piece = sym (done-same made p (b .1)) }
 
 pub rowOf-five : (s : List ℕ) → length (rowOf s) ≡ 5
 unfolding rowOf
 rowOf-five s = refl
 
-names-piece : (k : ℕ) (s : List ℕ) (p : Piece) → writeNames k s ≡ done p → p ≡ record { row = blank; made = sectionAt k .names; rest = s }
+names-piece : (form k : ℕ) (s : List ℕ) (p : Piece) → writeNames form k s ≡ done p → p ≡ record { row = blank; made = shapeAt form k .names; rest = s }
 unfolding writeNames
-names-piece k s p e = sym (done-same (record { row = blank; made = sectionAt k .names; rest = s }) p e)
+names-piece form k s p e = sym (done-same (record { row = blank; made = shapeAt form k .names; rest = s }) p e)
 
-names-read : (k : ℕ) (t : List ℕ) → readNames k (sectionAt k .names ++ t) ≡ done (record { row = blank; made = []; rest = t })
+names-read : (form k : ℕ) (t : List ℕ) → readNames form k (shapeAt form k .names ++ t) ≡ done (record { row = blank; made = []; rest = t })
 unfolding readNames andThen
-names-read k t = rw (names-again (sectionAt k .names) t)
+names-read form k t = rw (names-again (shapeAt form k .names) t)
 
 -- a text that begins at a names line or is at its end, and is no longer than the sections' room
-abbrev Outer : ℕ → ℕ → List ℕ → Type 0
-Outer left k t = (rowFollows t ≡ false) × (length t ≤ room left k)
+abbrev Outer : ℕ → ℕ → ℕ → List ℕ → Type 0
+Outer form left k t = (rowFollows t ≡ false) × (length t ≤ room form left k)
 
 -- at most n lines of section k and the sections after it
-abbrev Inner : ℕ → ℕ → ℕ → List ℕ → Type 0
-Inner left k n t = length t ≤ n * longest (sectionAt k .row) + room left (suc k)
+abbrev Inner : ℕ → ℕ → ℕ → ℕ → List ℕ → Type 0
+Inner form left k n t = length t ≤ n * longest (shapeAt form k .row) + room form left (suc k)
 
-mirrored : (k : ℕ) (st : Sofar) (s : List ℕ) (p : Piece) → k < 9 → Sound st → cellsFollow k s ≡ true → writeRow k (st .letters) s ≡ done p
-    → Admitted (sectionAt k) st (p .row) → RowBack reading k (st .letters) s p
+mirrored : (form k : ℕ) (st : Sofar) (s : List ℕ) (p : Piece) → k < 9 → Sound st → cellsFollow k s ≡ true → writeRow form k (st .letters) s ≡ done p
+    → Admitted form k st (p .row) → RowBack form (reading form) k (st .letters) s p
 unfolding reading readRow andThen
-mirrored k st s p l S h e A =
-    let r = row-written k (st .letters) s p h e
-    in let ranges : inRange (length (st .letters)) (st .scopes) (sectionAt k .row) (rowOf s) ≡ true = rw (r .piece) at (A .ranges)
-    in let f = section-fine k l
-    in let back : (t : List ℕ) → readItems (st .letters) (sectionAt k .row) blank (lineText (st .letters) (sectionAt k .row) (rowOf s) ++ t) ≡ done (record { values = rowOf s; rest = t }) = λ t. line-again (st .letters) (S .letters) (st .scopes) (sectionAt k .row) (rowOf s) t (f .line) (rowOf-five s) (r .proper) ranges
+mirrored form k st s p l S h e A =
+    let r = row-written form k (st .letters) s p h e
+    in let ranges : inRange (length (st .letters)) (st .scopes) (shapeAt form k .row) (rowOf s) ≡ true = rw (r .piece) at (A .ranges)
+    in let f = section-fine form k l
+    in let back : (t : List ℕ) → readItems (st .letters) (shapeAt form k .row) blank (lineText (st .letters) (shapeAt form k .row) (rowOf s) ++ t) ≡ done (record { values = rowOf s; rest = t }) = λ t. line-again (st .letters) (S .letters) (st .scopes) (shapeAt form k .row) (rowOf s) t (f .line) (rowOf-five s) (r .proper) ranges
     in rw (r .piece) (record {
       used = k ∷ rowOf s;
       whole = r .stands;
       formed = r .proper;
-      more = λ t. row-starts (st .letters) (sectionAt k .row) blank (lineText (st .letters) (sectionAt k .row) (rowOf s) ++ t) (record { values = rowOf s; rest = t }) (f .row-first) (back t);
+      more = λ t. row-starts (st .letters) (shapeAt form k .row) blank (lineText (st .letters) (shapeAt form k .row) (rowOf s) ++ t) (record { values = rowOf s; rest = t }) (f .row-first) (back t);
       back = λ t. rw (back t);
     })
 
-line-inner : (left k n : ℕ) (st : Sofar) (s : List ℕ) (p : Piece) (t : List ℕ) → Sound st → cellsFollow k s ≡ true
-    → writeRow k (st .letters) s ≡ done p → Admitted (sectionAt k) st (p .row) → Inner left k n t → Inner left k (suc n) (p .made ++ t)
+line-inner : (form left k n : ℕ) (st : Sofar) (s : List ℕ) (p : Piece) (t : List ℕ) → Sound st → cellsFollow k s ≡ true
+    → writeRow form k (st .letters) s ≡ done p → Admitted form k st (p .row) → Inner form left k n t → Inner form left k (suc n) (p .made ++ t)
 unfolding inRange
-line-inner left k n st s p t S h e A i =
-    let q = row-written k (st .letters) s p h e .piece
-    in let g = line-width (st .letters) (st .scopes) (sectionAt k .row) (rowOf s) (S .few) (rw q at (A .ranges))
-    in rw q (omega (arith, length-append (lineText (st .letters) (sectionAt k .row) (rowOf s)) t, suc-mul n (longest (sectionAt k .row))))
+line-inner form left k n st s p t S h e A i =
+    let q = row-written form k (st .letters) s p h e .piece
+    in let g = line-width (st .letters) (st .scopes) (shapeAt form k .row) (rowOf s) (S .few) (rw q at (A .ranges))
+    in rw q (omega (arith, length-append (lineText (st .letters) (shapeAt form k .row) (rowOf s)) t, suc-mul n (longest (shapeAt form k .row))))
 
-names-outer : (left k : ℕ) (s : List ℕ) (p : Piece) (t : List ℕ) → k < 9 → writeNames k s ≡ done p → Inner left k (sectionAt k .most) t
-    → Outer (suc left) k (p .made ++ t)
+names-outer : (form left k : ℕ) (s : List ℕ) (p : Piece) (t : List ℕ) → k < 9 → writeNames form k s ≡ done p → Inner form left k (sectionAt k .most) t
+    → Outer form (suc left) k (p .made ++ t)
 unfolding room
-names-outer left k s p t l e i = rw (names-piece k s p e) (names-start (sectionAt k .names) t (section-fine k l .names-first), omega (arith, length-append (sectionAt k .names) t))
+names-outer form left k s p t l e i = rw (names-piece form k s p e) (names-start (shapeAt form k .names) t (section-fine form k l .names-first), omega (arith, length-append (shapeAt form k .names) t))
 
-pub writing-mirrored : Mirror writing reading
+pub writing-mirrored : (form : ℕ) → Mirror (writing form) (reading form)
 unfolding reading writing room rowFollows
-writing-mirrored =
+writing-mirrored form =
     record {
-      Outer = Outer;
-      Inner = Inner;
+      same = refl;
+      Outer = Outer form;
+      Inner = Inner form;
       ended = λ k. (refl, omega arith);
       resting = λ left k n t o. let h = o .1 in omega arith;
       halts = λ left k t o. o .0;
-      names = λ k s p e. rw (names-piece k s p e) (record { used = []; whole = refl; back = λ t. names-read k t });
-      names-outer = names-outer;
-      row = mirrored;
-      row-inner = line-inner;
+      names = λ k s p e. rw (names-piece form k s p e) (record { used = []; whole = refl; back = λ t. names-read form k t });
+      names-outer = names-outer form;
+      row = mirrored form;
+      row-inner = line-inner form;
     }
 
 -- the nine sections' text is no longer than their room
-pub written-fits : (t : List ℕ) → writing-mirrored .Outer 9 0 t → length t ≤ room 9 0
+pub written-fits : (form : ℕ) (t : List ℕ) → writing-mirrored form .Outer 9 0 t → length t ≤ room form 9 0
 unfolding writing-mirrored
-written-fits t o = o .1
+written-fits form t o = o .1

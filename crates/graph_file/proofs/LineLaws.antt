@@ -24,7 +24,7 @@ use borrow.Author.Tests.{eq-eqb, ne-eqb, ltb-true, ltb-false}
 use Rattle.text_field.specs.Bytes.{isCapital}
 use Rattle.graph_file.specs.Admission.{Row}
 use Rattle.graph_file.specs.Line.{Reading, numberTaken, nameTaken, byteTaken, place, endTaken, readField, startsWith, readItem, placeOf, readItems}
-use Rattle.graph_file.specs.Table.{kindOf, itemOf, formatBytes, itemsAt}
+use Rattle.graph_file.specs.Table.{contentOf, itemOf, formatBytes, itemsAt}
 use Rattle.graph_file.proofs.FormatLaws.{item-byte, item-field, items-step, line-more, line-last}
 use Rattle.graph_file.specs.Reader.{took, lineOutcome, itemPut, itemLine}
 
@@ -67,9 +67,9 @@ pub end-letter : (letters : List ℕ) (x : ℕ) (text : List ℕ) → (x ≡ 36 
 unfolding endTaken
 end-letter letters x text n = rw (ne-eqb x 36 n, endTaken, add-one (place x letters))
 
--- the first four kinds are numbers
-pub field-number : (letters text : List ℕ) (n : ℕ) → n < 4 → readField letters (kindOf n) text ≡ numberTaken (numberHere text) text
-unfolding readField kindOf
+-- the first four contents are numbers
+pub field-number : (letters text : List ℕ) (n : ℕ) → n < 4 → readField letters (contentOf n) text ≡ numberTaken (numberHere text) text
+unfolding readField contentOf
 field-number letters text zero h = refl
 field-number letters text (suc zero) h = refl
 field-number letters text (suc (suc zero)) h = refl
@@ -106,7 +106,7 @@ pub item-is-byte : (letters : List ℕ) (x : ℕ) (text : List ℕ) → x < 128 
 unfolding readItem
 item-is-byte letters x text h = rw (item-byte x h)
 
-pub item-is-field : (letters : List ℕ) (x : ℕ) (text : List ℕ) → 128 ≤ x → readItem letters (itemOf x) text ≡ readField letters (kindOf ((x - 128) / 8)) text
+pub item-is-field : (letters : List ℕ) (x : ℕ) (text : List ℕ) → 128 ≤ x → readItem letters (itemOf x) text ≡ readField letters (contentOf ((x - 128) / 8)) text
 unfolding readItem
 item-is-field letters x text h = rw (item-field x h)
 

@@ -15,7 +15,7 @@ use Rattle.scope_graph.specs.Language.{_∈_}
 use Rattle.scope_graph.specs.Listing.{Pairwise}
 use Rattle.text_field.specs.Outcome.{done}
 use Rattle.scope_graph.proofs.Lists.{here, there, and-both, or-left, or-right}
-use Rattle.graph_file.specs.Format.{name, field, sections, sectionAt, declarations, declarationSection}
+use Rattle.graph_file.specs.Format.{name, field, sections, sectionAt, declarations, shapesOf, shapeAt, declarationSection}
 use Rattle.graph_file.specs.Admission.{Row, value, keyLess}
 use Rattle.graph_file.specs.Line.{itemFormed, fieldFormed}
 use Rattle.graph_file.specs.File.{readCells}
@@ -89,7 +89,7 @@ all-declared (row ∷ rows) n p =
     ((λ later m. declared row later (n row here) (n later (there m)) (p .0 later m)), all-declared rows (λ later m. n later (there m)) (p .1))
 
 names-read : (text cells : List ℕ) → readCells text ≡ done cells → (row : Row) → row ∈ rowsIn declarationSection cells → isNameCells (value row 1) (value row 2) ≡ true
-unfolding sectionAt sections declarations itemFormed fieldFormed
+unfolding shapeAt shapesOf itemFormed fieldFormed
 names-read text cells e row m = read-formed declarationSection text cells e row m (field name 1) (there (there here))
 
 pub read-declarations-ascend : ReadDeclarationsAscend

@@ -44,9 +44,9 @@ onward-row w k m g = inner (w .row k (g .sofar .letters) (g .rest))
     admit zero p = ap done (stage p)
     admit (suc a) p = refl
 
-    inner : (o : Outcome Piece) → andThen o (λ p. ifAdmitted (admission (sectionAt k) (g .sofar) (p .row)) (done (afterRow k (after m g) p))) ≡ mapped m (andThen o (λ p. ifAdmitted (admission (sectionAt k) (g .sofar) (p .row)) (done (afterRow k g p))))
+    inner : (o : Outcome Piece) → andThen o (λ p. ifAdmitted (admission (w .form) k (g .sofar) (p .row)) (done (afterRow k (after m g) p))) ≡ mapped m (andThen o (λ p. ifAdmitted (admission (w .form) k (g .sofar) (p .row)) (done (afterRow k g p))))
     inner (refused n) = refl
-    inner (done p) = admit (admission (sectionAt k) (g .sofar) (p .row)) p
+    inner (done p) = admit (admission (w .form) k (g .sofar) (p .row)) p
 
 -- the rows of a section where one follows, and where none does
 module _ (w : Way) (turns k : ℕ) (g : Stage) where

@@ -14,7 +14,7 @@ use Rattle.text_field.proofs.BufferLaws.{puts-fits}
 use Rattle.graph_file.specs.declared.line.Line.{Line}
 use Rattle.graph_file.specs.declared.rows.Counts.{Counts}
 use Rattle.graph_file.specs.declared.reader.Part.{Part}
-use Rattle.graph_file.specs.Format.{Section, sectionAt}
+use Rattle.graph_file.specs.Format.{sectionAt}
 use Rattle.text_field.specs.Outcome.{Outcome, refused, done, andThen}
 use Rattle.graph_file.specs.Admission.{Row, value, rowOf, blank, Sofar, counted, unless, admission}
 use Rattle.graph_file.specs.Line.{Reading, readItems}
@@ -64,13 +64,13 @@ placed-after k n c v p = go (eqb k 0) (eqb k 1) refl refl
         record { early = λ h. absurd (omega arith); first = λ h. absurd (omega arith); within = omega (arith, p .within); rowed = omega (arith, p .rowed) }
 
 -- an admitted row had room
-pub admitted-room : (s : Section) (st : Sofar) (row : Row) → admission s st row ≡ 0 → st .rows < s .most
+pub admitted-room : (form k : ℕ) (st : Sofar) (row : Row) → admission form k st row ≡ 0 → st .rows < sectionAt k .most
 unfolding admission unless
-admitted-room s st row = go (ltb (st .rows) (s .most)) refl
+admitted-room form k st row = go (ltb (st .rows) (sectionAt k .most)) refl
   where
-    go : (b : Bool) → ltb (st .rows) (s .most) ≡ b → admission s st row ≡ 0 → st .rows < s .most
-    go true e z = ltb-true (st .rows) (s .most) e
-    go false e z = let f : admission s st row ≡ 5 = rw e in absurd (omega arith)
+    go : (b : Bool) → ltb (st .rows) (sectionAt k .most) ≡ b → admission form k st row ≡ 0 → st .rows < sectionAt k .most
+    go true e z = ltb-true (st .rows) (sectionAt k .most) e
+    go false e z = let f : admission form k st row ≡ 5 = rw e in absurd (omega arith)
 
 -- the table after a row was put
 pub put-grown : (k n : ℕ) (t u : List ℕ) (r : ℕ) (row : Row) → n + 6 ≤ length t → length row ≡ 5 → _≡_ {A = Buf} (u, r) (puts (t, n) (k ∷ row)) → u ≡ grown k n t row
@@ -79,22 +79,22 @@ put-grown k n t u r row h w e =
     let d : n + length (k ∷ row) ≡ n + 6 = omega arith in
     ap (λ (b : Buf). b .0) (e ∙ puts-fits t n (k ∷ row) (omega arith)) ∙ rw (d, append-assoc (take n t) (k ∷ row) (drop (n + 6) t))
 
-module _ (k n : ℕ) (t part : List ℕ) (at : ℕ) (c : Counts) (l : Line) (e : lineOutcome l part ≡ readItems (lettersAt (c .labels) (drop 1 t)) (itemsAt (rowPlace k)) blank (drop at part)) where
+module _ (form k n : ℕ) (t part : List ℕ) (at : ℕ) (c : Counts) (l : Line) (e : lineOutcome l part ≡ readItems (lettersAt (c .labels) (drop 1 t)) (itemsAt (rowPlace form k)) blank (drop at part)) where
   -- the line is not of its form
-  pub one-refused : l .ok ≡ false → refused 2 ≡ oneRow reading k (stageAt t n c (drop at part))
+  pub one-refused : l .ok ≡ false → refused 2 ≡ oneRow (reading form) k (stageAt t n c (drop at part))
   unfolding oneRow reading readRow stageAt sofarAt andThen
-  one-refused p = sym (rw (← row-items k, ← e, outcome-not l part p))
+  one-refused p = sym (rw (← row-items form k, ← e, outcome-not l part p))
 
   -- the line is read, and the row admitted or not
-  one-read : l .ok ≡ true → oneRow reading k (stageAt t n c (drop at part)) ≡ ifAdmitted (admission (sectionAt k) (sofarAt t n c) (l .row)) (done (afterRow k (stageAt t n c (drop at part)) (record { row = l .row; made = k ∷ l .row; rest = drop (l .next) part })))
+  one-read : l .ok ≡ true → oneRow (reading form) k (stageAt t n c (drop at part)) ≡ ifAdmitted (admission form k (sofarAt t n c) (l .row)) (done (afterRow k (stageAt t n c (drop at part)) (record { row = l .row; made = k ∷ l .row; rest = drop (l .next) part })))
   unfolding oneRow reading readRow stageAt sofarAt andThen
-  one-read p = rw (← row-items k, ← e, outcome-ok l part p)
+  one-read p = rw (← row-items form k, ← e, outcome-ok l part p)
 
   module _ (p : Placed k n c) (ok : l .ok ≡ true) (fits : n + 6 ≤ length t) (five : length (l .row) ≡ 5) (u : List ℕ) (g : u ≡ grown k n t (l .row)) where
-    admission-same : admission (sectionAt k) (sofarAt u n c) (rowOf (drop n u)) ≡ admission (sectionAt k) (sofarAt t n c) (l .row)
+    admission-same : admission form k (sofarAt u n c) (rowOf (drop n u)) ≡ admission form k (sofarAt t n c) (l .row)
     admission-same = rw (g, grown-kept k n t (l .row) c p (omega arith) five, grown-row k n t (l .row) c p (omega arith) five)
 
-    pub one-row : (a : ℕ) → a ≡ admission (sectionAt k) (sofarAt u n c) (rowOf (drop n u)) → ifAdmitted a (done (stageAt u (n + 6) (countsAfter k c (value (l .row) 0)) (drop (l .next) part))) ≡ oneRow reading k (stageAt t n c (drop at part))
+    pub one-row : (a : ℕ) → a ≡ admission form k (sofarAt u n c) (rowOf (drop n u)) → ifAdmitted a (done (stageAt u (n + 6) (countsAfter k c (value (l .row) 0)) (drop (l .next) part))) ≡ oneRow (reading form) k (stageAt t n c (drop at part))
     unfolding afterRow stageAt
     one-row a h = sym (one-read ok ∙ rw (← admission-same, ← h) (ap (λ (x : Stage). ifAdmitted a (done x)) stage))
       where
@@ -102,19 +102,19 @@ module _ (k n : ℕ) (t part : List ℕ) (at : ℕ) (c : Counts) (l : Line) (e :
         stage = rw g (λ i. record { sofar = sym (sofar-grown k n t (l .row) c p (omega arith) five) i; made = sym (made-grown k n t (l .row) c p (omega arith) five) i; rest = drop (l .next) part })
 
     -- a row that is not admitted
-    pub one-not : (a : ℕ) (g : Stage) → a ≡ admission (sectionAt k) (sofarAt u n c) (rowOf (drop n u)) → (a ≡ 0 → ⊥) → refusedOr a g ≡ oneRow reading k (stageAt t n c (drop at part))
+    pub one-not : (a : ℕ) (g : Stage) → a ≡ admission form k (sofarAt u n c) (rowOf (drop n u)) → (a ≡ 0 → ⊥) → refusedOr a g ≡ oneRow (reading form) k (stageAt t n c (drop at part))
     unfolding refusedOr ifAdmitted
     one-not zero x h z = absurd (z refl)
     one-not (suc a) x h z = one-row (suc a) h
 
     -- a row that is admitted
-    pub one-taken : (a : ℕ) → a ≡ admission (sectionAt k) (sofarAt u n c) (rowOf (drop n u)) → a ≡ 0 → refusedOr 0 (stageAt u (n + 6) (countsAfter k c (value (l .row) 0)) (drop (l .next) part)) ≡ oneRow reading k (stageAt t n c (drop at part))
+    pub one-taken : (a : ℕ) → a ≡ admission form k (sofarAt u n c) (rowOf (drop n u)) → a ≡ 0 → refusedOr 0 (stageAt u (n + 6) (countsAfter k c (value (l .row) 0)) (drop (l .next) part)) ≡ oneRow (reading form) k (stageAt t n c (drop at part))
     unfolding refusedOr ifAdmitted
     one-taken a h z = one-row 0 (sym z ∙ h)
 
-    pub one-room : (a : ℕ) → a ≡ admission (sectionAt k) (sofarAt u n c) (rowOf (drop n u)) → a ≡ 0 → c .rows < sectionAt k .most
+    pub one-room : (a : ℕ) → a ≡ admission form k (sofarAt u n c) (rowOf (drop n u)) → a ≡ 0 → c .rows < sectionAt k .most
     unfolding sofarAt
-    one-room a h z = admitted-room (sectionAt k) (sofarAt u n c) (rowOf (drop n u)) (sym h ∙ z)
+    one-room a h z = admitted-room form k (sofarAt u n c) (rowOf (drop n u)) (sym h ∙ z)
 
 -- whether a row follows, at the text's end and before it
 pub follows-none : (text : List ℕ) (at : ℕ) → length text ≤ at → false ≡ rowFollows (drop at text)

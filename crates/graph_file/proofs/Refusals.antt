@@ -6,12 +6,12 @@ use mathlib.Core.List.{List, [], _∷_, map}
 use Rattle.text_field.specs.Bytes.{within, isDigit, isCapital, isLower, isNameByte}
 use Rattle.text_field.specs.Number.{digitsOf, numberText, growing, digitsFrom, numberHere, numberMeaning}
 use Rattle.text_field.specs.Name.{allNameBytes, isName, packed, packHigh, packLow, bytesOf, beforeZero, nameText, isNameCells, nameRun, nameOf, nameHere, nameMeaning}
-use Rattle.graph_file.specs.Format.{labels, pairs, transitions, accepts, scopeCount, edges, declarations, openPairs, queries, sections, sectionAt, valuesOf, everyItem}
+use Rattle.graph_file.specs.Format.{labels, pairs, transitions, accepts, scopeCount, edges, declarations, openPairs, queries, sections, sectionAt, shapesOf, shapeAt, valuesOf, everyItem}
 use Rattle.text_field.specs.Outcome.{Outcome, refused, done, andThen, refuseIf}
-use Rattle.graph_file.specs.Admission.{nothing, begun, joined, counted, taken, kindInRange, itemInRange, inRange, rowOf, keyLess, listed, follows, unless, admission}
+use Rattle.graph_file.specs.Admission.{nothing, begun, joined, counted, taken, contentInRange, itemInRange, inRange, rowOf, keyLess, listed, follows, unless, admission}
 use Rattle.graph_file.specs.Line.{numberTaken, nameTaken, byteTaken, place, endTaken, readField, startsWith, readItem, placeOf, readItems, endByte, fieldText, itemText, lineText, fieldFormed, itemFormed, sparesPlace, idleZero, idleZeros, formed}
 use Rattle.graph_file.specs.Order.{someRow, sameEnds, gap, pairFault, orderFault}
-use Rattle.graph_file.specs.File.{ifAdmitted, afterRow, oneRow, throughRows, afterNames, enough, throughSection, isEmpty, throughSections, ordered, atStart, whole, readNames, rowFollows, readRow, reading, readStage, madeOf, readCells, writeNames, cellsFollow, writeRow, writing, hasForm, writeText}
+use Rattle.graph_file.specs.File.{ifAdmitted, afterRow, oneRow, throughRows, afterNames, enough, throughSection, isEmpty, throughSections, ordered, atStart, whole, readNames, rowFollows, readRow, reading, readStage, madeOf, readCells, writeNames, cellsFollow, writeRow, writing, hasForm, formIn, writeText}
 use Rattle.text_field.specs.Answer.{answer, written, leaves}
 use Rattle.graph_file.specs.NameSought.{afterLines, lineCount, namePart, restOf, isNameField, fromName, queryFrom, fromWithin, fromSought, nameFront, nameSought}
 
@@ -62,7 +62,7 @@ texts =
     []
 
 pub reader-refuses : map (λ (t : List ℕ). refusalOf (readCells t)) texts ≡ 2 ∷ 0 ∷ 2 ∷ 2 ∷ 2 ∷ 2 ∷ 3 ∷ 3 ∷ 2 ∷ 5 ∷ 0 ∷ 5 ∷ 4 ∷ 2 ∷ 2 ∷ 4 ∷ 3 ∷ 4 ∷ 6 ∷ 6 ∷ 6 ∷ 0 ∷ 3 ∷ 3 ∷ 0 ∷ 3 ∷ 0 ∷ 3 ∷ 2 ∷ 0 ∷ 2 ∷ 4 ∷ 0 ∷ 4 ∷ 0 ∷ 3 ∷ 2 ∷ []
-unfolding labels pairs transitions accepts scopeCount edges declarations openPairs queries sections sectionAt andThen refuseIf nothing begun joined counted taken everyItem kindInRange itemInRange inRange keyLess listed follows unless admission someRow sameEnds gap pairFault orderFault ifAdmitted afterRow oneRow throughRows afterNames enough throughSection isEmpty throughSections ordered atStart whole madeOf within isDigit isCapital isLower isNameByte numberTaken numberMeaning nameTaken nameMeaning byteTaken place endTaken readField startsWith readItem placeOf readItems growing digitsFrom numberHere packed packHigh packLow nameRun nameOf nameHere readNames rowFollows readRow reading readStage readCells refusalOf
+unfolding labels pairs transitions accepts scopeCount edges declarations openPairs queries sections sectionAt shapesOf shapeAt andThen refuseIf nothing begun joined counted taken everyItem contentInRange itemInRange inRange keyLess listed follows unless admission someRow sameEnds gap pairFault orderFault ifAdmitted afterRow oneRow throughRows afterNames enough throughSection isEmpty throughSections ordered atStart whole madeOf within isDigit isCapital isLower isNameByte numberTaken numberMeaning nameTaken nameMeaning byteTaken place endTaken readField startsWith readItem placeOf readItems growing digitsFrom numberHere packed packHigh packLow nameRun nameOf nameHere readNames rowFollows readRow reading readStage readCells refusalOf
 reader-refuses = refl
 
 abbrev tables : List (List ℕ)
@@ -86,5 +86,5 @@ tables =
     []
 
 pub writer-refuses : map (λ (t : List ℕ). refusalOf (writeText t)) tables ≡ 2 ∷ 2 ∷ 2 ∷ 0 ∷ 2 ∷ 2 ∷ 2 ∷ 2 ∷ 2 ∷ 3 ∷ 5 ∷ 3 ∷ 2 ∷ 4 ∷ 6 ∷ 2 ∷ []
-unfolding labels pairs transitions accepts scopeCount edges declarations openPairs queries sections sectionAt andThen refuseIf nothing begun joined counted taken everyItem kindInRange itemInRange inRange keyLess listed follows unless admission someRow sameEnds gap pairFault orderFault ifAdmitted afterRow oneRow throughRows afterNames enough throughSection isEmpty throughSections ordered atStart whole madeOf within isDigit isCapital isLower isNameByte digitsOf numberText allNameBytes isName packed packHigh packLow bytesOf beforeZero nameText isNameCells endByte fieldText itemText lineText fieldFormed itemFormed valuesOf sparesPlace idleZero idleZeros formed rowOf writeNames cellsFollow writeRow writing hasForm writeText refusalOf
+unfolding labels pairs transitions accepts scopeCount edges declarations openPairs queries sections sectionAt shapesOf shapeAt andThen refuseIf nothing begun joined counted taken everyItem contentInRange itemInRange inRange keyLess listed follows unless admission someRow sameEnds gap pairFault orderFault ifAdmitted afterRow oneRow throughRows afterNames enough throughSection isEmpty throughSections ordered atStart whole madeOf within isDigit isCapital isLower isNameByte digitsOf numberText allNameBytes isName packed packHigh packLow bytesOf beforeZero nameText isNameCells endByte fieldText itemText lineText fieldFormed itemFormed valuesOf sparesPlace idleZero idleZeros formed rowOf writeNames cellsFollow writeRow writing hasForm formIn writeText refusalOf
 writer-refuses = refl

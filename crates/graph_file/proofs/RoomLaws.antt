@@ -20,7 +20,7 @@ use Rattle.text_field.specs.Name.{nameMeaning, nameHere}
 use Rattle.text_field.specs.Outcome.{done, andThen}
 use Rattle.text_field.proofs.OutcomeLaws.{done-same, not-done}
 use Rattle.graph_file.specs.declared.rows.Counts.{Counts}
-use Rattle.graph_file.specs.Format.{Kind, state, scope, mark, count, letter, label, end, name, Item, byte, field, labels, pairs, transitions, accepts, scopeCount, edges, declarations, openPairs, queries, sections, pastLast, sectionAt}
+use Rattle.graph_file.specs.Format.{Content, state, scope, mark, count, letter, label, end, name, Item, byte, field, sectionAt, shapesOf, shapeAt, ownCells}
 use Rattle.graph_file.specs.Admission.{Row, blank, begun, taken}
 use Rattle.graph_file.specs.Line.{Reading, numberTaken, nameTaken, byteTaken, place, endTaken, first, readField, startsWith, readItem, placeOf, readItems}
 use Rattle.graph_file.specs.File.{Piece, Stage, afterRow, oneRow, throughRows, afterNames, throughSection, readNames, readRow, reading}
@@ -64,7 +64,7 @@ unfolding endTaken
 end-later letters x text r e =
     ⊎-elim (λ c. byte-later true 0 text r (c .1)) (λ c. byte-later (isCapital x) (suc (place x letters)) text r (c .1)) (either-done (eqb x 36) _ _ e)
 
-field-later : (letters : List ℕ) (k : Kind) (text : List ℕ) (r : Reading) → readField letters k text ≡ done r → Later text r
+field-later : (letters : List ℕ) (k : Content) (text : List ℕ) (r : Reading) → readField letters k text ≡ done r → Later text r
 unfolding readField
 field-later letters state text r e = number-later (numberHere text) text r e
 field-later letters scope text r e = number-later (numberHere text) text r e
@@ -115,78 +115,78 @@ items-lines letters (i ∷ items) row text r e =
     omega arith
 
 -- each section's row ends its line
-row-ends : (k : ℕ) → lineEnds (sectionAt k .row) ≡ 1
-unfolding lineEnds itemEnds lineCount sectionAt sections pastLast labels pairs transitions accepts scopeCount edges declarations openPairs queries
-row-ends zero = refl
-row-ends (suc zero) = refl
-row-ends (suc (suc zero)) = refl
-row-ends (suc (suc (suc zero))) = refl
-row-ends (suc (suc (suc (suc zero)))) = refl
-row-ends (suc (suc (suc (suc (suc zero))))) = refl
-row-ends (suc (suc (suc (suc (suc (suc zero)))))) = refl
-row-ends (suc (suc (suc (suc (suc (suc (suc zero))))))) = refl
-row-ends (suc (suc (suc (suc (suc (suc (suc (suc zero)))))))) = refl
-row-ends (suc (suc (suc (suc (suc (suc (suc (suc (suc k))))))))) = refl
+row-ends : (f k : ℕ) → lineEnds (shapeAt f k .row) ≡ 1
+unfolding lineEnds itemEnds lineCount shapesOf shapeAt
+row-ends f zero = refl
+row-ends f (suc zero) = refl
+row-ends f (suc (suc zero)) = refl
+row-ends f (suc (suc (suc zero))) = refl
+row-ends f (suc (suc (suc (suc zero)))) = refl
+row-ends f (suc (suc (suc (suc (suc zero))))) = refl
+row-ends f (suc (suc (suc (suc (suc (suc zero)))))) = refl
+row-ends f (suc (suc (suc (suc (suc (suc (suc zero))))))) = refl
+row-ends f (suc (suc (suc (suc (suc (suc (suc (suc zero)))))))) = refl
+row-ends f (suc (suc (suc (suc (suc (suc (suc (suc (suc k))))))))) = refl
 
-names-lines : (k : ℕ) (text : List ℕ) (p : Piece) → readNames k text ≡ done p → lineCount (p .rest) ≤ lineCount text
+names-lines : (f k : ℕ) (text : List ℕ) (p : Piece) → readNames f k text ≡ done p → lineCount (p .rest) ≤ lineCount text
 unfolding readNames
-names-lines k text p e =
-    let s = andThen-done (readItems [] (map byte (sectionAt k .names)) blank text) _ e in
-    let f = items-lines [] (map byte (sectionAt k .names)) blank text (s .0) (s .1) in
+names-lines f k text p e =
+    let s = andThen-done (readItems [] (map byte (shapeAt f k .names)) blank text) _ e in
+    let h = items-lines [] (map byte (shapeAt f k .names)) blank text (s .0) (s .1) in
     let q = ap (λ (z : Piece). lineCount (z .rest)) (done-is (s .2)) in
     omega arith
 
-row-lines : (k : ℕ) (letters text : List ℕ) (p : Piece) → readRow k letters text ≡ done p → suc (lineCount (p .rest)) ≤ lineCount text
+row-lines : (f k : ℕ) (letters text : List ℕ) (p : Piece) → readRow f k letters text ≡ done p → suc (lineCount (p .rest)) ≤ lineCount text
 unfolding readRow
-row-lines k letters text p e =
-    let s = andThen-done (readItems letters (sectionAt k .row) blank text) _ e in
-    let f = items-lines letters (sectionAt k .row) blank text (s .0) (s .1) in
+row-lines f k letters text p e =
+    let s = andThen-done (readItems letters (shapeAt f k .row) blank text) _ e in
+    let h = items-lines letters (shapeAt f k .row) blank text (s .0) (s .1) in
     let q = ap (λ (z : Piece). lineCount (z .rest)) (done-is (s .2)) in
-    omega (arith, row-ends k)
+    omega (arith, row-ends f k)
 
 -- the rows of the section so far, and the lines that are left
 unfoldable weight : Stage → ℕ
 weight g = g .sofar .rows + lineCount (g .rest)
 
-one-weight : (k : ℕ) (g h : Stage) → oneRow reading k g ≡ done h → weight h ≤ weight g
+one-weight : (f k : ℕ) (g h : Stage) → oneRow (reading f) k g ≡ done h → weight h ≤ weight g
 unfolding weight reading afterRow taken
-one-weight k g h e =
-    let r = row-split reading k g h e in
-    let f = row-lines k (g .sofar .letters) (g .rest) (r .0) (r .1) in
+one-weight f k g h e =
+    let r = row-split (reading f) k g h e in
+    let l = row-lines f k (g .sofar .letters) (g .rest) (r .0) (r .1) in
     let q = ap weight (r .3) in
     omega arith
 
-rows-weight : (turns k : ℕ) (g h : Stage) → throughRows reading turns k g ≡ done h → weight h ≤ weight g
+rows-weight : (f turns k : ℕ) (g h : Stage) → throughRows (reading f) turns k g ≡ done h → weight h ≤ weight g
 unfolding throughRows
-rows-weight zero k g h e = absurd (not-done 5 h e)
-rows-weight (suc turns) k g h e =
+rows-weight f zero k g h e = absurd (not-done 5 h e)
+rows-weight f (suc turns) k g h e =
     ⊎-elim
     (λ c.
-    let m = andThen-done (oneRow reading k g) (throughRows reading turns k) (c .1) in
-    let a = one-weight k g (m .0) (m .1) in
-    let b = rows-weight turns k (m .0) h (m .2) in
+    let m = andThen-done (oneRow (reading f) k g) (throughRows (reading f) turns k) (c .1) in
+    let a = one-weight f k g (m .0) (m .1) in
+    let b = rows-weight f turns k (m .0) h (m .2) in
     omega arith)
     (λ c. let q = ap weight (done-is (c .1)) in omega arith)
-    (either-done (reading .more k (g .rest)) _ _ e)
+    (either-done (reading f .more k (g .rest)) _ _ e)
 
-section-weight : (k : ℕ) (g h : Stage) → throughSection reading k g ≡ done h → weight h ≤ lineCount (g .rest)
+section-weight : (f k : ℕ) (g h : Stage) → throughSection (reading f) k g ≡ done h → weight h ≤ lineCount (g .rest)
 unfolding weight reading afterNames begun
-section-weight k g h e =
-    let s = section-split reading k g h e in
-    let f = names-lines k (g .rest) (s .0) (s .1) in
-    let r = rows-weight (suc (sectionAt k .most)) k (afterNames g (s .0)) h (s .2) in
+section-weight f k g h e =
+    let s = section-split (reading f) k g h e in
+    let l = names-lines f k (g .rest) (s .0) (s .1) in
+    let r = rows-weight f (suc (sectionAt k .most)) k (afterNames g (s .0)) h (s .2) in
     omega arith
 
 -- the same of the tables that the reader has come to
-pub row-passed : (k n m : ℕ) (t u : List ℕ) (c d : Counts) (s rest : List ℕ) → oneRow reading k (stageAt t n c s) ≡ done (stageAt u m d rest)
+pub row-passed : (f k n m : ℕ) (t u : List ℕ) (c d : Counts) (s rest : List ℕ) → oneRow (reading f) k (stageAt t n c s) ≡ done (stageAt u m d rest)
     → d .rows + lineCount rest ≤ c .rows + lineCount s
 unfolding weight stageAt sofarAt
-row-passed k n m t u c d s rest e = one-weight k (stageAt t n c s) (stageAt u m d rest) e
+row-passed f k n m t u c d s rest e = one-weight f k (stageAt t n c s) (stageAt u m d rest) e
 
-pub section-passed : (k n m : ℕ) (t u : List ℕ) (c d : Counts) (s rest : List ℕ) → throughSection reading k (stageAt t n c s) ≡ done (stageAt u m d rest)
+pub section-passed : (f k n m : ℕ) (t u : List ℕ) (c d : Counts) (s rest : List ℕ) → throughSection (reading f) k (stageAt t n c s) ≡ done (stageAt u m d rest)
     → d .rows + lineCount rest ≤ lineCount s
 unfolding weight stageAt sofarAt
-section-passed k n m t u c d s rest e = section-weight k (stageAt t n c s) (stageAt u m d rest) e
+section-passed f k n m t u c d s rest e = section-weight f k (stageAt t n c s) (stageAt u m d rest) e
 
 -- room for rows: at the next row, at a later place, in the next section
 pub room-here : (k n m rows size : ℕ) (s rest : List ℕ) → RowsRoom k n s size → m ≡ n + 6 * rows → rows ≤ sectionAt k .most

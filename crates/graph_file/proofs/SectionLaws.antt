@@ -12,7 +12,7 @@ use lib.Seq.{take-all, drop-drop}
 use Rattle.graph_file.specs.declared.line.Line.{Line}
 use Rattle.graph_file.specs.declared.rows.Counts.{Counts}
 use Rattle.graph_file.specs.declared.reader.Part.{Part}
-use Rattle.graph_file.specs.Format.{Item, byte, Section, form, labels, pairs, transitions, accepts, scopeCount, edges, declarations, openPairs, queries, pastLast, sections, sectionAt}
+use Rattle.graph_file.specs.Format.{Item, byte, oldForm, labels, pairs, transitions, accepts, scopeCount, edges, declarations, openPairs, queries, pastLast, sections, sectionAt, shapeAt}
 use Rattle.text_field.specs.Outcome.{Outcome, refused, done, andThen, refuseIf}
 use Rattle.graph_file.specs.Admission.{Row, blank, Sofar, nothing, begun}
 use Rattle.graph_file.specs.Line.{Reading, readItems}
@@ -31,38 +31,38 @@ fresh c = record { labels = c .labels; pairs = c .pairs; scopes = c .scopes; row
 pub placed-fresh : (k n : ℕ) (c : Counts) → Placed k n c → Placed k n (fresh c)
 placed-fresh k n c p = record { early = p .early; first = p .first; within = p .within; rowed = omega (arith, p .within) }
 
-module _ (k n : ℕ) (t part : List ℕ) (c : Counts) (l : Line) (e : lineOutcome l part ≡ readItems (lettersAt 0 (drop 1 t)) (itemsAt (namesPlace k)) blank (drop 0 part)) where
-  named : readItems [] (map byte (sectionAt k .names)) blank part ≡ lineOutcome l part
+module _ (form k n : ℕ) (t part : List ℕ) (c : Counts) (l : Line) (e : lineOutcome l part ≡ readItems (lettersAt 0 (drop 1 t)) (itemsAt (namesPlace form k)) blank (drop 0 part)) where
+  named : readItems [] (map byte (shapeAt form k .names)) blank part ≡ lineOutcome l part
   unfolding lettersAt rowsAt
-  named = sym (e ∙ ap (λ (i : List Item). readItems [] i blank part) (names-items k))
+  named = sym (e ∙ ap (λ (i : List Item). readItems [] i blank part) (names-items form k))
 
   -- another names line, or none
-  pub names-refused : l .ok ≡ false → refused 2 ≡ throughSection reading k (stageAt t n c part)
+  pub names-refused : l .ok ≡ false → refused 2 ≡ throughSection (reading form) k (stageAt t n c part)
   unfolding throughSection reading readNames stageAt andThen
   names-refused p = sym (rw (named, outcome-not l part p))
 
   -- the names line stands there
-  pub names-read : l .ok ≡ true → throughSection reading k (stageAt t n c part) ≡ andThen (throughRows reading (suc (sectionAt k .most)) k (stageAt t n (fresh c) (drop (l .next) part))) (enough k)
+  pub names-read : l .ok ≡ true → throughSection (reading form) k (stageAt t n c part) ≡ andThen (throughRows (reading form) (suc (sectionAt k .most)) k (stageAt t n (fresh c) (drop (l .next) part))) (enough k)
   unfolding throughSection reading readNames stageAt andThen afterNames begun sofarAt lastAt
   names-read p = rw (named, outcome-ok l part p, append-nil (take n t))
 
-  module _ (ok : l .ok ≡ true) (r : Part) (u : List ℕ) (h : partOutcome r u part ≡ throughRows reading (suc (sectionAt k .most)) k (stageAt t n (fresh c) (drop (l .next) part))) where
+  module _ (ok : l .ok ≡ true) (r : Part) (u : List ℕ) (h : partOutcome r u part ≡ throughRows (reading form) (suc (sectionAt k .most)) k (stageAt t n (fresh c) (drop (l .next) part))) where
     -- a row is refused
-    pub section-refused : (r .refusal ≡ 0 → ⊥) → partOutcome r u part ≡ throughSection reading k (stageAt t n c part)
+    pub section-refused : (r .refusal ≡ 0 → ⊥) → partOutcome r u part ≡ throughSection (reading form) k (stageAt t n c part)
     unfolding andThen
     section-refused z = part-refused r u part z ∙ sym (names-read ok ∙ rw (← h, part-refused r u part z))
 
-    section-end : r .refusal ≡ 0 → throughSection reading k (stageAt t n c part) ≡ enough k (stageAt u (r .cells) (r .counts) (drop (r .next) part))
+    section-end : r .refusal ≡ 0 → throughSection (reading form) k (stageAt t n c part) ≡ enough k (stageAt u (r .cells) (r .counts) (drop (r .next) part))
     unfolding andThen
     section-end z = names-read ok ∙ rw (← h, part-done r u part z)
 
     -- too few rows
-    pub section-few : r .refusal ≡ 0 → r .counts .rows < sectionAt k .least → refused 2 ≡ throughSection reading k (stageAt t n c part)
+    pub section-few : r .refusal ≡ 0 → r .counts .rows < sectionAt k .least → refused 2 ≡ throughSection (reading form) k (stageAt t n c part)
     unfolding enough refuseIf stageAt sofarAt
     section-few z f = sym (section-end z ∙ rw (lt-ltb (r .counts .rows) (sectionAt k .least) f))
 
     -- the section is taken
-    pub section-done : r .refusal ≡ 0 → sectionAt k .least ≤ r .counts .rows → done (stageAt u (r .cells) (r .counts) (drop (r .next) part)) ≡ throughSection reading k (stageAt t n c part)
+    pub section-done : r .refusal ≡ 0 → sectionAt k .least ≤ r .counts .rows → done (stageAt u (r .cells) (r .counts) (drop (r .next) part)) ≡ throughSection (reading form) k (stageAt t n c part)
     unfolding enough refuseIf stageAt sofarAt
     section-done z f = sym (section-end z ∙ rw (le-ltb (r .counts .rows) (sectionAt k .least) f))
 
@@ -112,7 +112,7 @@ room-below (suc (suc (suc (suc (suc (suc (suc (suc (suc zero))))))))) h = omega 
 room-below (suc (suc (suc (suc (suc (suc (suc (suc (suc (suc k)))))))))) h = absurd (omega arith)
 
 -- the empty table's stage
-pub start-stage : (t text : List ℕ) → 0 < length t → stageAt (set t 0 0) 1 (record { labels = 0; pairs = 0; scopes = 0; rows = 0 }) text ≡ atStart (form ∷ []) text
+pub start-stage : (t text : List ℕ) → 0 < length t → stageAt (set t 0 0) 1 (record { labels = 0; pairs = 0; scopes = 0; rows = 0 }) text ≡ atStart (oldForm ∷ []) text
 unfolding stageAt atStart sofarAt nothing lettersAt pairsAt rowsAt lastAt
 start-stage [] text h = absurd (omega arith)
 start-stage (x ∷ t) text h = refl
@@ -127,8 +127,8 @@ part-is s at = take-all (length s - at) (drop at s) (omega (arith, length-drop a
 pub part-length : (s : List ℕ) (at : ℕ) → length (take (length s - at) (drop at s)) ≡ length s - at
 part-length s at = rw (part-is s at) (length-drop at s)
 
-pub section-whole : (k n : ℕ) (t u : List ℕ) (c : Counts) (r : Part) (s : List ℕ) (at : ℕ) → partOutcome r u (take (length s - at) (drop at s)) ≡ throughSection reading k (stageAt t n c (take (length s - at) (drop at s))) → partOutcome r u (drop at s) ≡ throughSection reading k (stageAt t n c (drop at s))
-section-whole k n t u c r s at e = rw (part-is s at) at e
+pub section-whole : (form k n : ℕ) (t u : List ℕ) (c : Counts) (r : Part) (s : List ℕ) (at : ℕ) → partOutcome r u (take (length s - at) (drop at s)) ≡ throughSection (reading form) k (stageAt t n c (take (length s - at) (drop at s))) → partOutcome r u (drop at s) ≡ throughSection (reading form) k (stageAt t n c (drop at s))
+section-whole form k n t u c r s at e = rw (part-is s at) at e
 
 pub stage-part : (u : List ℕ) (n : ℕ) (c : Counts) (s : List ℕ) (at next : ℕ) → stageAt u n c (drop next (drop at s)) ≡ stageAt u n c (drop (at + next) s)
 stage-part u n c s at next = rw (drop-drop next at s)
@@ -138,7 +138,7 @@ pub whole-long : (text : List ℕ) → 32768 < length text → refused 1 ≡ rea
 unfolding readStage
 whole-long text h = sym (rw (lt-ltb 32768 (length text) h, readStage))
 
-module _ (text u : List ℕ) (short : length text ≤ 32768) (r : Part) (h : partOutcome r u text ≡ throughSections reading 9 0 (atStart (form ∷ []) text)) where
+module _ (text u : List ℕ) (short : length text ≤ 32768) (r : Part) (h : partOutcome r u text ≡ throughSections (reading oldForm) 9 0 (atStart (oldForm ∷ []) text)) where
   whole-is : readStage text ≡ andThen (partOutcome r u text) ordered
   unfolding readStage whole
   whole-is = rw (le-ltb 32768 (length text) short, readStage, h)

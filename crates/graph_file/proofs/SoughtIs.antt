@@ -13,11 +13,11 @@ use Rattle.text_field.specs.Number.{numberText, numberMeaning}
 use Rattle.text_field.specs.Name.{nameText, isNameCells, nameHere}
 use Rattle.text_field.proofs.NumberLaws.{number-back}
 use Rattle.text_field.proofs.NameLaws.{name-back, cells-name}
-use Rattle.graph_file.specs.Format.{valuesOf, queries, sections, sectionAt, querySection}
+use Rattle.graph_file.specs.Format.{valuesOf, shapesOf, shapeAt, oldForm, querySection}
 use Rattle.text_field.specs.Outcome.{Outcome, refused, done, andThen}
 use Rattle.graph_file.specs.Admission.{Row, value, blank}
 use Rattle.graph_file.specs.Line.{numberTaken, readField, startsWith, readItem}
-use Rattle.graph_file.specs.File.{Stage, readStage, madeOf, readCells}
+use Rattle.graph_file.specs.File.{Stage, readStage, madeOf, formIn, readCells}
 use Rattle.graph_file.specs.Decode.{rulesOf, nameAt, queryOf, rowsIn, queriesOf}
 use Rattle.graph_file.specs.NameSought.{afterLines, lineCount, namePart, restOf, isNameField, fromName, queryFrom, fromWithin, fromSought, nameFront, nameSought, placeFrom, placeSought}
 use Rattle.graph_file.specs.Sought.{TableQuery, seekText, queryLines, beforeLine, SoughtIn, SoughtRight, NothingSought, SoughtNone}
@@ -26,24 +26,24 @@ use Rattle.graph_file.proofs.SoughtLines.{count-append, Ended, ended-li
 use Rattle.graph_file.proofs.SoughtRows.{QueriesRead, queries-read}
 
 -- in a query's line the name comes behind the scope's number and the space
-after-scope : (v : ℕ) (u : List ℕ) → v ≤ 99999 → fromName (sectionAt querySection .row) (numberText v ++ (32 ∷ u)) ≡ u
-unfolding fromName isNameField valuesOf restOf readItem readField numberTaken numberMeaning andThen startsWith sectionAt sections queries isDigit within
-after-scope v u h = rw (number-back v (32 ∷ u) h refl, drop-append-seam (numberText v) (32 ∷ u))
+after-scope : (form v : ℕ) (u : List ℕ) → v ≤ 99999 → fromName (shapeAt form querySection .row) (numberText v ++ (32 ∷ u)) ≡ u
+unfolding fromName isNameField valuesOf restOf readItem readField numberTaken numberMeaning andThen startsWith shapeAt shapesOf isDigit within
+after-scope form v u h = rw (number-back v (32 ∷ u) h refl, drop-append-seam (numberText v) (32 ∷ u))
 
 name-first : (high low : ℕ) (s : List ℕ) → isNameCells high low ≡ true → nameFront (nameText high low ++ (10 ∷ s)) ≡ nameText high low
 unfolding nameFront namePart isNameByte isLower isDigit within
 name-first high low s h = rw (name-back high low (10 ∷ s) h refl) (take-at (nameText high low) (10 ∷ s) (length (nameText high low)) refl)
 
 -- the names line ends with LF
-names-ended : (above : List ℕ) → Ended (above ++ sectionAt querySection .names)
-unfolding sectionAt sections queries
-names-ended above n t =
+names-ended : (form : ℕ) (above : List ℕ) → Ended (above ++ shapeAt form querySection .names)
+unfolding shapeAt shapesOf
+names-ended form above n t =
     let begin : List ℕ = 115 ∷ 116 ∷ 97 ∷ 114 ∷ 116 ∷ 32 ∷ 115 ∷ 101 ∷ 101 ∷ 107 ∷ [] in
     let e : (above ++ begin) ++ (10 ∷ []) ≡ above ++ (begin ++ (10 ∷ [])) = append-assoc above begin (10 ∷ []) in
     ap (λ (s : List ℕ). afterLines (lineCount s + n) (s ++ t)) (sym e) ∙ ended-line (above ++ begin) n t
 
 -- the lines of rows a, of one row, and of rows b, behind a part that ends with its last line
-module _ (base : List ℕ) (ended : Ended base) (a : List Row) (row : Row) (b : List Row) (named : AllNamed (a ++ (row ∷ b))) where
+module _ (form : ℕ) (base : List ℕ) (ended : Ended base) (a : List Row) (row : Row) (b : List Row) (named : AllNamed (a ++ (row ∷ b))) where
   abbrev front : List ℕ
   front = base ++ rowLines a
 
@@ -72,11 +72,11 @@ module _ (base : List ℕ) (ended : Ended base) (a : List Row) (row : Row) (b : 
   this : Named row
   this = named-apart a (row ∷ b) named .1 .0
 
-  query-found : queryFrom (length (a ++ (row ∷ b))) (base ++ rowLines (a ++ (row ∷ b))) (length a) ≡ last
+  query-found : queryFrom form (length (a ++ (row ∷ b))) (base ++ rowLines (a ++ (row ∷ b))) (length a) ≡ last
   unfolding queryFrom
   query-found =
       rw (lt-ltb (length a) (length (a ++ (row ∷ b))) (omega (arith, length-append a (row ∷ b))), queryFrom)
-      (ap (fromName (sectionAt querySection .row)) line-found ∙ after-scope (value row 0) last (this .scope))
+      (ap (fromName (shapeAt form querySection .row)) line-found ∙ after-scope form (value row 0) last (this .scope))
 
   front-found : nameFront last ≡ nameText (value row 1) (value row 2)
   front-found = name-first (value row 1) (value row 2) (rowLines b) (this .name)
@@ -85,7 +85,7 @@ module _ (base : List ℕ) (ended : Ended base) (a : List Row) (row : Row) (b : 
   place-found = omega (arith, ap length line-there, length-append front (numberText (value row 0) ++ (32 ∷ last)), length-append (numberText (value row 0)) (32 ∷ last))
 
 -- what is sought in a text, by the stage that reading ends at
-sought-by : (text : List ℕ) (q : ℕ) (g : Stage) → readStage text ≡ done g → fromSought text q ≡ queryFrom (g .sofar .rows) text q
+sought-by : (text : List ℕ) (q : ℕ) (g : Stage) → readStage text ≡ done g → fromSought text q ≡ queryFrom oldForm (g .sofar .rows) text q
 unfolding fromSought fromWithin
 sought-by text q g e = rw e
 
@@ -125,20 +125,22 @@ module _ (cells : List ℕ) where
       let a = take q rows in
       let row = getD rows q blank in
       let b = drop (suc q) rows in
-      let names = sectionAt querySection .names in
+      let form = formIn cells in
+      let names = shapeAt form querySection .names in
       let base = r .above ++ names in
       let split : rows ≡ a ++ (row ∷ b) = split-at rows q blank h in
       let named : AllNamed (a ++ (row ∷ b)) = rw split at (r .named) in
       let long : length a ≡ q = length-take-le q rows (omega (arith, h)) in
       let whole : text ≡ base ++ rowLines (a ++ (row ∷ b)) = r .whole ∙ sym (append-assoc (r .above) names (rowLines rows)) ∙ ap (λ (l : List Row). base ++ rowLines l) split in
-      let ended = names-ended (r .above) in
-      let found : fromSought text q ≡ last base ended a row b named =
+      let ended = names-ended form (r .above) in
+      let found : fromSought text q ≡ last form base ended a row b named =
       sought-by text q (r .stage) (r .came)
-      ∙ ap (λ (n : ℕ). queryFrom n text q) (r .count ∙ ap length split)
-      ∙ ap (λ (t : List ℕ). queryFrom (length (a ++ (row ∷ b))) t q) whole
-      ∙ ap (queryFrom (length (a ++ (row ∷ b))) (base ++ rowLines (a ++ (row ∷ b)))) (sym long)
-      ∙ query-found base ended a row b named in
-      let name : nameFront (fromSought text q) ≡ nameText (value row 1) (value row 2) = ap nameFront found ∙ front-found base ended a row b named in
+      ∙ ap (λ (f : ℕ). queryFrom f (r .stage .sofar .rows) text q) (r .first)
+      ∙ ap (λ (n : ℕ). queryFrom form n text q) (r .count ∙ ap length split)
+      ∙ ap (λ (t : List ℕ). queryFrom form (length (a ++ (row ∷ b))) t q) whole
+      ∙ ap (queryFrom form (length (a ++ (row ∷ b))) (base ++ rowLines (a ++ (row ∷ b)))) (sym long)
+      ∙ query-found form base ended a row b named in
+      let name : nameFront (fromSought text q) ≡ nameText (value row 1) (value row 2) = ap nameFront found ∙ front-found form base ended a row b named in
       let before : rowLines a ≡ queryLines cells (take q (queriesOf cells)) = sym (ap (queryLines cells) (taken-are q rows) ∙ lines-are a) in
       let before-is : base ++ rowLines a ≡ beforeLine cells (r .above) q = append-assoc (r .above) names (rowLines a) ∙ ap (λ (s : List ℕ). r .above ++ (names ++ s)) before in
       let after : rowLines b ≡ queryLines cells (drop (suc q) (queriesOf cells)) = sym (ap (queryLines cells) (dropped-are (suc q) rows) ∙ lines-are b) in
@@ -146,11 +148,11 @@ module _ (cells : List ℕ) where
       record {
         above = r .above;
         lines =
-            whole ∙ line-there base ended a row b named ∙ ap (around (base ++ rowLines a)) after
+            whole ∙ line-there form base ended a row b named ∙ ap (around (base ++ rowLines a)) after
             ∙ ap (λ (s : List ℕ). around s (queryLines cells (drop (suc q) (queriesOf cells)))) before-is;
         name = name;
-        is-name = cells-name (value row 1) (value row 2) (this base ended a row b named .name) .name;
-        from = ap (λ (s : List ℕ). length text - length s) found ∙ ap (λ (t : List ℕ). length t - length (last base ended a row b named)) whole ∙ place-found base ended a row b named ∙ ap (λ (s : List ℕ). length s + length (numberText (value row 0)) + 1) before-is;
+        is-name = cells-name (value row 1) (value row 2) (this form base ended a row b named .name) .name;
+        from = ap (λ (s : List ℕ). length text - length s) found ∙ ap (λ (t : List ℕ). length t - length (last form base ended a row b named)) whole ∙ place-found form base ended a row b named ∙ ap (λ (s : List ℕ). length s + length (numberText (value row 0)) + 1) before-is;
         to = ap (λ (s : List ℕ). length text - length (fromSought text q) + length s) name;
       }
 

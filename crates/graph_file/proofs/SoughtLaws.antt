@@ -20,7 +20,7 @@ use Rattle.text_field.specs.Name.{nameHere, namePlaced, nameMeaning}
 use Rattle.text_field.specs.Bytes.{isCapital}
 use Rattle.graph_file.specs.declared.reader.Part.{Part}
 use Rattle.graph_file.specs.declared.sought.NamePlace.{NamePlace}
-use Rattle.graph_file.specs.Format.{Item, byte, field, state, scope, mark, count, letter, label, end, name, valuesOf, sections, sectionAt, queries, querySection}
+use Rattle.graph_file.specs.Format.{Item, byte, field, state, scope, mark, count, letter, label, end, name, valuesOf, shapesOf, shapeAt, oldForm, querySection}
 use Rattle.text_field.specs.Outcome.{Outcome, refused, done, andThen}
 use Rattle.graph_file.specs.Line.{Reading, numberTaken, nameTaken, byteTaken, place, endTaken, readField, startsWith, readItem}
 use Rattle.graph_file.specs.File.{Stage, readStage}
@@ -118,34 +118,34 @@ taken-some : (t : List ℕ) (x : NumberRead) (v w : ℕ) → x ≡ Number v w �
 unfolding restOf numberTaken numberMeaning andThen
 taken-some t x v w e = rw e refl
 
-first-is : (t : List ℕ) → fromName (sectionAt querySection .row) t ≡ fromName behind (restOf (numberTaken (numberHere t) t))
-unfolding fromName isNameField valuesOf readItem readField sectionAt sections queries behind
-first-is t = refl
+first-is : (form : ℕ) (t : List ℕ) → fromName (shapeAt form querySection .row) t ≡ fromName behind (restOf (numberTaken (numberHere t) t))
+unfolding fromName isNameField valuesOf readItem readField shapeAt shapesOf behind
+first-is form t = refl
 
 -- an empty last part stands at the end
 at-end : (s x : List ℕ) → x ≡ [] → length s ≡ length s - length x
 at-end s x e = let z : length x ≡ 0 = ap length e in omega (arith, z)
 
-pub no-number : (s : List ℕ) (at : ℕ) → NoNumber ≡ numberPlaced at (numberHere (drop at s)) → length s ≡ length s - length (fromName (sectionAt querySection .row) (drop at s))
-no-number s at e = at-end s _ (first-is (drop at s) ∙ taken-none (drop at s) (numberHere (drop at s)) (unplaced-number _ at e))
+pub no-number : (form : ℕ) (s : List ℕ) (at : ℕ) → NoNumber ≡ numberPlaced at (numberHere (drop at s)) → length s ≡ length s - length (fromName (shapeAt form querySection .row) (drop at s))
+no-number form s at e = at-end s _ (first-is form (drop at s) ∙ taken-none (drop at s) (numberHere (drop at s)) (unplaced-number _ at e))
 
 -- a line at a place of the text, whose number ends before a
-module _ (s : List ℕ) (at v a : ℕ) (e : Number v a ≡ numberPlaced at (numberHere (drop at s))) where
-  line : fromName (sectionAt querySection .row) (drop at s) ≡ fromName behind (drop a s)
+module _ (form : ℕ) (s : List ℕ) (at v a : ℕ) (e : Number v a ≡ numberPlaced at (numberHere (drop at s))) where
+  line : fromName (shapeAt form querySection .row) (drop at s) ≡ fromName behind (drop a s)
   line =
       let k = placed-number (numberHere (drop at s)) at v a e in
-      first-is (drop at s) ∙ taken-some (drop at s) (numberHere (drop at s)) v (k .0) (k .1) ∙ ap (fromName behind) (drop-drop (k .0) at s ∙ ap (λ (n : ℕ). drop n s) (sym (k .2)))
+      first-is form (drop at s) ∙ taken-some (drop at s) (numberHere (drop at s)) v (k .0) (k .1) ∙ ap (fromName behind) (drop-drop (k .0) at s ∙ ap (λ (n : ℕ). drop n s) (sym (k .2)))
 
-  pub ends-there : length s ≤ a → length s ≡ length s - length (fromName (sectionAt querySection .row) (drop at s))
+  pub ends-there : length s ≤ a → length s ≡ length s - length (fromName (shapeAt form querySection .row) (drop at s))
   ends-there h = at-end s _ (line ∙ ap (fromName behind) (drop-of-length-le s {i = a} h) ∙ empty-behind)
 
-  pub no-space : a < length s → (getD s a 0 ≡ 32 → ⊥) → length s ≡ length s - length (fromName (sectionAt querySection .row) (drop at s))
+  pub no-space : a < length s → (getD s a 0 ≡ 32 → ⊥) → length s ≡ length s - length (fromName (shapeAt form querySection .row) (drop at s))
   no-space h k = at-end s _ (line ∙ ap (fromName behind) (drop-cons s a 0 h) ∙ other-behind (getD s a 0) (drop (suc a) s) k)
 
-  pub spaced : a < length s → getD s a 0 ≡ 32 → a + 1 ≡ length s - length (fromName (sectionAt querySection .row) (drop at s))
+  pub spaced : a < length s → getD s a 0 ≡ 32 → a + 1 ≡ length s - length (fromName (shapeAt form querySection .row) (drop at s))
   spaced h k =
-      let l : fromName (sectionAt querySection .row) (drop at s) ≡ drop (suc a) s = line ∙ ap (fromName behind) (drop-cons s a 0 h ∙ ap (λ (b : ℕ). b ∷ drop (suc a) s) k) ∙ space-behind (drop (suc a) s)
-      in let z : length (fromName (sectionAt querySection .row) (drop at s)) ≡ length s - suc a = ap length l ∙ length-drop (suc a) s
+      let l : fromName (shapeAt form querySection .row) (drop at s) ≡ drop (suc a) s = line ∙ ap (fromName behind) (drop-cons s a 0 h ∙ ap (λ (b : ℕ). b ∷ drop (suc a) s) k) ∙ space-behind (drop (suc a) s)
+      in let z : length (fromName (shapeAt form querySection .row) (drop at s)) ≡ length s - suc a = ap length l ∙ length-drop (suc a) s
       in omega (arith, z)
 
 -- the name at a place
@@ -262,21 +262,21 @@ after-last (suc n) (x ∷ t) = by-byte (after-last n t) (after-last (suc n) t) (
     by-byte l m true = last-trans _ t (x ∷ t) l (1, refl)
     by-byte l m false = last-trans _ t (x ∷ t) m (1, refl)
 
-line-last : (n : ℕ) (t : List ℕ) → LastOf (fromName (sectionAt querySection .row) (afterLines n t)) t
-line-last n t = last-trans _ (afterLines n t) t (from-last (sectionAt querySection .row) (afterLines n t)) (after-last n t)
+line-last : (form n : ℕ) (t : List ℕ) → LastOf (fromName (shapeAt form querySection .row) (afterLines n t)) t
+line-last form n t = last-trans _ (afterLines n t) t (from-last (shapeAt form querySection .row) (afterLines n t)) (after-last n t)
 
-query-last : (n : ℕ) (text : List ℕ) (q : ℕ) → LastOf (queryFrom n text q) text
+query-last : (form n : ℕ) (text : List ℕ) (q : ℕ) → LastOf (queryFrom form n text q) text
 unfolding queryFrom
-query-last n text q = by-test (ltb q n)
+query-last form n text q = by-test (ltb q n)
   where
-    by-test : (b : Bool) → LastOf (elim b as (λ _. List ℕ) [ true ↦ fromName (sectionAt querySection .row) (afterLines (lineCount text - n + q) text) | false ↦ [] ]) text
-    by-test true = line-last (lineCount text - n + q) text
+    by-test : (b : Bool) → LastOf (elim b as (λ _. List ℕ) [ true ↦ fromName (shapeAt form querySection .row) (afterLines (lineCount text - n + q) text) | false ↦ [] ]) text
+    by-test true = line-last form (lineCount text - n + q) text
     by-test false = none-last text
 
 within-last : (o : Outcome Stage) (text : List ℕ) (q : ℕ) → LastOf (fromWithin o text q) text
 unfolding fromWithin
 within-last (refused n) text q = none-last text
-within-last (done g) text q = query-last (g .sofar .rows) text q
+within-last (done g) text q = query-last oldForm (g .sofar .rows) text q
 
 sought-last : (text : List ℕ) (q : ℕ) → LastOf (fromSought text q) text
 unfolding fromSought
@@ -312,13 +312,13 @@ pub same-place : (p : NamePlace) (a b : ℕ) → (a ≡ p .from) × (b ≡ p .to
 same-place p a b (e, f) = rw (e, f) refl
 
 -- the answer of the search for a name in a line
-pub place-after : (s : List ℕ) (n k from to : ℕ) → drop k s ≡ afterLines n s → from ≡ length s - length (fromName (sectionAt querySection .row) (drop k s)) → to ≡ from + length (nameFront (drop from s))
-    → (from ≡ placeFrom s (fromName (sectionAt querySection .row) (afterLines n s)) .from) × (to ≡ placeFrom s (fromName (sectionAt querySection .row) (afterLines n s)) .to)
+pub place-after : (form : ℕ) (s : List ℕ) (n k from to : ℕ) → drop k s ≡ afterLines n s → from ≡ length s - length (fromName (shapeAt form querySection .row) (drop k s)) → to ≡ from + length (nameFront (drop from s))
+    → (from ≡ placeFrom s (fromName (shapeAt form querySection .row) (afterLines n s)) .from) × (to ≡ placeFrom s (fromName (shapeAt form querySection .row) (afterLines n s)) .to)
 unfolding placeFrom
-place-after s n k from to d e f =
-    let x = fromName (sectionAt querySection .row) (afterLines n s)
-    in let z : from ≡ length s - length x = e ∙ ap (λ (y : List ℕ). length s - length (fromName (sectionAt querySection .row) y)) d
-    in let y : drop from s ≡ x = ap (λ (m : ℕ). drop m s) z ∙ last-place x s (line-last n s)
+place-after form s n k from to d e f =
+    let x = fromName (shapeAt form querySection .row) (afterLines n s)
+    in let z : from ≡ length s - length x = e ∙ ap (λ (y : List ℕ). length s - length (fromName (shapeAt form querySection .row) y)) d
+    in let y : drop from s ≡ x = ap (λ (m : ℕ). drop m s) z ∙ last-place x s (line-last form n s)
     in (z, f ∙ ap (λ (y : List ℕ). from + length (nameFront y)) y ∙ ap (λ (m : ℕ). m + length (nameFront x)) z)
 
 -- The part of the text at the place sought is the name sought.
@@ -350,12 +350,12 @@ module _ (r : Part) (table text : List ℕ) (q : ℕ) (e : partOutcome r table t
       go zero h e = absurd (h refl)
       go (suc k) h e = rw (← e)
 
-  file-read : r .refusal ≡ 0 → fromSought text q ≡ queryFrom (r .counts .rows) text q
+  file-read : r .refusal ≡ 0 → fromSought text q ≡ queryFrom oldForm (r .counts .rows) text q
   unfolding partOutcome refusedOr fromSought fromWithin stageAt sofarAt
   file-read h = go (r .refusal) h e
     where
       go : (k : ℕ) → k ≡ 0 → refusedOr k (stageAt table (r .cells) (r .counts) (drop (r .next) text)) ≡ readStage text
-          → fromWithin (readStage text) text q ≡ queryFrom (r .counts .rows) text q
+          → fromWithin (readStage text) text q ≡ queryFrom oldForm (r .counts .rows) text q
       go zero h e = rw (← e)
       go (suc k) h e = absurd (omega arith)
 
@@ -364,6 +364,6 @@ module _ (r : Part) (table text : List ℕ) (q : ℕ) (e : partOutcome r table t
   query-refused h k = nowhere text (fromSought text q) (file-read h ∙ rw (le-ltb q (r .counts .rows) k, queryFrom))
 
   pub query-read : r .refusal ≡ 0 → q < r .counts .rows → (k : ℕ) → k ≡ lineCount text - r .counts .rows + q
-      → placeFrom text (fromName (sectionAt querySection .row) (afterLines k text)) ≡ placeSought text q
+      → placeFrom text (fromName (shapeAt oldForm querySection .row) (afterLines k text)) ≡ placeSought text q
   unfolding queryFrom placeSought
   query-read h l k z = ap (placeFrom text) (sym (file-read h ∙ rw (lt-ltb q (r .counts .rows) l, queryFrom, z)))

@@ -14,22 +14,22 @@ use Rattle.text_field.proofs.BufferLaws.{puts-one}
 use Rattle.graph_file.specs.Format.{name, Item, byte, everyItem}
 use Rattle.graph_file.specs.Admission.{Row, value, rowOf}
 use Rattle.graph_file.specs.Line.{endByte, fieldText, itemText, lineText, fieldFormed, sparesPlace, idleZero}
-use Rattle.graph_file.specs.Table.{kindOf, itemOf, formatBytes, itemsAt, rowsAt, lettersAt}
+use Rattle.graph_file.specs.Table.{contentOf, itemOf, formatBytes, itemsAt, rowsAt, lettersAt}
 use Rattle.graph_file.proofs.FormatLaws.{item-byte, item-field, items-step, line-more, line-last}
 use Rattle.graph_file.proofs.RowLaws.{letters-length}
 
--- the first four kinds are numbers
+-- the first four contents are numbers
 module _ (v w : ℕ) where
-  pub formed-number : (n : ℕ) → n < 4 → leb v 99999 ≡ fieldFormed (kindOf n) v w
-  unfolding fieldFormed kindOf
+  pub formed-number : (n : ℕ) → n < 4 → leb v 99999 ≡ fieldFormed (contentOf n) v w
+  unfolding fieldFormed contentOf
   formed-number zero h = refl
   formed-number (suc zero) h = refl
   formed-number (suc (suc zero)) h = refl
   formed-number (suc (suc (suc zero))) h = refl
   formed-number (suc (suc (suc (suc n)))) h = absurd (omega arith)
 
-  pub text-number : (letters : List ℕ) (n : ℕ) → n < 4 → numberText v ≡ fieldText letters (kindOf n) v w
-  unfolding fieldText kindOf
+  pub text-number : (letters : List ℕ) (n : ℕ) → n < 4 → numberText v ≡ fieldText letters (contentOf n) v w
+  unfolding fieldText contentOf
   text-number letters zero h = refl
   text-number letters (suc zero) h = refl
   text-number letters (suc (suc zero)) h = refl
@@ -40,21 +40,21 @@ module _ (v w : ℕ) where
 pub put-text : (b b′ : Buf) (x y : ℕ) (l : List ℕ) → b′ ≡ put b x → x ≡ y → y ∷ [] ≡ l → b′ ≡ puts b l
 put-text b b′ x y l e f g = e ∙ puts-one b x ∙ ap (λ (z : ℕ). puts b (z ∷ [])) f ∙ ap (puts b) g
 
--- the other kinds by number
+-- the other contents by number
 module _ (letters : List ℕ) (n v w : ℕ) where
-  pub text-letter : n ≡ 4 → (v % 256) ∷ [] ≡ fieldText letters (kindOf n) v w
-  unfolding fieldText kindOf
+  pub text-letter : n ≡ 4 → (v % 256) ∷ [] ≡ fieldText letters (contentOf n) v w
+  unfolding fieldText contentOf
   text-letter e = sym (rw e)
 
-  pub text-label : n ≡ 5 → (getD letters v 0 % 256) ∷ [] ≡ fieldText letters (kindOf n) v w
-  unfolding fieldText kindOf
+  pub text-label : n ≡ 5 → (getD letters v 0 % 256) ∷ [] ≡ fieldText letters (contentOf n) v w
+  unfolding fieldText contentOf
   text-label e = sym (rw e)
 
-  pub text-end : n ≡ 6 → endByte letters v ∷ [] ≡ fieldText letters (kindOf n) v w
-  unfolding fieldText kindOf
+  pub text-end : n ≡ 6 → endByte letters v ∷ [] ≡ fieldText letters (contentOf n) v w
+  unfolding fieldText contentOf
   text-end e = sym (rw e)
 
-  pub text-name : kindOf n ≡ name → nameText v w ≡ fieldText letters (kindOf n) v w
+  pub text-name : contentOf n ≡ name → nameText v w ≡ fieldText letters (contentOf n) v w
   unfolding fieldText
   text-name e = sym (rw e)
 
@@ -97,7 +97,7 @@ module _ (letters : List ℕ) (row : Row) (x : ℕ) where
   unfolding itemText
   text-byte h = sym (rw (item-byte x h))
 
-  pub text-field : 128 ≤ x → fieldText letters (kindOf ((x - 128) / 8)) (value row (x % 8)) (value row (x % 8 + 1)) ≡ itemText letters row (itemOf x)
+  pub text-field : 128 ≤ x → fieldText letters (contentOf ((x - 128) / 8)) (value row (x % 8)) (value row (x % 8 + 1)) ≡ itemText letters row (itemOf x)
   unfolding itemText
   text-field h = sym (rw (item-field x h))
 

@@ -13,12 +13,12 @@ use Rattle.text_field.specs.Buffer.{Buf, puts}
 use Rattle.text_field.proofs.ByteLaws.{clash}
 use Rattle.graph_file.specs.declared.rows.Counts.{Counts}
 use Rattle.graph_file.specs.declared.reader.Part.{Part}
-use Rattle.graph_file.specs.Format.{sectionAt}
+use Rattle.graph_file.specs.Format.{sectionAt, shapeAt}
 use Rattle.text_field.specs.Outcome.{Outcome, refused, done, andThen, refuseIf}
 use Rattle.graph_file.specs.Admission.{Row, value, rowOf, nothing, begun, admission}
 use Rattle.graph_file.specs.Line.{lineText, formed}
 use Rattle.graph_file.specs.Order.{orderFault}
-use Rattle.graph_file.specs.File.{Piece, Stage, ifAdmitted, afterRow, oneRow, throughRows, afterNames, enough, throughSection, throughSections, atStart, ordered, whole, writeNames, cellsFollow, writeRow, writing, hasForm}
+use Rattle.graph_file.specs.File.{Piece, Stage, ifAdmitted, afterRow, oneRow, throughRows, afterNames, enough, throughSection, throughSections, atStart, ordered, whole, writeNames, cellsFollow, writeRow, writing, hasForm, formIn}
 use Rattle.graph_file.specs.Table.{itemsAt, namesPlace, rowPlace, rowsAt, lettersAt, pairsAt, lastAt, sofarAt}
 use Rattle.graph_file.specs.Reader.{Placed, countsAfter, roomBefore}
 use Rattle.graph_file.specs.Writer.{rowFormed, Poured, stageFrom, poured, pour, pouredAt, refusedOrPoured, partWritten, countsBegun, noCounts}
@@ -83,54 +83,54 @@ pub row-short : (o : ℕ) (t : List ℕ) (p : ℕ) → length t < p + 6 → fals
 unfolding rowFormed
 row-short o t p h = let e : length (drop p t) ≡ length t - p = length-drop p t in sym (rw (lt-ltb (length (drop p t)) 6 (omega arith)))
 
-pub row-long : (k : ℕ) (t : List ℕ) (p : ℕ) → p + 6 ≤ length t → (b : Bool) → b ≡ formed (sectionAt k .row) (rowOf (drop p t)) → b ≡ rowFormed (itemsAt (rowPlace k)) (drop p t)
+pub row-long : (form k : ℕ) (t : List ℕ) (p : ℕ) → p + 6 ≤ length t → (b : Bool) → b ≡ formed (shapeAt form k .row) (rowOf (drop p t)) → b ≡ rowFormed (itemsAt (rowPlace form k)) (drop p t)
 unfolding rowFormed
-row-long k t p h b f =
+row-long form k t p h b f =
     let e : length (drop p t) ≡ length t - p = length-drop p t in
-    f ∙ sym (rw (le-ltb (length (drop p t)) 6 (omega arith), row-items k))
+    f ∙ sym (rw (le-ltb (length (drop p t)) 6 (omega arith), row-items form k))
 
 -- a row's piece, where it can be written and where it cannot
-module _ (k : ℕ) (letters cells : List ℕ) where
-  piece-none : rowFormed (itemsAt (rowPlace k)) cells ≡ false → writeRow k letters cells ≡ refused 2
+module _ (form k : ℕ) (letters cells : List ℕ) where
+  piece-none : rowFormed (itemsAt (rowPlace form k)) cells ≡ false → writeRow form k letters cells ≡ refused 2
   unfolding rowFormed writeRow refuseIf
-  piece-none = inner (ltb (length cells) 6) (formed (sectionAt k .row) (rowOf cells)) refl refl
+  piece-none = inner (ltb (length cells) 6) (formed (shapeAt form k .row) (rowOf cells)) refl refl
     where
-      inner : (a b : Bool) → ltb (length cells) 6 ≡ a → formed (sectionAt k .row) (rowOf cells) ≡ b → rowFormed (itemsAt (rowPlace k)) cells ≡ false → writeRow k letters cells ≡ refused 2
+      inner : (a b : Bool) → ltb (length cells) 6 ≡ a → formed (shapeAt form k .row) (rowOf cells) ≡ b → rowFormed (itemsAt (rowPlace form k)) cells ≡ false → writeRow form k letters cells ≡ refused 2
       inner true b d e f = rw d
       inner false false d e f = rw (d, e)
-      inner false true d e f = let g : rowFormed (itemsAt (rowPlace k)) cells ≡ true = rw (d, row-items k, e) in absurd (clash g f)
+      inner false true d e f = let g : rowFormed (itemsAt (rowPlace form k)) cells ≡ true = rw (d, row-items form k, e) in absurd (clash g f)
 
-  piece-made : rowFormed (itemsAt (rowPlace k)) cells ≡ true → writeRow k letters cells ≡ done (record { row = rowOf cells; made = lineText letters (itemsAt (rowPlace k)) (rowOf cells); rest = drop 6 cells })
+  piece-made : rowFormed (itemsAt (rowPlace form k)) cells ≡ true → writeRow form k letters cells ≡ done (record { row = rowOf cells; made = lineText letters (itemsAt (rowPlace form k)) (rowOf cells); rest = drop 6 cells })
   unfolding rowFormed writeRow refuseIf
-  piece-made = inner (ltb (length cells) 6) (formed (itemsAt (rowPlace k)) (rowOf cells)) refl refl
+  piece-made = inner (ltb (length cells) 6) (formed (itemsAt (rowPlace form k)) (rowOf cells)) refl refl
     where
-      inner : (a b : Bool) → ltb (length cells) 6 ≡ a → formed (itemsAt (rowPlace k)) (rowOf cells) ≡ b → rowFormed (itemsAt (rowPlace k)) cells ≡ true → writeRow k letters cells ≡ done (record { row = rowOf cells; made = lineText letters (itemsAt (rowPlace k)) (rowOf cells); rest = drop 6 cells })
-      inner true b d e f = let g : rowFormed (itemsAt (rowPlace k)) cells ≡ false = rw d in absurd (clash f g)
-      inner false false d e f = let g : rowFormed (itemsAt (rowPlace k)) cells ≡ false = rw (d, e) in absurd (clash f g)
-      inner false true d e f = rw (d, ← row-items k, e)
+      inner : (a b : Bool) → ltb (length cells) 6 ≡ a → formed (itemsAt (rowPlace form k)) (rowOf cells) ≡ b → rowFormed (itemsAt (rowPlace form k)) cells ≡ true → writeRow form k letters cells ≡ done (record { row = rowOf cells; made = lineText letters (itemsAt (rowPlace form k)) (rowOf cells); rest = drop 6 cells })
+      inner true b d e f = let g : rowFormed (itemsAt (rowPlace form k)) cells ≡ false = rw d in absurd (clash f g)
+      inner false false d e f = let g : rowFormed (itemsAt (rowPlace form k)) cells ≡ false = rw (d, e) in absurd (clash f g)
+      inner false true d e f = rw (d, ← row-items form k, e)
 
 -- one row: not of its form, not admitted, taken
-module _ (k : ℕ) (t : List ℕ) (p : ℕ) (c : Counts) (b : Buf) where
-  pub row-unformed : rowFormed (itemsAt (rowPlace k)) (drop p t) ≡ false → refused 2 ≡ pour b (oneRow writing k (stageFrom (sofarAt t p c) (drop p t)))
+module _ (form k : ℕ) (t : List ℕ) (p : ℕ) (c : Counts) (b : Buf) where
+  pub row-unformed : rowFormed (itemsAt (rowPlace form k)) (drop p t) ≡ false → refused 2 ≡ pour b (oneRow (writing form) k (stageFrom (sofarAt t p c) (drop p t)))
   unfolding oneRow writing stageFrom andThen pour sofarAt
-  row-unformed f = sym (rw (piece-none k (lettersAt (c .labels) (drop 1 t)) (drop p t) f))
+  row-unformed f = sym (rw (piece-none form k (lettersAt (c .labels) (drop 1 t)) (drop p t) f))
 
-  module _ (f : rowFormed (itemsAt (rowPlace k)) (drop p t) ≡ true) where
-    module _ (a : ℕ) (e : a ≡ admission (sectionAt k) (sofarAt t p c) (rowOf (drop p t))) where
+  module _ (f : rowFormed (itemsAt (rowPlace form k)) (drop p t) ≡ true) where
+    module _ (a : ℕ) (e : a ≡ admission form k (sofarAt t p c) (rowOf (drop p t))) where
       piece : Piece
-      piece = record { row = rowOf (drop p t); made = lineText (lettersAt (c .labels) (drop 1 t)) (itemsAt (rowPlace k)) (rowOf (drop p t)); rest = drop 6 (drop p t) }
+      piece = record { row = rowOf (drop p t); made = lineText (lettersAt (c .labels) (drop 1 t)) (itemsAt (rowPlace form k)) (rowOf (drop p t)); rest = drop 6 (drop p t) }
 
-      row-piece : writeRow k (lettersAt (c .labels) (drop 1 t)) (drop p t) ≡ done piece
+      row-piece : writeRow form k (lettersAt (c .labels) (drop 1 t)) (drop p t) ≡ done piece
       unfolding piece
-      row-piece = piece-made k (lettersAt (c .labels) (drop 1 t)) (drop p t) f
+      row-piece = piece-made form k (lettersAt (c .labels) (drop 1 t)) (drop p t) f
 
-      row-formed : oneRow writing k (stageFrom (sofarAt t p c) (drop p t)) ≡ ifAdmitted a (done (afterRow k (stageFrom (sofarAt t p c) (drop p t)) piece))
+      row-formed : oneRow (writing form) k (stageFrom (sofarAt t p c) (drop p t)) ≡ ifAdmitted a (done (afterRow k (stageFrom (sofarAt t p c) (drop p t)) piece))
       unfolding oneRow writing stageFrom andThen sofarAt piece
       row-formed =
-          ap (λ (o : Outcome Piece). andThen o (λ q. ifAdmitted (admission (sectionAt k) (sofarAt t p c) (q .row)) (done (afterRow k (stageFrom (sofarAt t p c) (drop p t)) q)))) row-piece
+          ap (λ (o : Outcome Piece). andThen o (λ q. ifAdmitted (admission form k (sofarAt t p c) (q .row)) (done (afterRow k (stageFrom (sofarAt t p c) (drop p t)) q)))) row-piece
           ∙ ap (λ (x : ℕ). ifAdmitted x (done (afterRow k (stageFrom (sofarAt t p c) (drop p t)) piece))) (sym e)
 
-      pub row-refused : (q : Poured) → (a ≡ 0 → ⊥) → refusedOrPoured a q ≡ pour b (oneRow writing k (stageFrom (sofarAt t p c) (drop p t)))
+      pub row-refused : (q : Poured) → (a ≡ 0 → ⊥) → refusedOrPoured a q ≡ pour b (oneRow (writing form) k (stageFrom (sofarAt t p c) (drop p t)))
       unfolding refusedOrPoured ifAdmitted pour
       row-refused q n = inner a n ∙ ap (pour b) (sym row-formed)
         where
@@ -138,48 +138,48 @@ module _ (k : ℕ) (t : List ℕ) (p : ℕ) (c : Counts) (b : Buf) where
           inner zero n = absurd (n refl)
           inner (suc x) n = refl
 
-      pub row-taken : Placed k p c → a ≡ 0 → (out : List ℕ) (n : ℕ) → _≡_ {A = Buf} (out, n) (puts b (lineText (lettersAt (c .labels) (drop 1 t)) (itemsAt (rowPlace k)) (rowOf (drop p t)))) → done (pouredAt t (p + 6) (countsAfter k c (value (rowOf (drop p t)) 0)) out n) ≡ pour b (oneRow writing k (stageFrom (sofarAt t p c) (drop p t)))
+      pub row-taken : Placed k p c → a ≡ 0 → (out : List ℕ) (n : ℕ) → _≡_ {A = Buf} (out, n) (puts b (lineText (lettersAt (c .labels) (drop 1 t)) (itemsAt (rowPlace form k)) (rowOf (drop p t)))) → done (pouredAt t (p + 6) (countsAfter k c (value (rowOf (drop p t)) 0)) out n) ≡ pour b (oneRow (writing form) k (stageFrom (sofarAt t p c) (drop p t)))
       unfolding ifAdmitted pour poured pouredAt afterRow stageFrom piece
       row-taken d z out n w = sym (ap (pour b) row-formed ∙ rw z (λ i. done (record { sofar = sym (sofar-taken k p t c d) i; buffer = sym w i; rest = drop-drop 6 p t i })))
 
 -- the rows of section k: after d .rows of them, the turns left
-module _ (k m : ℕ) (t : List ℕ) (d : Counts) (b : Buf) (few : d .rows ≤ sectionAt k .most) where
+module _ (form k m : ℕ) (t : List ℕ) (d : Counts) (b : Buf) (few : d .rows ≤ sectionAt k .most) where
   left-now : suc (sectionAt k .most) - d .rows ≡ suc (sectionAt k .most - d .rows)
   left-now = omega arith
 
-  module _ (follows : cellsFollow k (drop m t) ≡ true) (r : Part) (out : List ℕ) (e : partWritten r t out ≡ pour b (oneRow writing k (stageFrom (sofarAt t m d) (drop m t)))) where
-    turn : throughRows writing (suc (sectionAt k .most) - d .rows) k (stageFrom (sofarAt t m d) (drop m t)) ≡ andThen (oneRow writing k (stageFrom (sofarAt t m d) (drop m t))) (throughRows writing (sectionAt k .most - d .rows) k)
+  module _ (follows : cellsFollow k (drop m t) ≡ true) (r : Part) (out : List ℕ) (e : partWritten r t out ≡ pour b (oneRow (writing form) k (stageFrom (sofarAt t m d) (drop m t)))) where
+    turn : throughRows (writing form) (suc (sectionAt k .most) - d .rows) k (stageFrom (sofarAt t m d) (drop m t)) ≡ andThen (oneRow (writing form) k (stageFrom (sofarAt t m d) (drop m t))) (throughRows (writing form) (sectionAt k .most - d .rows) k)
     unfolding writing stageFrom
-    turn = rw left-now (rows-on writing (sectionAt k .most - d .rows) k (stageFrom (sofarAt t m d) (drop m t)) follows)
+    turn = rw left-now (rows-on (writing form) (sectionAt k .most - d .rows) k (stageFrom (sofarAt t m d) (drop m t)) follows)
 
-    pub rows-refused : (r .refusal ≡ 0 → ⊥) → partWritten r t out ≡ pour b (throughRows writing (suc (sectionAt k .most) - d .rows) k (stageFrom (sofarAt t m d) (drop m t)))
-    rows-refused n = part-refused r t out b _ (throughRows writing (sectionAt k .most - d .rows) k) (onward-rows writing (sectionAt k .most - d .rows) k) e n ∙ ap (pour b) (sym turn)
+    pub rows-refused : (r .refusal ≡ 0 → ⊥) → partWritten r t out ≡ pour b (throughRows (writing form) (suc (sectionAt k .most) - d .rows) k (stageFrom (sofarAt t m d) (drop m t)))
+    rows-refused n = part-refused r t out b _ (throughRows (writing form) (sectionAt k .most - d .rows) k) (onward-rows (writing form) (sectionAt k .most - d .rows) k) e n ∙ ap (pour b) (sym turn)
 
-    pub rows-again : r .refusal ≡ 0 → r .counts .rows ≡ d .rows + 1 → pour (out, r .next) (throughRows writing (suc (sectionAt k .most) - r .counts .rows) k (stageFrom (sofarAt t (r .cells) (r .counts)) (drop (r .cells) t))) ≡ pour b (throughRows writing (suc (sectionAt k .most) - d .rows) k (stageFrom (sofarAt t m d) (drop m t)))
+    pub rows-again : r .refusal ≡ 0 → r .counts .rows ≡ d .rows + 1 → pour (out, r .next) (throughRows (writing form) (suc (sectionAt k .most) - r .counts .rows) k (stageFrom (sofarAt t (r .cells) (r .counts)) (drop (r .cells) t))) ≡ pour b (throughRows (writing form) (suc (sectionAt k .most) - d .rows) k (stageFrom (sofarAt t m d) (drop m t)))
     rows-again n s =
         let z : suc (sectionAt k .most) - r .counts .rows ≡ sectionAt k .most - d .rows = omega arith in
-        rw z (part-done r t out b _ (throughRows writing (sectionAt k .most - d .rows) k) (onward-rows writing (sectionAt k .most - d .rows) k) e n) ∙ ap (pour b) (sym turn)
+        rw z (part-done r t out b _ (throughRows (writing form) (sectionAt k .most - d .rows) k) (onward-rows (writing form) (sectionAt k .most - d .rows) k) e n) ∙ ap (pour b) (sym turn)
 
-pub rows-stop : (k m : ℕ) (t : List ℕ) (d : Counts) (out : List ℕ) (n : ℕ) → d .rows ≤ sectionAt k .most → cellsFollow k (drop m t) ≡ false → done (pouredAt t m d out n) ≡ pour (out, n) (throughRows writing (suc (sectionAt k .most) - d .rows) k (stageFrom (sofarAt t m d) (drop m t)))
+pub rows-stop : (form k m : ℕ) (t : List ℕ) (d : Counts) (out : List ℕ) (n : ℕ) → d .rows ≤ sectionAt k .most → cellsFollow k (drop m t) ≡ false → done (pouredAt t m d out n) ≡ pour (out, n) (throughRows (writing form) (suc (sectionAt k .most) - d .rows) k (stageFrom (sofarAt t m d) (drop m t)))
 unfolding writing stageFrom
-rows-stop k m t d out n few h =
-    pour-here t m d out n ∙ ap (pour (out, n)) (sym (rw (left-now k m t d (out, n) few) (rows-off writing (sectionAt k .most - d .rows) k (stageFrom (sofarAt t m d) (drop m t)) h)))
+rows-stop form k m t d out n few h =
+    pour-here t m d out n ∙ ap (pour (out, n)) (sym (rw (left-now form k m t d (out, n) few) (rows-off (writing form) (sectionAt k .most - d .rows) k (stageFrom (sofarAt t m d) (drop m t)) h)))
 
-pub rows-start : (k : ℕ) (g : Stage) (c : Counts) (b : Buf) → c .rows ≡ 0 → pour b (throughRows writing (suc (sectionAt k .most) - c .rows) k g) ≡ pour b (throughRows writing (suc (sectionAt k .most)) k g)
-rows-start k g c b z = let e : suc (sectionAt k .most) - c .rows ≡ suc (sectionAt k .most) = omega arith in rw e
+pub rows-start : (form k : ℕ) (g : Stage) (c : Counts) (b : Buf) → c .rows ≡ 0 → pour b (throughRows (writing form) (suc (sectionAt k .most) - c .rows) k g) ≡ pour b (throughRows (writing form) (suc (sectionAt k .most)) k g)
+rows-start form k g c b z = let e : suc (sectionAt k .most) - c .rows ≡ suc (sectionAt k .most) = omega arith in rw e
 
 -- the names line
-pub names-text : (k : ℕ) (letters : List ℕ) (row : Row) → lineText letters (itemsAt (namesPlace k)) row ≡ sectionAt k .names
-names-text k letters row = rw (names-items k) (text-bytes letters (sectionAt k .names) row)
+pub names-text : (form k : ℕ) (letters : List ℕ) (row : Row) → lineText letters (itemsAt (namesPlace form k)) row ≡ shapeAt form k .names
+names-text form k letters row = rw (names-items form k) (text-bytes letters (shapeAt form k .names) row)
 
 -- a section after its names line
 sofar-begun : (t : List ℕ) (p : ℕ) (c : Counts) → begun (sofarAt t p c) ≡ sofarAt t p (countsBegun c)
 unfolding begun sofarAt countsBegun lastAt
 sofar-begun t p c = refl
 
-pub section-begun : (k : ℕ) (t : List ℕ) (p : ℕ) (c : Counts) (b : Buf) → pour (puts b (sectionAt k .names)) (andThen (throughRows writing (suc (sectionAt k .most)) k (stageFrom (sofarAt t p (countsBegun c)) (drop p t))) (enough k)) ≡ pour b (throughSection writing k (stageFrom (sofarAt t p c) (drop p t)))
+pub section-begun : (form k : ℕ) (t : List ℕ) (p : ℕ) (c : Counts) (b : Buf) → pour (puts b (shapeAt form k .names)) (andThen (throughRows (writing form) (suc (sectionAt k .most)) k (stageFrom (sofarAt t p (countsBegun c)) (drop p t))) (enough k)) ≡ pour b (throughSection (writing form) k (stageFrom (sofarAt t p c) (drop p t)))
 unfolding throughSection writing writeNames andThen afterNames stageFrom
-section-begun k t p c b = rw (← sofar-begun t p c) (sym (pour-from (λ g. andThen (throughRows writing (suc (sectionAt k .most)) k g) (enough k)) (onward-then (throughRows writing (suc (sectionAt k .most)) k) (enough k) (onward-rows writing (suc (sectionAt k .most)) k) (onward-enough k)) b (record { sofar = begun (sofarAt t p c); made = sectionAt k .names; rest = drop p t })))
+section-begun form k t p c b = rw (← sofar-begun t p c) (sym (pour-from (λ g. andThen (throughRows (writing form) (suc (sectionAt k .most)) k g) (enough k)) (onward-then (throughRows (writing form) (suc (sectionAt k .most)) k) (enough k) (onward-rows (writing form) (suc (sectionAt k .most)) k) (onward-enough k)) b (record { sofar = begun (sofarAt t p c); made = shapeAt form k .names; rest = drop p t })))
 
 -- too few rows, and enough
 module _ (k : ℕ) (t : List ℕ) (p : ℕ) (c : Counts) (out : List ℕ) (n : ℕ) where
@@ -192,61 +192,65 @@ module _ (k : ℕ) (t : List ℕ) (p : ℕ) (c : Counts) (out : List ℕ) (n : �
   not-few h = pour-here t p c out n ∙ ap (pour (out, n)) (sym (rw (le-ltb (c .rows) (sectionAt k .least) h)))
 
 -- the sections from section k on
-module _ (k : ℕ) (t : List ℕ) (p : ℕ) (c : Counts) (b : Buf) where
-  module _ (within : k < 9) (r : Part) (out : List ℕ) (e : partWritten r t out ≡ pour b (throughSection writing k (stageFrom (sofarAt t p c) (drop p t)))) where
-    next-section : throughSections writing (9 - k) k (stageFrom (sofarAt t p c) (drop p t)) ≡ andThen (throughSection writing k (stageFrom (sofarAt t p c) (drop p t))) (throughSections writing (9 - (k + 1)) (k + 1))
+module _ (form k : ℕ) (t : List ℕ) (p : ℕ) (c : Counts) (b : Buf) where
+  module _ (within : k < 9) (r : Part) (out : List ℕ) (e : partWritten r t out ≡ pour b (throughSection (writing form) k (stageFrom (sofarAt t p c) (drop p t)))) where
+    next-section : throughSections (writing form) (9 - k) k (stageFrom (sofarAt t p c) (drop p t)) ≡ andThen (throughSection (writing form) k (stageFrom (sofarAt t p c) (drop p t))) (throughSections (writing form) (9 - (k + 1)) (k + 1))
     unfolding throughSections
     next-section = let z : 9 - k ≡ suc (9 - (k + 1)) = omega arith in rw (z, add-one k)
 
-    pub sections-refused : (r .refusal ≡ 0 → ⊥) → partWritten r t out ≡ pour b (throughSections writing (9 - k) k (stageFrom (sofarAt t p c) (drop p t)))
-    sections-refused n = part-refused r t out b _ (throughSections writing (9 - (k + 1)) (k + 1)) (onward-sections writing (9 - (k + 1)) (k + 1)) e n ∙ ap (pour b) (sym next-section)
+    pub sections-refused : (r .refusal ≡ 0 → ⊥) → partWritten r t out ≡ pour b (throughSections (writing form) (9 - k) k (stageFrom (sofarAt t p c) (drop p t)))
+    sections-refused n = part-refused r t out b _ (throughSections (writing form) (9 - (k + 1)) (k + 1)) (onward-sections (writing form) (9 - (k + 1)) (k + 1)) e n ∙ ap (pour b) (sym next-section)
 
-    pub sections-again : r .refusal ≡ 0 → pour (out, r .next) (throughSections writing (9 - (k + 1)) (k + 1) (stageFrom (sofarAt t (r .cells) (r .counts)) (drop (r .cells) t))) ≡ pour b (throughSections writing (9 - k) k (stageFrom (sofarAt t p c) (drop p t)))
-    sections-again n = part-done r t out b _ (throughSections writing (9 - (k + 1)) (k + 1)) (onward-sections writing (9 - (k + 1)) (k + 1)) e n ∙ ap (pour b) (sym next-section)
+    pub sections-again : r .refusal ≡ 0 → pour (out, r .next) (throughSections (writing form) (9 - (k + 1)) (k + 1) (stageFrom (sofarAt t (r .cells) (r .counts)) (drop (r .cells) t))) ≡ pour b (throughSections (writing form) (9 - k) k (stageFrom (sofarAt t p c) (drop p t)))
+    sections-again n = part-done r t out b _ (throughSections (writing form) (9 - (k + 1)) (k + 1)) (onward-sections (writing form) (9 - (k + 1)) (k + 1)) e n ∙ ap (pour b) (sym next-section)
 
   -- after the last one something is left
-  pub sections-rest : 9 ≤ k → p < length t → refused 2 ≡ pour b (throughSections writing (9 - k) k (stageFrom (sofarAt t p c) (drop p t)))
+  pub sections-rest : 9 ≤ k → p < length t → refused 2 ≡ pour b (throughSections (writing form) (9 - k) k (stageFrom (sofarAt t p c) (drop p t)))
   unfolding pour stageFrom
-  sections-rest h l = ap (pour b) (sym (sections-left writing k (stageFrom (sofarAt t p c) (drop p t)) h (getD t p 0) (drop (suc p) t) (drop-cons t p 0 l)))
+  sections-rest h l = ap (pour b) (sym (sections-left (writing form) k (stageFrom (sofarAt t p c) (drop p t)) h (getD t p 0) (drop (suc p) t) (drop-cons t p 0 l)))
 
 -- or nothing
-pub sections-end : (k : ℕ) (t : List ℕ) (p : ℕ) (c : Counts) (out : List ℕ) (n : ℕ) → 9 ≤ k → length t ≤ p → done (pouredAt t p c out n) ≡ pour (out, n) (throughSections writing (9 - k) k (stageFrom (sofarAt t p c) (drop p t)))
+pub sections-end : (form k : ℕ) (t : List ℕ) (p : ℕ) (c : Counts) (out : List ℕ) (n : ℕ) → 9 ≤ k → length t ≤ p → done (pouredAt t p c out n) ≡ pour (out, n) (throughSections (writing form) (9 - k) k (stageFrom (sofarAt t p c) (drop p t)))
 unfolding stageFrom
-sections-end k t p c out n h l =
-    pour-here t p c out n ∙ ap (pour (out, n)) (sym (sections-over writing k (stageFrom (sofarAt t p c) (drop p t)) h (drop-of-length-le t {i = p} l)))
+sections-end form k t p c out n h l =
+    pour-here t p c out n ∙ ap (pour (out, n)) (sym (sections-over (writing form) k (stageFrom (sofarAt t p c) (drop p t)) h (drop-of-length-le t {i = p} l)))
 
 -- before any row
 pub sofar-none : (t : List ℕ) → sofarAt t 1 noCounts ≡ nothing
 unfolding sofarAt nothing lettersAt pairsAt rowsAt lastAt
 sofar-none t = refl
 
-pub sections-start : (t : List ℕ) (b : Buf) → pour b (throughSections writing 9 0 (stageFrom (sofarAt t 1 noCounts) (drop 1 t))) ≡ pour b (throughSections writing 9 0 (stageFrom nothing (drop 1 t)))
-sections-start t b = rw (sofar-none t)
+pub sections-start : (form : ℕ) (t : List ℕ) (b : Buf) → pour b (throughSections (writing form) 9 0 (stageFrom (sofarAt t 1 noCounts) (drop 1 t))) ≡ pour b (throughSections (writing form) 9 0 (stageFrom nothing (drop 1 t)))
+sections-start form t b = rw (sofar-none t)
 
 -- the order of the pairs, after the sections
-module _ (r : Part) (t out : List ℕ) (b : Buf) (e : partWritten r t out ≡ pour b (throughSections writing 9 0 (stageFrom nothing (drop 1 t)))) where
-  pub graph-refused : (r .refusal ≡ 0 → ⊥) → partWritten r t out ≡ pour b (whole writing [] (drop 1 t))
+module _ (form : ℕ) (r : Part) (t out : List ℕ) (b : Buf) (e : partWritten r t out ≡ pour b (throughSections (writing form) 9 0 (stageFrom nothing (drop 1 t)))) where
+  pub graph-refused : (r .refusal ≡ 0 → ⊥) → partWritten r t out ≡ pour b (whole (writing form) [] (drop 1 t))
   unfolding whole atStart stageFrom
   graph-refused n = part-refused r t out b _ ordered onward-ordered e n
 
   module _ (n : r .refusal ≡ 0) where
-    graph-ordered : pour (out, r .next) (ordered (stageFrom (sofarAt t (r .cells) (r .counts)) (drop (r .cells) t))) ≡ pour b (whole writing [] (drop 1 t))
+    graph-ordered : pour (out, r .next) (ordered (stageFrom (sofarAt t (r .cells) (r .counts)) (drop (r .cells) t))) ≡ pour b (whole (writing form) [] (drop 1 t))
     unfolding whole atStart stageFrom
     graph-ordered = part-done r t out b _ ordered onward-ordered e n
 
-    pub graph-fault : orderFault (pairsAt (r .counts .labels) (r .counts .pairs) t) ≡ true → refused 6 ≡ pour b (whole writing [] (drop 1 t))
+    pub graph-fault : orderFault (pairsAt (r .counts .labels) (r .counts .pairs) t) ≡ true → refused 6 ≡ pour b (whole (writing form) [] (drop 1 t))
     unfolding ordered refuseIf pour stageFrom sofarAt
     graph-fault f = inner ∙ graph-ordered
       where
         inner : refused 6 ≡ pour (out, r .next) (ordered (stageFrom (sofarAt t (r .cells) (r .counts)) (drop (r .cells) t)))
         inner = sym (rw f)
 
-    pub graph-done : orderFault (pairsAt (r .counts .labels) (r .counts .pairs) t) ≡ false → partWritten r t out ≡ pour b (whole writing [] (drop 1 t))
+    pub graph-done : orderFault (pairsAt (r .counts .labels) (r .counts .pairs) t) ≡ false → partWritten r t out ≡ pour b (whole (writing form) [] (drop 1 t))
     unfolding ordered refuseIf stageFrom sofarAt
     graph-done f = written-done r t out n ∙ pour-here t (r .cells) (r .counts) out (r .next) ∙ ap (pour (out, r .next)) (sym inner) ∙ graph-ordered
       where
         inner : ordered (stageFrom (sofarAt t (r .cells) (r .counts)) (drop (r .cells) t)) ≡ done (stageFrom (sofarAt t (r .cells) (r .counts)) (drop (r .cells) t))
         inner = rw f
+
+-- the form is the table's
+pub in-form : (t : List ℕ) (b : Buf) (form : ℕ) → form ≡ formIn t → pour b (whole (writing form) [] (drop 1 t)) ≡ pour b (whole (writing (formIn t)) [] (drop 1 t))
+in-form t b form e = ap (λ (f : ℕ). pour b (whole (writing f) [] (drop 1 t))) e
 
 -- the counts fit where a section begins
 pub placed-begun : (k p : ℕ) (c : Counts) → Placed k p c → Placed k p (countsBegun c)
@@ -261,9 +265,9 @@ pub next-room : (k p cells rows : ℕ) → p ≤ roomBefore k → rows ≤ secti
 next-room k p cells rows l m e = omega (arith, room-next k)
 
 -- an admitted row had room, and is counted
-pub room-of : (k : ℕ) (t : List ℕ) (p : ℕ) (c : Counts) → admission (sectionAt k) (sofarAt t p c) (rowOf (drop p t)) ≡ 0 → c .rows < sectionAt k .most
+pub room-of : (form k : ℕ) (t : List ℕ) (p : ℕ) (c : Counts) → admission form k (sofarAt t p c) (rowOf (drop p t)) ≡ 0 → c .rows < sectionAt k .most
 unfolding sofarAt
-room-of k t p c e = admitted-room (sectionAt k) (sofarAt t p c) (rowOf (drop p t)) e
+room-of form k t p c e = admitted-room form k (sofarAt t p c) (rowOf (drop p t)) e
 
 pub rows-after : (k : ℕ) (c : Counts) (v : ℕ) → countsAfter k c v .rows ≡ c .rows + 1
 unfolding countsAfter
@@ -275,21 +279,21 @@ unfolding countsBegun
 rows-begun c = refl
 
 -- the names line written
-pub names-put : (k o : ℕ) (letters : List ℕ) (row : Row) (b b′ : Buf) → b′ ≡ puts b (lineText letters (itemsAt o) row) → o ≡ namesPlace k → b′ ≡ puts b (sectionAt k .names)
-names-put k o letters row b b′ e f = e ∙ ap (puts b) (ap (λ (x : ℕ). lineText letters (itemsAt x) row) f ∙ names-text k letters row)
+pub names-put : (form k o : ℕ) (letters : List ℕ) (row : Row) (b b′ : Buf) → b′ ≡ puts b (lineText letters (itemsAt o) row) → o ≡ namesPlace form k → b′ ≡ puts b (shapeAt form k .names)
+names-put form k o letters row b b′ e f = e ∙ ap (puts b) (ap (λ (x : ℕ). lineText letters (itemsAt x) row) f ∙ names-text form k letters row)
 
 -- a section, by what its rows came to
-module _ (k : ℕ) (t : List ℕ) (p : ℕ) (c d : Counts) (b b′ : Buf) (begin : d ≡ countsBegun c) (named : b′ ≡ puts b (sectionAt k .names)) (r : Part) (out : List ℕ) (e : partWritten r t out ≡ pour b′ (throughRows writing (suc (sectionAt k .most)) k (stageFrom (sofarAt t p d) (drop p t)))) where
-  section-whole : pour b′ (andThen (throughRows writing (suc (sectionAt k .most)) k (stageFrom (sofarAt t p d) (drop p t))) (enough k)) ≡ pour b (throughSection writing k (stageFrom (sofarAt t p c) (drop p t)))
-  section-whole = rw (begin, named) (section-begun k t p c b)
+module _ (form k : ℕ) (t : List ℕ) (p : ℕ) (c d : Counts) (b b′ : Buf) (begin : d ≡ countsBegun c) (named : b′ ≡ puts b (shapeAt form k .names)) (r : Part) (out : List ℕ) (e : partWritten r t out ≡ pour b′ (throughRows (writing form) (suc (sectionAt k .most)) k (stageFrom (sofarAt t p d) (drop p t)))) where
+  section-whole : pour b′ (andThen (throughRows (writing form) (suc (sectionAt k .most)) k (stageFrom (sofarAt t p d) (drop p t))) (enough k)) ≡ pour b (throughSection (writing form) k (stageFrom (sofarAt t p c) (drop p t)))
+  section-whole = rw (begin, named) (section-begun form k t p c b)
 
-  pub section-refused : (r .refusal ≡ 0 → ⊥) → partWritten r t out ≡ pour b (throughSection writing k (stageFrom (sofarAt t p c) (drop p t)))
+  pub section-refused : (r .refusal ≡ 0 → ⊥) → partWritten r t out ≡ pour b (throughSection (writing form) k (stageFrom (sofarAt t p c) (drop p t)))
   section-refused n = part-refused r t out b′ _ (enough k) (onward-enough k) e n ∙ section-whole
 
-  pub section-few : r .refusal ≡ 0 → r .counts .rows < sectionAt k .least → refused 2 ≡ pour b (throughSection writing k (stageFrom (sofarAt t p c) (drop p t)))
+  pub section-few : r .refusal ≡ 0 → r .counts .rows < sectionAt k .least → refused 2 ≡ pour b (throughSection (writing form) k (stageFrom (sofarAt t p c) (drop p t)))
   section-few n l = too-few k t (r .cells) (r .counts) out (r .next) l ∙ part-done r t out b′ _ (enough k) (onward-enough k) e n ∙ section-whole
 
-  pub section-done : r .refusal ≡ 0 → sectionAt k .least ≤ r .counts .rows → partWritten r t out ≡ pour b (throughSection writing k (stageFrom (sofarAt t p c) (drop p t)))
+  pub section-done : r .refusal ≡ 0 → sectionAt k .least ≤ r .counts .rows → partWritten r t out ≡ pour b (throughSection (writing form) k (stageFrom (sofarAt t p c) (drop p t)))
   section-done n l = written-done r t out n ∙ not-few k t (r .cells) (r .counts) out (r .next) l ∙ part-done r t out b′ _ (enough k) (onward-enough k) e n ∙ section-whole
 
 -- the form stands before the sections

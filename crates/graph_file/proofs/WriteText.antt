@@ -11,7 +11,7 @@ use Rattle.text_field.specs.Buffer.{Buf, puts}
 use Rattle.text_field.proofs.BufferLaws.{puts-fits}
 use Rattle.graph_file.specs.declared.reader.Part.{Part}
 use Rattle.text_field.specs.Outcome.{Outcome, refused, done, andThen}
-use Rattle.graph_file.specs.File.{Stage, whole, writing, madeOf, hasForm, writeText}
+use Rattle.graph_file.specs.File.{Stage, whole, writing, madeOf, hasForm, formIn, writeText}
 use Rattle.text_field.specs.Answer.{answer, leaves}
 use Rattle.graph_file.specs.Writer.{Poured, poured, pour, pouredAt, partWritten}
 use Rattle.text_field.proofs.AnswerLaws.{answer-refused, leaves-refused, answer-short, leaves-short, answer-fits, leaves-fits}
@@ -26,7 +26,7 @@ pub text-formless : (t : List ℕ) → hasForm t ≡ false → writeText t ≡ r
 unfolding writeText
 text-formless t h = rw (h, writeText)
 
-text-formed : (t : List ℕ) → hasForm t ≡ true → writeText t ≡ madeOf (whole writing [] (drop 1 t))
+text-formed : (t : List ℕ) → hasForm t ≡ true → writeText t ≡ madeOf (whole (writing (formIn t)) [] (drop 1 t))
 unfolding writeText
 text-formed t h = rw (h, writeText)
 
@@ -35,20 +35,20 @@ pub record Text (t u : List ℕ) (n : ℕ) : Type 0 where
   pub came : writeText t ≡ done (take n u)
   pub fits : length (take n u) ≡ n
 
-module _ (t u : List ℕ) (b : Buf) (r : Part) (formed : hasForm t ≡ true) (e : partWritten r t u ≡ pour b (whole writing [] (drop 1 t))) where
+module _ (t u : List ℕ) (b : Buf) (r : Part) (formed : hasForm t ≡ true) (e : partWritten r t u ≡ pour b (whole (writing (formIn t)) [] (drop 1 t))) where
   pub text-refused : (r .refusal ≡ 0 → ⊥) → writeText t ≡ refused (r .refusal)
   unfolding madeOf andThen pour
-  text-refused n = text-formed t formed ∙ inner (whole writing [] (drop 1 t)) (sym (written-refused r t u n) ∙ e)
+  text-refused n = text-formed t formed ∙ inner (whole (writing (formIn t)) [] (drop 1 t)) (sym (written-refused r t u n) ∙ e)
     where
       inner : (o : Outcome Stage) → refused (r .refusal) ≡ pour b o → madeOf o ≡ refused (r .refusal)
       inner (refused m) f = let z : r .refusal ≡ m = cc in ap refused (sym z)
       inner (done g) f = let z : _≡_ {A = ℕ} 0 1 = cc in absurd (omega arith)
 
-pub text-written : (t u z : List ℕ) (r : Part) → hasForm t ≡ true → partWritten r t u ≡ pour (z, 0) (whole writing [] (drop 1 t)) → 32768 ≤ length z → r .refusal ≡ 0 → Text t u (r .next)
+pub text-written : (t u z : List ℕ) (r : Part) → hasForm t ≡ true → partWritten r t u ≡ pour (z, 0) (whole (writing (formIn t)) [] (drop 1 t)) → 32768 ≤ length z → r .refusal ≡ 0 → Text t u (r .next)
 unfolding pour poured pouredAt madeOf andThen
-text-written t u z r formed e room n = by (whole writing [] (drop 1 t)) refl (sym (written-done r t u n) ∙ e)
+text-written t u z r formed e room n = by (whole (writing (formIn t)) [] (drop 1 t)) refl (sym (written-done r t u n) ∙ e)
   where
-    by : (o : Outcome Stage) → whole writing [] (drop 1 t) ≡ o → done (pouredAt t (r .cells) (r .counts) u (r .next)) ≡ pour (z, 0) o → Text t u (r .next)
+    by : (o : Outcome Stage) → whole (writing (formIn t)) [] (drop 1 t) ≡ o → done (pouredAt t (r .cells) (r .counts) u (r .next)) ≡ pour (z, 0) o → Text t u (r .next)
     by (refused m) f g = let x : _≡_ {A = ℕ} 0 1 = cc in absurd (omega arith)
     by (done s) f g =
         let q : pouredAt t (r .cells) (r .counts) u (r .next) ≡ poured (z, 0) s = cc in

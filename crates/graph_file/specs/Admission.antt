@@ -6,7 +6,7 @@ use mathlib.Core.List.{List, [], _∷_, _++_}
 use mathlib.Core.Bool.{Bool, true, false, not, _&&_, _||_}
 use lib.Dec.{eqb, ltb, leb}
 use lib.ListN.{length, getD}
-use Rattle.graph_file.specs.Format.{Kind, state, scope, mark, count, letter, label, end, name, Item, byte, field, everyItem, Sequence, ascending, once, free, Section, sectionAt, labelSection, pairSection, countSection, stateCount, markCount, mostScopes}
+use Rattle.graph_file.specs.Format.{Content, state, scope, mark, count, letter, label, end, name, Item, byte, field, everyItem, Sequence, ascending, once, free, sectionAt, shapeAt, labelSection, pairSection, countSection, stateCount, markCount, mostScopes}
 
 -- a row's five values
 abbrev pub Row : Type 0
@@ -64,20 +64,20 @@ taken k st row = record {
 -- Is the value in its range or list? States are 0 to 15, scopes below their count, marks 0 to
 -- 65,535, the count 1 to 64. A label is its number among those listed; an end is 0 for the end mark
 -- and one more than the label's number for a label.
-unfoldable pub kindInRange : ℕ → ℕ → Kind → ℕ → Bool
-kindInRange labels scopes state v = ltb v stateCount
-kindInRange labels scopes scope v = ltb v scopes
-kindInRange labels scopes mark v = ltb v markCount
-kindInRange labels scopes count v = leb 1 v && leb v mostScopes
-kindInRange labels scopes letter v = true
-kindInRange labels scopes label v = ltb v labels
-kindInRange labels scopes end v = leb v labels
-kindInRange labels scopes name v = true
+unfoldable pub contentInRange : ℕ → ℕ → Content → ℕ → Bool
+contentInRange labels scopes state v = ltb v stateCount
+contentInRange labels scopes scope v = ltb v scopes
+contentInRange labels scopes mark v = ltb v markCount
+contentInRange labels scopes count v = leb 1 v && leb v mostScopes
+contentInRange labels scopes letter v = true
+contentInRange labels scopes label v = ltb v labels
+contentInRange labels scopes end v = leb v labels
+contentInRange labels scopes name v = true
 
 -- of an item of a line, whose value the row holds
 unfoldable pub itemInRange : ℕ → ℕ → Row → Item → Bool
 itemInRange labels scopes row (byte b) = true
-itemInRange labels scopes row (field k c) = kindInRange labels scopes k (value row c)
+itemInRange labels scopes row (field k c) = contentInRange labels scopes k (value row c)
 
 -- Is every value of the row in its range?
 unfoldable pub inRange : ℕ → ℕ → List Item → Row → Bool
@@ -104,10 +104,11 @@ unfoldable pub unless : Bool → ℕ → ℕ → ℕ
 unless true n otherwise = otherwise
 unless false n otherwise = n
 
--- The row after the rows so far: refused by 5 where the section is full, by 3 where a value is out
--- of range, by 4 where it repeats or does not ascend, in this sequence; 0 where it is admitted.
-unfoldable pub admission : Section → Sofar → Row → ℕ
-admission s st row =
-    unless (ltb (st .rows) (s .most)) 5
-    (unless (inRange (length (st .letters)) (st .scopes) (s .row) row) 3
-    (unless (follows (s .sequence) (s .key) (st .letters) (st .rows) (st .last) row) 4 0))
+-- A row of section k in a file of a form, after the rows so far: refused by 5 where the section is
+-- full, by 3 where a value is out of range, by 4 where it repeats or does not ascend, in this
+-- sequence; 0 where it is admitted.
+unfoldable pub admission : ℕ → ℕ → Sofar → Row → ℕ
+admission form k st row =
+    unless (ltb (st .rows) (sectionAt k .most)) 5
+    (unless (inRange (length (st .letters)) (st .scopes) (shapeAt form k .row) row) 3
+    (unless (follows (sectionAt k .sequence) (sectionAt k .key) (st .letters) (st .rows) (st .last) row) 4 0))

@@ -5,9 +5,9 @@ use Prim.Native.Nat.{ℕ, zero, suc, _+_}
 use mathlib.Core.List.{List, [], _∷_, _++_, map}
 use mathlib.Core.Bool.{Bool, true, false, not}
 use lib.Dec.{eqb, ltb}
-use lib.ListN.{length, drop}
+use lib.ListN.{length, getD, drop}
 use Rattle.text_field.specs.Bytes.{isLower}
-use Rattle.graph_file.specs.Format.{byte, Section, sectionAt, form, textBytes}
+use Rattle.graph_file.specs.Format.{byte, sectionAt, shapeAt, oldForm, textBytes}
 use Rattle.text_field.specs.Outcome.{Outcome, refused, done, andThen, refuseIf}
 use Rattle.graph_file.specs.Admission.{Row, rowOf, blank, Sofar, nothing, begun, taken, admission}
 use Rattle.graph_file.specs.Line.{Reading, readItems, lineText, formed}
@@ -20,9 +20,11 @@ pub record Piece : Type 0 where
   pub made : List ℕ
   pub rest : List ℕ
 
--- What differs between the two ways, for a section's number: the names line, whether another row of
--- the section comes next, and one row, with the labels' letters given.
+-- A way through a file: the file's form, and what differs between reading and writing, for a
+-- section's number: the names line, whether another row of the section comes next, and one row, with
+-- the labels' letters given.
 pub record Way : Type 0 where
+  pub form : ℕ
   pub names : ℕ → List ℕ → Outcome Piece
   pub more : ℕ → List ℕ → Bool
   pub row : ℕ → List ℕ → List ℕ → Outcome Piece
@@ -45,7 +47,7 @@ afterRow k g p = record { sofar = taken k (g .sofar) (p .row); made = g .made ++
 unfoldable pub oneRow : Way → ℕ → Stage → Outcome Stage
 oneRow w k g =
     andThen (w .row k (g .sofar .letters) (g .rest))
-    (λ p. ifAdmitted (admission (sectionAt k) (g .sofar) (p .row)) (done (afterRow k g p)))
+    (λ p. ifAdmitted (admission (w .form) k (g .sofar) (p .row)) (done (afterRow k g p)))
 
 -- The rows of section k. A section admits at most as many rows as its limit, so the turns, one more
 -- than that, never run out.
@@ -89,9 +91,9 @@ unfoldable pub whole : Way → List ℕ → List ℕ → Outcome Stage
 whole w made rest = andThen (throughSections w 9 0 (atStart made rest)) ordered
 
 -- Reading. The names line must stand there byte for byte.
-unfoldable pub readNames : ℕ → List ℕ → Outcome Piece
-readNames k text =
-    andThen (readItems [] (map byte (sectionAt k .names)) blank text)
+unfoldable pub readNames : ℕ → ℕ → List ℕ → Outcome Piece
+readNames form k text =
+    andThen (readItems [] (map byte (shapeAt form k .names)) blank text)
     (λ r. done (record { row = blank; made = []; rest = r .rest }))
 
 -- A row follows unless the text is at its end or a lower-case letter comes, which begins a names
@@ -101,18 +103,18 @@ rowFollows [] = false
 rowFollows (x ∷ rest) = not (isLower x)
 
 -- a row's line becomes its section's number and the five values
-unfoldable pub readRow : ℕ → List ℕ → List ℕ → Outcome Piece
-readRow k letters text =
-    andThen (readItems letters (sectionAt k .row) blank text)
+unfoldable pub readRow : ℕ → ℕ → List ℕ → List ℕ → Outcome Piece
+readRow form k letters text =
+    andThen (readItems letters (shapeAt form k .row) blank text)
     (λ r. done (record { row = r .values; made = k ∷ r .values; rest = r .rest }))
 
-unfoldable pub reading : Way
-reading = record { names = readNames; more = λ k text. rowFollows text; row = readRow }
+unfoldable pub reading : ℕ → Way
+reading form = record { form = form; names = readNames form; more = λ k text. rowFollows text; row = readRow form }
 
 -- The graph table's cells that a text stands for: refused by 1 where it is too long, then line by
 -- line, then by 6.
 unfoldable pub readStage : List ℕ → Outcome Stage
-readStage text = elim (ltb textBytes (length text)) [ true ↦ refused 1 | false ↦ whole reading (form ∷ []) text ]
+readStage text = elim (ltb textBytes (length text)) [ true ↦ refused 1 | false ↦ whole (reading oldForm) (oldForm ∷ []) text ]
 
 unfoldable pub madeOf : Outcome Stage → Outcome (List ℕ)
 madeOf o = andThen o (λ g. done (g .made))
@@ -121,8 +123,8 @@ unfoldable pub readCells : List ℕ → Outcome (List ℕ)
 readCells text = madeOf (readStage text)
 
 -- Writing. The names line is written whether or not rows follow.
-unfoldable pub writeNames : ℕ → List ℕ → Outcome Piece
-writeNames k cells = done (record { row = blank; made = sectionAt k .names; rest = cells })
+unfoldable pub writeNames : ℕ → ℕ → List ℕ → Outcome Piece
+writeNames form k cells = done (record { row = blank; made = shapeAt form k .names; rest = cells })
 
 -- A row of section k follows if its first cell is the section's number. A row of any other number
 -- is left over at the end, which is 2.
@@ -131,20 +133,26 @@ cellsFollow k [] = false
 cellsFollow k (x ∷ rest) = eqb x k
 
 -- six cells become the row's line; fewer cells, or values that no line has, are 2
-unfoldable pub writeRow : ℕ → List ℕ → List ℕ → Outcome Piece
-writeRow k letters cells =
+unfoldable pub writeRow : ℕ → ℕ → List ℕ → List ℕ → Outcome Piece
+writeRow form k letters cells =
     refuseIf (ltb (length cells) 6) 2
-    (refuseIf (not (formed (sectionAt k .row) (rowOf cells))) 2
-    (done (record { row = rowOf cells; made = lineText letters (sectionAt k .row) (rowOf cells); rest = drop 6 cells })))
+    (refuseIf (not (formed (shapeAt form k .row) (rowOf cells))) 2
+    (done (record { row = rowOf cells; made = lineText letters (shapeAt form k .row) (rowOf cells); rest = drop 6 cells })))
 
-unfoldable pub writing : Way
-writing = record { names = writeNames; more = cellsFollow; row = writeRow }
+unfoldable pub writing : ℕ → Way
+writing form = record { form = form; names = writeNames form; more = cellsFollow; row = writeRow form }
 
+-- Is the first cell there, and a form's number?
 unfoldable pub hasForm : List ℕ → Bool
 hasForm [] = false
-hasForm (x ∷ rest) = eqb x form
+hasForm (x ∷ rest) = eqb x oldForm
 
--- The text of a graph table's cells: refused by 2 where the first cell is missing or another
--- form's, then row by row, then by 6.
+-- the form of a graph table
+unfoldable pub formIn : List ℕ → ℕ
+formIn cells = getD cells 0 oldForm
+
+-- The text of a graph table's cells, in the table's form: refused by 2 where the first cell is
+-- missing or no form's number, then row by row, then by 6.
 unfoldable pub writeText : List ℕ → Outcome (List ℕ)
-writeText cells = elim (hasForm cells) [ true ↦ madeOf (whole writing [] (drop 1 cells)) | false ↦ refused 2 ]
+writeText cells =
+    elim (hasForm cells) [ true ↦ madeOf (whole (writing (formIn cells)) [] (drop 1 cells)) | false ↦ refused 2 ]

@@ -1,5 +1,6 @@
--- The form of the gym file as one table: nine sections, each with its names line, its limits, the
--- items of a row and its key (document 01, "The gym file"). Assumes nothing: these are definitions.
+-- The form of the gym file as one table: nine sections, each with its limits and its key, and by the
+-- file's form its names line and the items of a row (document 01, "The gym file"). Assumes nothing:
+-- these are definitions.
 use Prim.Native.Nat.{ℕ}
 use mathlib.Core.List.{List, [], _∷_}
 use mathlib.Core.Bool.{Bool, true, false, _&&_}
@@ -7,17 +8,17 @@ use lib.ListN.{getD}
 
 -- What a field of a row holds: a state, a scope, a mark, the count of scopes, the letter of a new
 -- label, a label, one end of an order pair or of an open pair (the end mark or a label), a name.
-pub data Kind : Type 0 where
-  state scope mark count letter label end name : Kind
+pub data Content : Type 0 where
+  state scope mark count letter label end name : Content
 
 -- A row of the graph table has five values. An item of a line is a byte that stands there as it is,
 -- or a field, whose value is the row's at the place given; a name takes that place and the next.
 pub data Item : Type 0 where
   byte : ℕ → Item
-  field : Kind → ℕ → Item
+  field : Content → ℕ → Item
 
--- how many of the row's values a field of this kind has
-unfoldable pub valuesOf : Kind → ℕ
+-- how many of the row's values a field has, by what it holds
+unfoldable pub valuesOf : Content → ℕ
 valuesOf state = 1
 valuesOf scope = 1
 valuesOf mark = 1
@@ -37,15 +38,18 @@ everyItem test (i ∷ items) = test i && everyItem test items
 pub data Sequence : Type 0 where
   ascending once free : Sequence
 
--- A section: its names line; how many rows it must have and may have; the items of a row; the
--- places of the values that rows are sorted by, first the weightiest; how rows follow one another.
+-- A section, whatever the form of its file: how many rows it must have and may have; the places of
+-- the values that rows are sorted by, first the weightiest; how rows follow one another.
 pub record Section : Type 0 where
-  pub names : List ℕ
   pub least : ℕ
   pub most : ℕ
-  pub row : List Item
   pub key : List ℕ
   pub sequence : Sequence
+
+-- What a section looks like in a file of one form: its names line, and the items of a row.
+pub record Shape : Type 0 where
+  pub names : List ℕ
+  pub row : List Item
 
 abbrev space : Item
 space = byte 32
@@ -55,101 +59,92 @@ lineEnd = byte 10
 
 -- `label`: a letter, which no other row has
 unfoldable pub labels : Section
-labels = record {
+labels = record { least = 0; most = 8; key = []; sequence = once }
+
+abbrev labelShape : Shape
+labelShape = record {
   names = 108 ∷ 97 ∷ 98 ∷ 101 ∷ 108 ∷ 10 ∷ [];
-  least = 0;
-  most = 8;
   row = field letter 0 ∷ lineEnd ∷ [];
-  key = [];
-  sequence = once;
 }
 
 -- `less more`: an order pair, sorted by both ends
 unfoldable pub pairs : Section
-pairs = record {
+pairs = record { least = 0; most = 36; key = 0 ∷ 1 ∷ []; sequence = ascending }
+
+abbrev pairShape : Shape
+pairShape = record {
   names = 108 ∷ 101 ∷ 115 ∷ 115 ∷ 32 ∷ 109 ∷ 111 ∷ 114 ∷ 101 ∷ 10 ∷ [];
-  least = 0;
-  most = 36;
   row = field end 0 ∷ space ∷ field end 1 ∷ lineEnd ∷ [];
-  key = 0 ∷ 1 ∷ [];
-  sequence = ascending;
 }
 
 -- `state label next`: a transition; its next state is no part of the key
 unfoldable pub transitions : Section
-transitions = record {
+transitions = record { least = 0; most = 128; key = 0 ∷ 1 ∷ []; sequence = ascending }
+
+abbrev transitionShape : Shape
+transitionShape = record {
   names = 115 ∷ 116 ∷ 97 ∷ 116 ∷ 101 ∷ 32 ∷ 108 ∷ 97 ∷ 98 ∷ 101 ∷ 108 ∷ 32 ∷ 110 ∷ 101 ∷ 120 ∷ 116 ∷ 10 ∷ [];
-  least = 0;
-  most = 128;
   row = field state 0 ∷ space ∷ field label 1 ∷ space ∷ field state 2 ∷ lineEnd ∷ [];
-  key = 0 ∷ 1 ∷ [];
-  sequence = ascending;
 }
 
 -- `accept`: an accepting state
 unfoldable pub accepts : Section
-accepts = record {
+accepts = record { least = 0; most = 16; key = 0 ∷ []; sequence = ascending }
+
+abbrev acceptShape : Shape
+acceptShape = record {
   names = 97 ∷ 99 ∷ 99 ∷ 101 ∷ 112 ∷ 116 ∷ 10 ∷ [];
-  least = 0;
-  most = 16;
   row = field state 0 ∷ lineEnd ∷ [];
-  key = 0 ∷ [];
-  sequence = ascending;
 }
 
 -- `scopes`: how many scopes there are; one row, no less and no more
 unfoldable pub scopeCount : Section
-scopeCount = record {
+scopeCount = record { least = 1; most = 1; key = []; sequence = free }
+
+abbrev countShape : Shape
+countShape = record {
   names = 115 ∷ 99 ∷ 111 ∷ 112 ∷ 101 ∷ 115 ∷ 10 ∷ [];
-  least = 1;
-  most = 1;
   row = field count 0 ∷ lineEnd ∷ [];
-  key = [];
-  sequence = free;
 }
 
 -- `from label to`: an edge
 unfoldable pub edges : Section
-edges = record {
+edges = record { least = 0; most = 512; key = 0 ∷ 1 ∷ 2 ∷ []; sequence = ascending }
+
+abbrev edgeShape : Shape
+edgeShape = record {
   names = 102 ∷ 114 ∷ 111 ∷ 109 ∷ 32 ∷ 108 ∷ 97 ∷ 98 ∷ 101 ∷ 108 ∷ 32 ∷ 116 ∷ 111 ∷ 10 ∷ [];
-  least = 0;
-  most = 512;
   row = field scope 0 ∷ space ∷ field label 1 ∷ space ∷ field scope 2 ∷ lineEnd ∷ [];
-  key = 0 ∷ 1 ∷ 2 ∷ [];
-  sequence = ascending;
 }
 
 -- `at name mark`: a declaration; its name has the values 1 and 2
 unfoldable pub declarations : Section
-declarations = record {
+declarations = record { least = 0; most = 512; key = 0 ∷ 1 ∷ 2 ∷ 3 ∷ []; sequence = ascending }
+
+abbrev declarationShape : Shape
+declarationShape = record {
   names = 97 ∷ 116 ∷ 32 ∷ 110 ∷ 97 ∷ 109 ∷ 101 ∷ 32 ∷ 109 ∷ 97 ∷ 114 ∷ 107 ∷ 10 ∷ [];
-  least = 0;
-  most = 512;
   row = field scope 0 ∷ space ∷ field name 1 ∷ space ∷ field mark 3 ∷ lineEnd ∷ [];
-  key = 0 ∷ 1 ∷ 2 ∷ 3 ∷ [];
-  sequence = ascending;
 }
 
 -- `at open`: an open pair
 unfoldable pub openPairs : Section
-openPairs = record {
+openPairs = record { least = 0; most = 576; key = 0 ∷ 1 ∷ []; sequence = ascending }
+
+abbrev openShape : Shape
+openShape = record {
   names = 97 ∷ 116 ∷ 32 ∷ 111 ∷ 112 ∷ 101 ∷ 110 ∷ 10 ∷ [];
-  least = 0;
-  most = 576;
   row = field scope 0 ∷ space ∷ field end 1 ∷ lineEnd ∷ [];
-  key = 0 ∷ 1 ∷ [];
-  sequence = ascending;
 }
 
 -- `start seek`: a query, in any sequence
 unfoldable pub queries : Section
-queries = record {
+queries = record { least = 0; most = 256; key = []; sequence = free }
+
+abbrev queryShape : Shape
+queryShape = record {
   names = 115 ∷ 116 ∷ 97 ∷ 114 ∷ 116 ∷ 32 ∷ 115 ∷ 101 ∷ 101 ∷ 107 ∷ 10 ∷ [];
-  least = 0;
-  most = 256;
   row = field scope 0 ∷ space ∷ field name 1 ∷ lineEnd ∷ [];
-  key = [];
-  sequence = free;
 }
 
 -- the nine sections in the file's sequence; a section's number is its place here
@@ -158,11 +153,26 @@ sections = labels ∷ pairs ∷ transitions ∷ accepts ∷ scopeCount ∷ edges
 
 -- past the last section: nothing, which admits no row
 unfoldable pub pastLast : Section
-pastLast = record { names = 10 ∷ []; least = 0; most = 0; row = lineEnd ∷ []; key = []; sequence = free }
+pastLast = record { least = 0; most = 0; key = []; sequence = free }
 
 -- the section of a number
 unfoldable pub sectionAt : ℕ → Section
 sectionAt k = getD sections k pastLast
+
+-- A file's form has a number, which is the graph table's first cell. There is one form so far.
+abbrev pub oldForm : ℕ
+oldForm = 0
+
+-- the nine sections' shapes in a file of a form
+unfoldable pub shapesOf : ℕ → List Shape
+shapesOf form = labelShape ∷ pairShape ∷ transitionShape ∷ acceptShape ∷ countShape ∷ edgeShape ∷ declarationShape ∷ openShape ∷ queryShape ∷ []
+
+abbrev pastShape : Shape
+pastShape = record { names = 10 ∷ []; row = lineEnd ∷ [] }
+
+-- the shape of a section's number in a file of a form
+unfoldable pub shapeAt : ℕ → ℕ → Shape
+shapeAt form k = getD (shapesOf form) k pastShape
 
 -- the sections' numbers
 abbrev pub labelSection : ℕ
@@ -213,7 +223,3 @@ tableCells = 12271
 
 abbrev pub ownCells : ℕ
 ownCells = 12277
-
--- the graph table's first cell: the form of the file
-abbrev pub form : ℕ
-form = 0

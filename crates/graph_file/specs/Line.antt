@@ -11,7 +11,7 @@ use Rattle.text_field.specs.declared.NameRead.{NameRead}
 use Rattle.text_field.specs.Bytes.{isCapital}
 use Rattle.text_field.specs.Number.{NumberFound, numberMeaning, numberText, numberHere}
 use Rattle.text_field.specs.Name.{NameFound, nameMeaning, nameText, nameHere, isNameCells}
-use Rattle.graph_file.specs.Format.{Kind, state, scope, mark, count, letter, label, end, name, Item, byte, field, valuesOf, everyItem}
+use Rattle.graph_file.specs.Format.{Content, state, scope, mark, count, letter, label, end, name, Item, byte, field, valuesOf, everyItem}
 use Rattle.text_field.specs.Outcome.{Outcome, refused, done, andThen}
 use Rattle.graph_file.specs.Admission.{Row, value}
 
@@ -52,7 +52,7 @@ first text = getD text 0 0
 
 -- A field at the front of the text. A label's form is any capital (01, "The gym file"): whether the
 -- file lists it is a matter of range, refusal 3.
-unfoldable pub readField : List ℕ → Kind → List ℕ → Outcome Reading
+unfoldable pub readField : List ℕ → Content → List ℕ → Outcome Reading
 readField letters state text = numberTaken (numberHere text) text
 readField letters scope text = numberTaken (numberHere text) text
 readField letters mark text = numberTaken (numberHere text) text
@@ -94,7 +94,7 @@ endByte letters zero = 36
 endByte letters (suc v) = asByte (getD letters v 0)
 
 -- a field's text, from the value at its place and the one after it
-unfoldable pub fieldText : List ℕ → Kind → ℕ → ℕ → List ℕ
+unfoldable pub fieldText : List ℕ → Content → ℕ → ℕ → List ℕ
 fieldText letters state v w = numberText v
 fieldText letters scope v w = numberText v
 fieldText letters mark v w = numberText v
@@ -117,7 +117,7 @@ lineText letters (i ∷ items) row = itemText letters row i ++ lineText letters 
 -- Has the value a text of its form? A number has five digits at most, a letter is A to Z, a name's
 -- two cells are a name's. A label's number is no text: without a label it is out of range, refusal
 -- 3.
-unfoldable pub fieldFormed : Kind → ℕ → ℕ → Bool
+unfoldable pub fieldFormed : Content → ℕ → ℕ → Bool
 fieldFormed state v w = leb v 99999
 fieldFormed scope v w = leb v 99999
 fieldFormed mark v w = leb v 99999

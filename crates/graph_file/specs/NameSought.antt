@@ -8,7 +8,7 @@ use Rattle.text_field.specs.declared.NameRead.{NameRead}
 use Rattle.text_field.specs.declared.NameRead.the-variants.{Name, NoName}
 use Rattle.text_field.specs.Name.{nameHere}
 use Rattle.graph_file.specs.declared.sought.NamePlace.{NamePlace}
-use Rattle.graph_file.specs.Format.{Item, byte, field, valuesOf, sectionAt, querySection}
+use Rattle.graph_file.specs.Format.{Item, byte, field, valuesOf, shapeAt, oldForm, querySection}
 use Rattle.text_field.specs.Outcome.{Outcome, refused, done}
 use Rattle.graph_file.specs.Line.{Reading, readItem}
 use Rattle.graph_file.specs.File.{Stage, readStage}
@@ -44,13 +44,13 @@ fromName [] text = []
 fromName (i ∷ items) text = elim (isNameField i) [ true ↦ text | false ↦ fromName items (restOf (readItem [] i text)) ]
 
 -- Queries are the last section, so the last n lines of a file with n queries are theirs: the text from the name in query q's line on, if there is
--- a query q.
-unfoldable pub queryFrom : ℕ → List ℕ → ℕ → List ℕ
-queryFrom n text q = elim (ltb q n) [ true ↦ fromName (sectionAt querySection .row) (afterLines (lineCount text - n + q) text) | false ↦ [] ]
+-- a query q. The line is as the file's form has it.
+unfoldable pub queryFrom : ℕ → ℕ → List ℕ → ℕ → List ℕ
+queryFrom form n text q = elim (ltb q n) [ true ↦ fromName (shapeAt form querySection .row) (afterLines (lineCount text - n + q) text) | false ↦ [] ]
 
 unfoldable pub fromWithin : Outcome Stage → List ℕ → ℕ → List ℕ
 fromWithin (refused n) text q = []
-fromWithin (done g) text q = queryFrom (g .sofar .rows) text q
+fromWithin (done g) text q = queryFrom oldForm (g .sofar .rows) text q
 
 -- The text from the name on that query q of the file seeks; nothing where a refusal stands in the way. After the last section the rows so
 -- far are the queries.

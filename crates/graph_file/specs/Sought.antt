@@ -10,9 +10,9 @@ use Rattle.text_field.specs.Number.{numberText}
 use Rattle.text_field.specs.Name.{isName, nameText}
 use Rattle.scope_graph.specs.Rows.{language}
 use Rattle.scope_graph.specs.Graph.{Query}
-use Rattle.graph_file.specs.Format.{sectionAt, querySection}
+use Rattle.graph_file.specs.Format.{shapeAt, querySection}
 use Rattle.text_field.specs.Outcome.{refused, done}
-use Rattle.graph_file.specs.File.{readCells}
+use Rattle.graph_file.specs.File.{formIn, readCells}
 use Rattle.graph_file.specs.Decode.{rulesOf, queriesOf}
 use Rattle.graph_file.specs.NameSought.{nameSought, placeSought}
 
@@ -33,7 +33,7 @@ module _ (cells : List ℕ) where
   -- All before query q's line, where the sections above the queries have the text given: then come
   -- the names line and the lines of the queries before q.
   unfoldable pub beforeLine : List ℕ → ℕ → List ℕ
-  beforeLine above q = above ++ (sectionAt querySection .names ++ queryLines (take q (queriesOf cells)))
+  beforeLine above q = above ++ (shapeAt (formIn cells) querySection .names ++ queryLines (take q (queriesOf cells)))
 
   -- Query q is the one given: its line stands behind those of the queries before it, the later ones'
   -- lines end the text, and what is sought is the name in it, behind the scope's number and a space.

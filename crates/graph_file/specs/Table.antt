@@ -9,51 +9,52 @@ use lib.ListN.{length, getD, drop}
 use Rattle.graph_file.specs.declared.rows.Counts.{Counts}
 use Rattle.graph_file.specs.declared.format.Sequence as told
 use Rattle.graph_file.specs.declared.format.Sequence.the-variants.{Ascending, Once, Free}
-use Rattle.graph_file.specs.Format.{Kind, state, scope, mark, count, letter, label, end, name, Item, byte, field, Sequence, ascending, once, free, Section, sections, sectionAt}
+use Rattle.graph_file.specs.Format.{Content, state, scope, mark, count, letter, label, end, name, Item, byte, field, Sequence, ascending, once, free, Section, sections, Shape, shapesOf, oldForm}
 use Rattle.graph_file.specs.Admission.{Row, value, rowOf, blank, Sofar}
 
--- the kinds by number
-unfoldable pub kindNumber : Kind → ℕ
-kindNumber state = 0
-kindNumber scope = 1
-kindNumber mark = 2
-kindNumber count = 3
-kindNumber letter = 4
-kindNumber label = 5
-kindNumber end = 6
-kindNumber name = 7
+-- the contents by number
+unfoldable pub contentNumber : Content → ℕ
+contentNumber state = 0
+contentNumber scope = 1
+contentNumber mark = 2
+contentNumber count = 3
+contentNumber letter = 4
+contentNumber label = 5
+contentNumber end = 6
+contentNumber name = 7
 
--- An item's code: a byte stands for itself, a field from 128 on has its kind and place.
+-- An item's code: a byte stands for itself, a field from 128 on has its content and place.
 unfoldable pub code : Item → ℕ
 code (byte b) = b
-code (field k c) = 128 + 8 * kindNumber k + c
+code (field k c) = 128 + 8 * contentNumber k + c
 
--- the kind of a number; a larger one is read as a name
-unfoldable pub kindOf : ℕ → Kind
-kindOf zero = state
-kindOf (suc zero) = scope
-kindOf (suc (suc zero)) = mark
-kindOf (suc (suc (suc zero))) = count
-kindOf (suc (suc (suc (suc zero)))) = letter
-kindOf (suc (suc (suc (suc (suc zero))))) = label
-kindOf (suc (suc (suc (suc (suc (suc zero)))))) = end
-kindOf (suc (suc (suc (suc (suc (suc (suc n))))))) = name
+-- the content of a number; a larger one is read as a name
+unfoldable pub contentOf : ℕ → Content
+contentOf zero = state
+contentOf (suc zero) = scope
+contentOf (suc (suc zero)) = mark
+contentOf (suc (suc (suc zero))) = count
+contentOf (suc (suc (suc (suc zero)))) = letter
+contentOf (suc (suc (suc (suc (suc zero))))) = label
+contentOf (suc (suc (suc (suc (suc (suc zero)))))) = end
+contentOf (suc (suc (suc (suc (suc (suc (suc n))))))) = name
 
 -- the item of a code
 unfoldable pub itemOf : ℕ → Item
-itemOf x = elim (ltb x 128) [ true ↦ byte x | false ↦ field (kindOf ((x - 128) / 8)) (x % 8) ]
+itemOf x = elim (ltb x 128) [ true ↦ byte x | false ↦ field (contentOf ((x - 128) / 8)) (x % 8) ]
 
 -- a section in the fixed string: its names line, the codes of a row's items, and the places of its
 -- key as digits, each ended by LF
-unfoldable pub layout : Section → List ℕ
-layout s = s .names ++ (map code (s .row) ++ (map (λ (c : ℕ). 48 + c) (s .key) ++ (10 ∷ [])))
+unfoldable pub layout : Shape → Section → List ℕ
+layout h s = h .names ++ (map code (h .row) ++ (map (λ (c : ℕ). 48 + c) (s .key) ++ (10 ∷ [])))
 
-unfoldable pub layouts : List Section → List ℕ
-layouts [] = []
-layouts (s ∷ ss) = layout s ++ layouts ss
+unfoldable pub layouts : List Shape → List Section → List ℕ
+layouts [] ss = []
+layouts (h ∷ hs) [] = []
+layouts (h ∷ hs) (s ∷ ss) = layout h s ++ layouts hs ss
 
 unfoldable pub formatBytes : List ℕ
-formatBytes = layouts sections
+formatBytes = layouts (shapesOf oldForm) sections
 
 -- an item, and the items after it unless it ends the line
 unfoldable pub lineStep : ℕ → List Item → List Item
@@ -79,18 +80,18 @@ keyOf (x ∷ rest) = keyStep x (keyOf rest)
 unfoldable pub keyAt : ℕ → List ℕ
 keyAt o = keyOf (drop o formatBytes)
 
--- where each section's names line, row and key start
+-- where each section's names line and row start, by the form of the file, and its key
 abbrev pub namesPlaces : List ℕ
 namesPlaces = 0 ∷ 9 ∷ 26 ∷ 52 ∷ 63 ∷ 73 ∷ 97 ∷ 121 ∷ 136 ∷ []
 
-unfoldable pub namesPlace : ℕ → ℕ
-namesPlace k = getD namesPlaces k 152
+unfoldable pub namesPlace : ℕ → ℕ → ℕ
+namesPlace form k = getD namesPlaces k 152
 
 abbrev pub rowPlaces : List ℕ
 rowPlaces = 6 ∷ 19 ∷ 43 ∷ 59 ∷ 70 ∷ 87 ∷ 110 ∷ 129 ∷ 147 ∷ []
 
-unfoldable pub rowPlace : ℕ → ℕ
-rowPlace k = getD rowPlaces k 152
+unfoldable pub rowPlace : ℕ → ℕ → ℕ
+rowPlace form k = getD rowPlaces k 152
 
 abbrev pub keyPlaces : List ℕ
 keyPlaces = 8 ∷ 23 ∷ 49 ∷ 61 ∷ 72 ∷ 93 ∷ 116 ∷ 133 ∷ 151 ∷ []

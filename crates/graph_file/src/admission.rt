@@ -16,14 +16,14 @@ ghost use Prim.Native.Nat.{ℕ, _+_, _-_, _≤_};
 ghost use lib.Dec.{eqb};
 ghost use lib.ListN.{length, drop};
 ghost use Rattle.graph_file.specs.Format.{sectionAt};
-ghost use Rattle.graph_file.specs.Admission.{rowOf, value, kindInRange, itemInRange, inRange, keyLess, listed, follows, admission};
-ghost use Rattle.graph_file.specs.Table.{kindOf, itemOf, formatBytes, itemsAt, keyAt, lettersAt, lastAt, sofarAt};
+ghost use Rattle.graph_file.specs.Admission.{rowOf, value, contentInRange, itemInRange, inRange, keyLess, listed, follows, admission};
+ghost use Rattle.graph_file.specs.Table.{contentOf, itemOf, formatBytes, itemsAt, keyAt, lettersAt, lastAt, sofarAt};
 
-// Is the value in the range of its kind?
-fn kind_in_range(labels: u32, scopes: u64, kind: u8, v: u64) -> bool
-    ensures answer { λ r. ⌜ r ≡ kindInRange labels scopes (kindOf kind) v ⌝ }
+// Is the value in its range, by what its field holds?
+fn content_in_range(labels: u32, scopes: u64, content: u8, v: u64) -> bool
+    ensures answer { λ r. ⌜ r ≡ contentInRange labels scopes (contentOf content) v ⌝ }
 {
-    match kind {
+    match content {
         0 => v < STATES,
         1 => v < scopes,
         2 => v < MARKS,
@@ -35,7 +35,7 @@ fn kind_in_range(labels: u32, scopes: u64, kind: u8, v: u64) -> bool
     }
 }
 
-// Is the value that the row holds for the item of a code in its kind's range?
+// Is the value that the row holds for the item of a code in its range?
 fn item_in_range(labels: u32, scopes: u64, x: u8, table: &[u64], p: usize) -> bool
     requires room { ⌜ p + 6 ≤ length (now table) ⌝ }
     ensures answer { λ r. ⌜ r ≡ itemInRange labels scopes (rowOf (drop p (now (table .entry)))) (itemOf x) ⌝ }
@@ -44,7 +44,7 @@ fn item_in_range(labels: u32, scopes: u64, x: u8, table: &[u64], p: usize) -> bo
         return true;
     }
     let c = (x % 8) as usize;
-    kind_in_range(labels, scopes, (x - 128) / 8, value_at(table, p, c))
+    content_in_range(labels, scopes, (x - 128) / 8, value_at(table, p, c))
 }
 
 // Is every value of the row in its range, by the items at a place of the format?
@@ -133,13 +133,21 @@ fn row_follows(format: &[u8], k: usize, table: &[u64], p: usize, labels: u32, ro
     }
 }
 
-// The row at place p after the rows above: 5, 3 or 4 where it is refused, 0 where it is admitted.
-// The section's limit comes from its reader or writer.
-pub fn admitted(format: &[u8], k: usize, limit: usize, table: &[u64], p: usize, c: Counts) -> u64
+// The row at place p as a row of section k in a file of a form, after the rows above: 5, 3 or 4
+// where it is refused, 0 where it is admitted. The section's limit comes from its reader or writer.
+pub fn admitted(
+    format: &[u8],
+    form: u64,
+    k: usize,
+    limit: usize,
+    table: &[u64],
+    p: usize,
+    c: Counts,
+) -> u64
     requires format { ⌜ now format ≡ formatBytes ⌝ }
     requires room { ⌜ p + 6 ≤ length (now table) ⌝ }
     requires limit { ⌜ limit ≡ sectionAt k .most ⌝ }
-    ensures answer { λ r. ⌜ r ≡ admission (sectionAt k) (sofarAt (now (table .entry)) p c)
+    ensures answer { λ r. ⌜ r ≡ admission form k (sofarAt (now (table .entry)) p c)
         (rowOf (drop p (now (table .entry)))) ⌝ }
 {
     let labels = c.labels;
@@ -147,7 +155,7 @@ pub fn admitted(format: &[u8], k: usize, limit: usize, table: &[u64], p: usize, 
     if limit <= rows as usize {
         return 5;
     }
-    if !in_range(format, row_place(k), labels, c.scopes, table, p) {
+    if !in_range(format, row_place(form, k), labels, c.scopes, table, p) {
         return 3;
     }
     if !row_follows(format, k, table, p, labels, rows) {

@@ -5,7 +5,7 @@ ghost use mathlib.Core.Path.{_≡_};
 ghost use Prim.Native.Nat.{ℕ};
 ghost use lib.Dec.{leb};
 ghost use lib.ListN.{getD};
-ghost use Rattle.graph_file.specs.Format.{sectionAt, everyItem};
+ghost use Rattle.graph_file.specs.Format.{sectionAt, shapeAt, everyItem};
 ghost use Rattle.graph_file.specs.Line.{sparesPlace};
 ghost use Rattle.graph_file.specs.Table.{formatBytes, namesPlace, rowPlace, keyPlace, sequenceMeaning};
 
@@ -19,9 +19,12 @@ pub const MARKS: u64 = 65536;
 
 pub const MOST_SCOPES: u64 = 64;
 
+// The form of a file, which is its table's first cell. There is one so far.
+pub const OLD_FORM: u64 = 0;
+
 // For each section its names line, the items of its row and the places of its key. A byte from 128
-// on is a field: 128, eight times its kind (0 state, 1 scope, 2 mark, 3 count, 4 letter, 5 label, 6
-// end, 7 name), and the place of its value. A constant array is made anew at each read of it: so
+// on is a field: 128, eight times what it holds (0 state, 1 scope, 2 mark, 3 count, 4 letter, 5
+// label, 6 end, 7 name), and the place of its value. A constant array is made anew at each read of it: so
 // the reader and the writer lend this one to what looks at it, and the numbers of a section that
 // every row asks for are matches.
 pub const FORMAT: [u8; 152] =
@@ -41,9 +44,9 @@ pub fn item(format: &[u8], o: usize) -> u8
     byte_at(format, o, b'\n')
 }
 
-// Where section k's names line starts in the format.
-pub fn names_place(k: usize) -> usize
-    ensures answer { λ r. ⌜ r ≡ namesPlace k ⌝ }
+// Where section k's names line starts in the format, for a file of a form.
+pub fn names_place(form: u64, k: usize) -> usize
+    ensures answer { λ r. ⌜ r ≡ namesPlace form k ⌝ }
 {
     match k {
         0 => 0,
@@ -60,8 +63,8 @@ pub fn names_place(k: usize) -> usize
 }
 
 // Where the items of its row start.
-pub fn row_place(k: usize) -> usize
-    ensures answer { λ r. ⌜ r ≡ rowPlace k ⌝ }
+pub fn row_place(form: u64, k: usize) -> usize
+    ensures answer { λ r. ⌜ r ≡ rowPlace form k ⌝ }
 {
     match k {
         0 => 6,
@@ -134,9 +137,9 @@ pub fn sequence_of(k: usize) -> Sequence
     }
 }
 
-// How many places of a row its items fill: they are the first ones.
+// How many places of a row its items fill, whatever the form: they are the first ones.
 pub fn used(k: usize) -> usize
-    ensures answer { λ r. ⌜ ((d : ℕ) → everyItem (sparesPlace d) (sectionAt k .row) ≡ leb r d) ⌝ }
+    ensures answer { λ r. ⌜ ((form d : ℕ) → everyItem (sparesPlace d) (shapeAt form k .row) ≡ leb r d) ⌝ }
 {
     match k {
         0 => 1,

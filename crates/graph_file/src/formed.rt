@@ -5,21 +5,22 @@ use crate::format::used;
 use text_field::cell;
 use text_field::is_name;
 ghost use mathlib.Core.Path.{_≡_};
-ghost use Rattle.graph_file.specs.Format.{sectionAt, everyItem};
+ghost use Prim.Native.Nat.{ℕ};
+ghost use Rattle.graph_file.specs.Format.{shapeAt, everyItem};
 ghost use Rattle.graph_file.specs.Line.{fieldFormed, itemFormed, idleZero, idleZeros, formed};
-ghost use Rattle.graph_file.specs.Table.{kindOf, itemOf, formatBytes, itemsAt};
+ghost use Rattle.graph_file.specs.Table.{contentOf, itemOf, formatBytes, itemsAt};
 
 // The greatest number of five digits.
 const MOST_NUMBER: u64 = 99999;
 
-// Has the value of a field of this kind a text of its form?
-fn field_formed(kind: u8, v: u64, w: u64) -> bool
-    ensures answer { λ r. ⌜ r ≡ fieldFormed (kindOf kind) v w ⌝ }
+// Has the value of a field a text of its form, by what the field holds?
+fn field_formed(content: u8, v: u64, w: u64) -> bool
+    ensures answer { λ r. ⌜ r ≡ fieldFormed (contentOf content) v w ⌝ }
 {
-    if kind < 4 {
+    if content < 4 {
         return v <= MOST_NUMBER;
     }
-    match kind {
+    match content {
         4 => 65 <= v && v <= 90,
         5 => true,
         6 => true,
@@ -55,26 +56,26 @@ fn items_formed(format: &[u8], o: usize, row: &[u64]) -> bool
     true
 }
 
-// A place that every item of section k leaves alone holds 0.
+// A place that every item of section k leaves alone holds 0, whatever the form.
 fn idle_zero(k: usize, row: &[u64], d: usize) -> bool
-    ensures answer { λ r. ⌜ r ≡ idleZero (sectionAt k .row) (now (row .entry)) d ⌝ }
+    ensures answer { λ r. ⌜ ((form : ℕ) → r ≡ idleZero (shapeAt form k .row) (now (row .entry)) d) ⌝ }
 {
     d < used(k) || cell(row, d, 0) == 0
 }
 
 // Do all such places of the row hold 0?
 fn idle_zeros(k: usize, row: &[u64]) -> bool
-    ensures answer { λ r. ⌜ r ≡ idleZeros (sectionAt k .row) (now (row .entry)) ⌝ }
+    ensures answer { λ r. ⌜ ((form : ℕ) → r ≡ idleZeros (shapeAt form k .row) (now (row .entry))) ⌝ }
 {
     idle_zero(k, row, 0)
         && (idle_zero(k, row, 1)
             && (idle_zero(k, row, 2) && (idle_zero(k, row, 3) && idle_zero(k, row, 4))))
 }
 
-// Can the row be written as a line of section k?
-pub fn is_formed(format: &[u8], k: usize, row: &[u64]) -> bool
+// Can the row be written as a line of section k in a file of a form?
+pub fn is_formed(format: &[u8], form: u64, k: usize, row: &[u64]) -> bool
     requires format { ⌜ now format ≡ formatBytes ⌝ }
-    ensures answer { λ r. ⌜ r ≡ formed (sectionAt k .row) (now (row .entry)) ⌝ }
+    ensures answer { λ r. ⌜ r ≡ formed (shapeAt form k .row) (now (row .entry)) ⌝ }
 {
-    items_formed(format, row_place(k), row) && idle_zeros(k, row)
+    items_formed(format, row_place(form, k), row) && idle_zeros(k, row)
 }

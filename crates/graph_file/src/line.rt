@@ -17,7 +17,7 @@ ghost use Rattle.text_field.specs.Name.{nameHere};
 ghost use Rattle.graph_file.specs.Format.{byte};
 ghost use Rattle.graph_file.specs.Admission.{blank};
 ghost use Rattle.graph_file.specs.Line.{numberTaken, nameTaken, byteTaken, endTaken, readField, readItem, placeOf, readItems};
-ghost use Rattle.graph_file.specs.Table.{kindOf, itemOf, formatBytes, itemsAt, lettersAt};
+ghost use Rattle.graph_file.specs.Table.{contentOf, itemOf, formatBytes, itemsAt, lettersAt};
 ghost use Rattle.graph_file.specs.Reader.{took, lineOutcome, itemLine};
 
 // What an item at the front of a text gives: the place after it and its values, or nothing where it
@@ -92,16 +92,16 @@ fn take_end(table: &[u64], labels: u32, x: u8, text: &[u8], at: usize) -> Took
     take_byte(is_capital(x), n + 1, text, at)
 }
 
-// A field of a kind.
-fn take_field(table: &[u64], labels: u32, kind: u8, text: &[u8], at: usize) -> Took
+// A field, by what it holds.
+fn take_field(table: &[u64], labels: u32, content: u8, text: &[u8], at: usize) -> Took
     ensures answer { λ r. ⌜ took r (now (text .entry))
-        ≡ readField (lettersAt labels (drop 1 (now (table .entry)))) (kindOf kind) (drop at (now (text .entry))) ⌝ }
+        ≡ readField (lettersAt labels (drop 1 (now (table .entry)))) (contentOf content) (drop at (now (text .entry))) ⌝ }
 {
-    if kind < 4 {
+    if content < 4 {
         return take_number(text, at);
     }
     let x = byte_at(text, at, 0);
-    match kind {
+    match content {
         4 => take_byte(is_capital(x), x as u64, text, at),
         5 => take_byte(
             is_capital(x),

@@ -9,7 +9,7 @@ ghost use Prim.Native.Nat.{_%_};
 ghost use lib.ListN.{getD, drop};
 ghost use Rattle.text_field.specs.Buffer.{Buf, puts};
 ghost use Rattle.graph_file.specs.Line.{endByte, fieldText, itemText, lineText};
-ghost use Rattle.graph_file.specs.Table.{kindOf, itemOf, formatBytes, itemsAt, lettersAt};
+ghost use Rattle.graph_file.specs.Table.{contentOf, itemOf, formatBytes, itemsAt, lettersAt};
 
 // The letter of a label's number; 0 where there is no such label.
 fn letter_of(table: &[u64], labels: u32, v: u64) -> u64
@@ -38,11 +38,11 @@ fn end_byte(table: &[u64], labels: u32, v: u64) -> u8
     byte_of(letter_of(table, labels, v - 1))
 }
 
-// The text of a field of this kind.
+// The text of a field, by what it holds.
 fn put_field(
     table: &[u64],
     labels: u32,
-    kind: u8,
+    content: u8,
     v: u64,
     w: u64,
     out: &mut [u8],
@@ -50,12 +50,12 @@ fn put_field(
 ) -> usize
     ensures written { λ r. ⌜ _≡_ {A = Buf} (now (out .exit), r)
         (puts (now (out .entry), n)
-        (fieldText (lettersAt labels (drop 1 (now (table .entry)))) (kindOf kind) v w)) ⌝ }
+        (fieldText (lettersAt labels (drop 1 (now (table .entry)))) (contentOf content) v w)) ⌝ }
 {
-    if kind < 4 {
+    if content < 4 {
         return put_number(out, n, v);
     }
-    match kind {
+    match content {
         4 => put_byte(out, n, byte_of(v)),
         5 => put_byte(out, n, byte_of(letter_of(table, labels, v))),
         6 => put_byte(out, n, end_byte(table, labels, v)),

@@ -2,6 +2,7 @@
 use crate::admission::admitted;
 use crate::cells::put_row;
 use crate::format::FORMAT;
+use crate::format::OLD_FORM;
 use crate::format::TEXT_BYTES;
 use crate::format::least;
 use crate::format::most;
@@ -16,7 +17,7 @@ ghost use mathlib.Core.Path.{_≡_};
 ghost use mathlib.Core.List.{List, [], _∷_};
 ghost use Prim.Native.Nat.{ℕ, suc, _+_, _*_, _<_, _≤_};
 ghost use lib.ListN.{length, drop};
-ghost use Rattle.graph_file.specs.Format.{sectionAt, form, tableCells};
+ghost use Rattle.graph_file.specs.Format.{sectionAt, oldForm, tableCells};
 ghost use Rattle.graph_file.specs.Table.{formatBytes};
 ghost use Rattle.graph_file.specs.File.{oneRow, throughRows, throughSection, throughSections, atStart, rowFollows, reading, readStage};
 ghost use Rattle.graph_file.specs.Reader.{stageAt, partOutcome, Placed, RowTaken, RowsTaken, SectionTaken, countsAfter, RowsRoom, TextRoom};
@@ -68,10 +69,11 @@ pub fn counts_after(k: usize, c: Counts, v: u64) -> Counts
     }
 }
 
-// One row of section k at a place of the section's part of the text, written after the table's
-// first n cells.
+// One row of section k, in a file of a form, at a place of the section's part of the text, written
+// after the table's first n cells.
 fn read_row(
     format: &[u8],
+    form: u64,
     k: usize,
     limit: usize,
     part: &[u8],
@@ -84,10 +86,10 @@ fn read_row(
     requires room { ⌜ (n + 6 ≤ length (now table)) × (n ≤ tableCells) × Placed k n c
         × (limit ≡ sectionAt k .most) ⌝ }
     ensures answer { λ r. ⌜ partOutcome r (now (table .exit)) (now (part .entry))
-        ≡ oneRow reading k (stageAt (now (table .entry)) n c (drop at (now (part .entry)))) ⌝ }
+        ≡ oneRow (reading form) k (stageAt (now (table .entry)) n c (drop at (now (part .entry)))) ⌝ }
     ensures taken { λ r. ⌜ (r .refusal ≡ 0 → RowTaken k n c (r .cells) (r .counts)) ⌝ }
 {
-    let l = read_line(format, table, c.labels, row_place(k), part, at);
+    let l = read_line(format, table, c.labels, row_place(form, k), part, at);
     if !l.ok {
         return Part {
             refusal: 2,
@@ -99,7 +101,7 @@ fn read_row(
     let row = l.row;
     let next = l.next;
     put_row(table, n, k as u64, row);
-    let a = admitted(format, k, limit, table, n, c);
+    let a = admitted(format, form, k, limit, table, n, c);
     if a != 0 {
         return Part {
             refusal: a,
@@ -130,6 +132,7 @@ fn row_comes(part: &[u8], at: usize) -> bool
 // The rows of section k from a place of the section's part of the text on.
 fn read_rows(
     format: &[u8],
+    form: u64,
     k: usize,
     limit: usize,
     part: &[u8],
@@ -142,7 +145,7 @@ fn read_rows(
     requires room { ⌜ RowsRoom k n (drop at (now part)) (length (now table))
         × (n + 6 * sectionAt k .most ≤ tableCells) × Placed k n c × (c .rows ≡ 0) × (limit ≡ sectionAt k .most) ⌝ }
     ensures answer { λ r. ⌜ partOutcome r (now (table .exit)) (now (part .entry))
-        ≡ throughRows reading (suc (sectionAt k .most)) k
+        ≡ throughRows (reading form) (suc (sectionAt k .most)) k
         (stageAt (now (table .entry)) n c (drop at (now (part .entry)))) ⌝ }
     ensures taken { λ r. ⌜ (r .refusal ≡ 0 → RowsTaken k n (r .cells) (r .counts)) ⌝ }
 {
@@ -151,7 +154,7 @@ fn read_rows(
     let mut d = c;
     let mut more = row_comes(part, place);
     while more {
-        let r = read_row(format, k, limit, part, place, table, m, d);
+        let r = read_row(format, form, k, limit, part, place, table, m, d);
         if r.refusal != 0 {
             return r;
         }
@@ -180,6 +183,7 @@ fn clipped(part: &[u8], at: usize) -> usize
 // table of nine, once.
 fn read_section(
     format: &[u8],
+    form: u64,
     k: usize,
     part: &[u8],
     table: &mut [u64],
@@ -190,11 +194,11 @@ fn read_section(
     requires room { ⌜ RowsRoom k n (now part) (length (now table))
         × (n + 6 * sectionAt k .most ≤ tableCells) × Placed k n c ⌝ }
     ensures answer { λ r. ⌜ partOutcome r (now (table .exit)) (now (part .entry))
-        ≡ throughSection reading k (stageAt (now (table .entry)) n c (now (part .entry))) ⌝ }
+        ≡ throughSection (reading form) k (stageAt (now (table .entry)) n c (now (part .entry))) ⌝ }
     ensures taken { λ r. ⌜ (r .refusal ≡ 0 → SectionTaken k n (length (now (part .entry))) r) ⌝ }
 {
     let limit = most(k);
-    let l = read_line(format, table, 0, names_place(k), part, 0);
+    let l = read_line(format, table, 0, names_place(form, k), part, 0);
     if !l.ok {
         return Part {
             refusal: 2,
@@ -209,7 +213,7 @@ fn read_section(
         scopes: c.scopes,
         rows: 0,
     };
-    let r = read_rows(format, k, limit, part, l.next, table, n, begun);
+    let r = read_rows(format, form, k, limit, part, l.next, table, n, begun);
     if r.refusal != 0 {
         return r;
     }
@@ -235,10 +239,10 @@ fn read_sections(format: &[u8], text: &[u8], table: &mut [u64]) -> Part
     requires format { ⌜ now format ≡ formatBytes ⌝ }
     requires room { ⌜ TextRoom (now text) (length (now table)) ⌝ }
     ensures answer { λ r. ⌜ partOutcome r (now (table .exit)) (now (text .entry))
-        ≡ throughSections reading 9 0 (atStart (form ∷ []) (now (text .entry))) ⌝ }
+        ≡ throughSections (reading oldForm) 9 0 (atStart (oldForm ∷ []) (now (text .entry))) ⌝ }
     ensures size { λ r. ⌜ (r .refusal ≡ 0 → r .cells ≤ length (now (table .entry))) ⌝ }
 {
-    table[0] = 0;
+    table[0] = OLD_FORM;
     let mut k: usize = 0;
     let mut at: usize = 0;
     let mut n: usize = 1;
@@ -249,7 +253,7 @@ fn read_sections(format: &[u8], text: &[u8], table: &mut [u64]) -> Part
         rows: 0,
     };
     while k < 9 {
-        let r = read_section(format, k, &text[at..], table, n, c);
+        let r = read_section(format, OLD_FORM, k, &text[at..], table, n, c);
         if r.refusal != 0 {
             return r;
         }

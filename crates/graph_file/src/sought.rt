@@ -1,4 +1,5 @@
 // The name that a query seeks, handed back as the part of the lent text that holds it.
+use crate::format::OLD_FORM;
 use crate::reader::read_whole;
 use crate::rows::OWN_CELLS;
 use text_field::NameRead;
@@ -10,7 +11,7 @@ ghost use mathlib.Core.Path.{_≡_};
 ghost use mathlib.Core.List.{List, [], _∷_};
 ghost use Prim.Native.Nat.{ℕ, _+_, _-_};
 ghost use lib.ListN.{length, drop};
-ghost use Rattle.graph_file.specs.Format.{sectionAt, querySection};
+ghost use Rattle.graph_file.specs.Format.{shapeAt, querySection};
 ghost use Rattle.graph_file.specs.NameSought.{afterLines, lineCount, fromName, nameFront, placeFrom, nameSought, placeSought};
 
 // The place of a name's first byte in the text, and the place after its last.
@@ -63,11 +64,11 @@ fn after_lines(text: &[u8], lines: usize) -> usize
     i
 }
 
-// Where the name stands in the query's line at a place: behind the start and a space. The text's
-// end where the line is of another form.
-fn name_start(text: &[u8], at: usize) -> usize
+// Where the name stands in the query's line at a place, in a file of a form: behind the start and a
+// space. The text's end where the line is another one.
+fn name_start(text: &[u8], form: u64, at: usize) -> usize
     ensures answer { λ r. ⌜ r ≡ length (now (text .entry))
-        - length (fromName (sectionAt querySection .row) (drop at (now (text .entry)))) ⌝ }
+        - length (fromName (shapeAt form querySection .row) (drop at (now (text .entry)))) ⌝ }
 {
     let NumberRead::Number(_, a) = read_number(text, at) else {
         return text.len();
@@ -92,11 +93,11 @@ fn name_stop(text: &[u8], at: usize) -> usize
 }
 
 // The name in the query's line after so many lines.
-fn name_after(text: &[u8], lines: usize) -> NamePlace
+fn name_after(text: &[u8], form: u64, lines: usize) -> NamePlace
     ensures answer { λ r. ⌜ r ≡ placeFrom (now (text .entry))
-        (fromName (sectionAt querySection .row) (afterLines lines (now (text .entry)))) ⌝ }
+        (fromName (shapeAt form querySection .row) (afterLines lines (now (text .entry)))) ⌝ }
 {
-    let from = name_start(text, after_lines(text, lines));
+    let from = name_start(text, form, after_lines(text, lines));
     let to = name_stop(text, from);
     NamePlace { from, to }
 }
@@ -123,9 +124,9 @@ pub fn name_place(text: &[u8], query: usize) -> NamePlace
     let lines = line_count(text);
     // an accepted file has more lines than queries; the definition's difference is 0 here
     if lines < n {
-        return name_after(text, query);
+        return name_after(text, OLD_FORM, query);
     }
-    name_after(text, lines - n + query)
+    name_after(text, OLD_FORM, lines - n + query)
 }
 
 // The name that a query of the file seeks, as a part of the lent text; an empty part where a

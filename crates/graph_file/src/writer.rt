@@ -2,6 +2,7 @@
 use crate::admission::admitted;
 use crate::cells::copy_bytes;
 use crate::format::FORMAT;
+use crate::format::OLD_FORM;
 use crate::format::TEXT_BYTES;
 use crate::format::least;
 use crate::format::most;
@@ -23,7 +24,7 @@ ghost use lib.ListN.{length, drop};
 ghost use Rattle.graph_file.specs.Format.{sectionAt, tableCells, textBytes};
 ghost use Rattle.graph_file.specs.Admission.{nothing};
 ghost use Rattle.graph_file.specs.Table.{formatBytes, sofarAt};
-ghost use Rattle.graph_file.specs.File.{oneRow, throughRows, throughSection, throughSections, whole, cellsFollow, hasForm, writing, writeText};
+ghost use Rattle.graph_file.specs.File.{oneRow, throughRows, throughSection, throughSections, whole, cellsFollow, hasForm, formIn, writing, writeText};
 ghost use Rattle.text_field.specs.Answer.{answer, leaves, answerOf};
 ghost use Rattle.graph_file.specs.Reader.{Placed, RowTaken, RowsTaken};
 ghost use Rattle.graph_file.specs.Writer.{stageFrom, pour, partWritten, countsBegun};
@@ -38,9 +39,11 @@ fn row_comes(k: usize, table: &[u64], p: usize) -> bool
     cell(table, p, 0) == k as u64
 }
 
-// The row at place p as a row of section k, its line put into the text at place n.
+// The row at place p as a row of section k in a file of a form, its line put into the text at place
+// n.
 fn write_row(
     format: &[u8],
+    form: u64,
     k: usize,
     limit: usize,
     table: &[u64],
@@ -53,7 +56,7 @@ fn write_row(
     requires room { ⌜ (p ≤ tableCells) × Placed k p c × (limit ≡ sectionAt k .most) ⌝ }
     ensures answer { λ r. ⌜ partWritten r (now (table .entry)) (now (out .exit))
         ≡ pour (now (out .entry), n)
-        (oneRow writing k (stageFrom (sofarAt (now (table .entry)) p c) (drop p (now (table .entry))))) ⌝ }
+        (oneRow (writing form) k (stageFrom (sofarAt (now (table .entry)) p c) (drop p (now (table .entry))))) ⌝ }
     ensures taken { λ r. ⌜ (r .refusal ≡ 0 → RowTaken k p c (r .cells) (r .counts)) ⌝ }
 {
     if table.len() < p + 6 {
@@ -65,7 +68,7 @@ fn write_row(
         };
     }
     let row = row_at(table, p);
-    if !is_formed(format, k, &row) {
+    if !is_formed(format, form, k, &row) {
         return Part {
             refusal: 2,
             next: n,
@@ -73,7 +76,7 @@ fn write_row(
             counts: c,
         };
     }
-    let a = admitted(format, k, limit, table, p, c);
+    let a = admitted(format, form, k, limit, table, p, c);
     if a != 0 {
         return Part {
             refusal: a,
@@ -82,7 +85,7 @@ fn write_row(
             counts: c,
         };
     }
-    let next = put_line(format, table, c.labels, row_place(k), &row, out, n);
+    let next = put_line(format, table, c.labels, row_place(form, k), &row, out, n);
     let after = counts_after(k, c, row[0]);
     Part {
         refusal: 0,
@@ -95,6 +98,7 @@ fn write_row(
 // The rows of section k from place p on.
 fn write_rows(
     format: &[u8],
+    form: u64,
     k: usize,
     limit: usize,
     table: &[u64],
@@ -108,7 +112,7 @@ fn write_rows(
         × (limit ≡ sectionAt k .most) ⌝ }
     ensures answer { λ r. ⌜ partWritten r (now (table .entry)) (now (out .exit))
         ≡ pour (now (out .entry), n)
-        (throughRows writing (suc (sectionAt k .most)) k
+        (throughRows (writing form) (suc (sectionAt k .most)) k
         (stageFrom (sofarAt (now (table .entry)) p c) (drop p (now (table .entry))))) ⌝ }
     ensures taken { λ r. ⌜ (r .refusal ≡ 0 → RowsTaken k p (r .cells) (r .counts)) ⌝ }
 {
@@ -117,7 +121,7 @@ fn write_rows(
     let mut d = c;
     let mut more = row_comes(k, table, m);
     while more {
-        let r = write_row(format, k, limit, table, m, d, out, next);
+        let r = write_row(format, form, k, limit, table, m, d, out, next);
         if r.refusal != 0 {
             return r;
         }
@@ -149,6 +153,7 @@ fn counts_begun(c: Counts) -> Counts
 // Section k from place p on: its names line, its rows, and that they are enough.
 fn write_section(
     format: &[u8],
+    form: u64,
     k: usize,
     table: &[u64],
     p: usize,
@@ -160,14 +165,14 @@ fn write_section(
     requires room { ⌜ (p + 6 * sectionAt k .most ≤ tableCells) × Placed k p c ⌝ }
     ensures answer { λ r. ⌜ partWritten r (now (table .entry)) (now (out .exit))
         ≡ pour (now (out .entry), n)
-        (throughSection writing k (stageFrom (sofarAt (now (table .entry)) p c) (drop p (now (table .entry))))) ⌝ }
+        (throughSection (writing form) k (stageFrom (sofarAt (now (table .entry)) p c) (drop p (now (table .entry))))) ⌝ }
     ensures taken { λ r. ⌜ (r .refusal ≡ 0 → RowsTaken k p (r .cells) (r .counts)) ⌝ }
 {
     let limit = most(k);
     let none = [0u64; 5];
-    let at = put_line(format, table, 0, names_place(k), &none, out, n);
+    let at = put_line(format, table, 0, names_place(form, k), &none, out, n);
     let d = counts_begun(c);
-    let r = write_rows(format, k, limit, table, p, d, out, at);
+    let r = write_rows(format, form, k, limit, table, p, d, out, at);
     if r.refusal != 0 {
         return r;
     }
@@ -184,11 +189,11 @@ fn write_section(
 }
 
 // The nine sections in turn, after which nothing may be left.
-fn write_sections(format: &[u8], table: &[u64], out: &mut [u8]) -> Part
+fn write_sections(format: &[u8], form: u64, table: &[u64], out: &mut [u8]) -> Part
     requires format { ⌜ now format ≡ formatBytes ⌝ }
     ensures answer { λ r. ⌜ partWritten r (now (table .entry)) (now (out .exit))
         ≡ pour (now (out .entry), 0)
-        (throughSections writing 9 0 (stageFrom nothing (drop 1 (now (table .entry))))) ⌝ }
+        (throughSections (writing form) 9 0 (stageFrom nothing (drop 1 (now (table .entry))))) ⌝ }
 {
     let mut k: usize = 0;
     let mut n: usize = 0;
@@ -200,7 +205,7 @@ fn write_sections(format: &[u8], table: &[u64], out: &mut [u8]) -> Part
         rows: 0,
     };
     while k < 9 {
-        let r = write_section(format, k, table, p, c, out, n);
+        let r = write_section(format, form, k, table, p, c, out, n);
         if r.refusal != 0 {
             return r;
         }
@@ -225,13 +230,21 @@ fn write_sections(format: &[u8], table: &[u64], out: &mut [u8]) -> Part
     }
 }
 
-// The sections, and then the order of the pairs.
+// The form of a graph table.
+fn form_in(table: &[u64]) -> u64
+    ensures answer { λ r. ⌜ r ≡ formIn (now (table .entry)) ⌝ }
+{
+    cell(table, 0, OLD_FORM)
+}
+
+// The sections in the table's form, and then the order of the pairs.
 fn write_graph(table: &[u64], out: &mut [u8]) -> Part
     ensures answer { λ r. ⌜ partWritten r (now (table .entry)) (now (out .exit))
-        ≡ pour (now (out .entry), 0) (whole writing [] (drop 1 (now (table .entry)))) ⌝ }
+        ≡ pour (now (out .entry), 0) (whole (writing (formIn (now (table .entry)))) [] (drop 1 (now (table .entry)))) ⌝ }
 {
+    let form = form_in(table);
     let format = FORMAT;
-    let r = write_sections(&format, table, out);
+    let r = write_sections(&format, form, table, out);
     if r.refusal != 0 {
         return r;
     }
@@ -247,14 +260,14 @@ fn write_graph(table: &[u64], out: &mut [u8]) -> Part
     r
 }
 
-// Is the table's first cell there, and this form's?
+// Is the table's first cell there, and a form's number?
 fn has_form(table: &[u64]) -> bool
     ensures answer { λ r. ⌜ r ≡ hasForm (now (table .entry)) ⌝ }
 {
     if table.len() == 0 {
         return false;
     }
-    cell(table, 0, 1) == 0
+    cell(table, 0, 1) == OLD_FORM
 }
 
 // The text of a graph table made in working memory and then put into the lent buffer, where it has room.

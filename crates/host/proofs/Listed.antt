@@ -16,12 +16,12 @@ use Rattle.text_field.specs.declared.NameRead.the-variants.{Name, NoName}
 use Rattle.text_field.specs.Bytes.{isCapital}
 use Rattle.text_field.specs.Number.{numberHere, numberPlaced, numberMeaning}
 use Rattle.text_field.specs.Name.{nameHere, nameMeaning}
-use Rattle.graph_file.specs.Format.{Item, byte, field, state, scope, mark, count, letter, label, end, name, Section, sectionAt, form}
+use Rattle.graph_file.specs.Format.{Item, byte, field, state, scope, mark, count, letter, label, end, name, sectionAt, shapeAt, oldForm}
 use Rattle.text_field.specs.Outcome.{Outcome, refused, done, andThen, refuseIf}
 use Rattle.graph_file.specs.Admission.{Row, Sofar, blank, rowOf, unless, inRange, follows, admission}
 use Rattle.graph_file.specs.Line.{Reading, numberTaken, nameTaken, byteTaken, place, endTaken, readField, startsWith, readItem, placeOf, readItems, lineText, formed}
 use Rattle.graph_file.specs.Order.{orderFault}
-use Rattle.graph_file.specs.File.{Piece, Way, Stage, ifAdmitted, afterRow, oneRow, throughRows, afterNames, enough, throughSection, isEmpty, throughSections, ordered, atStart, whole, readNames, readRow, reading, readStage, madeOf, readCells, writeNames, writeRow, writing, hasForm, writeText}
+use Rattle.graph_file.specs.File.{Piece, Way, Stage, ifAdmitted, afterRow, oneRow, throughRows, afterNames, enough, throughSection, isEmpty, throughSections, ordered, atStart, whole, readNames, readRow, reading, readStage, madeOf, readCells, writeNames, writeRow, writing, hasForm, formIn, writeText}
 use Rattle.text_field.specs.Answer.{answer}
 use Rattle.path_row.specs.Form.{PathRow, mostMark, mostScope, numberUpTo, Front, startBy, spaceBy, markBy, headHere, rowBy, rowHere}
 use Rattle.path_row.specs.Compare.{Comparison, compareRows, compareAnswer}
@@ -96,9 +96,9 @@ unfolding unless
 unless-small true n m h k = k
 unless-small false n m h k = h
 
-admission-small : (s : Section) (st : Sofar) (row : Row) → admission s st row ≤ lastRefusal
+admission-small : (form k : ℕ) (st : Sofar) (row : Row) → admission form k st row ≤ lastRefusal
 unfolding admission
-admission-small s st row =
+admission-small form k st row =
     unless-small _ 5 _ (omega arith) (unless-small _ 3 _ (omega arith) (unless-small _ 4 0 (omega arith) (omega arith)))
 
 admitted-listed : (n : ℕ) (g : Stage) → n ≤ lastRefusal → Listed (ifAdmitted n (done g))
@@ -112,7 +112,7 @@ module _ (w : Way) (names : (k : ℕ) (rest : List ℕ) → Listed (w .names k r
   unfolding oneRow
   row-listed k g =
       then-listed (w .row k (g .sofar .letters) (g .rest)) _ (row k (g .sofar .letters) (g .rest))
-      (λ p. admitted-listed (admission (sectionAt k) (g .sofar) (p .row)) (afterRow k g p) (admission-small (sectionAt k) (g .sofar) (p .row)))
+      (λ p. admitted-listed (admission (w .form) k (g .sofar) (p .row)) (afterRow k g p) (admission-small (w .form) k (g .sofar) (p .row)))
 
   rows-listed : (turns k : ℕ) (g : Stage) → Listed (throughRows w turns k g)
   unfolding throughRows
@@ -145,40 +145,40 @@ made-listed : (o : Outcome Stage) → Listed o → Listed (madeOf o)
 unfolding madeOf
 made-listed o h = then-listed o _ h (λ g. carried (g .made))
 
-read-names : (k : ℕ) (rest : List ℕ) → Listed (reading .names k rest)
+read-names : (form k : ℕ) (rest : List ℕ) → Listed (reading form .names k rest)
 unfolding reading readNames
-read-names k rest = then-listed (readItems [] (map byte (sectionAt k .names)) blank rest) _ (items-listed [] (map byte (sectionAt k .names)) blank rest) (λ r. carried _)
+read-names form k rest = then-listed (readItems [] (map byte (shapeAt form k .names)) blank rest) _ (items-listed [] (map byte (shapeAt form k .names)) blank rest) (λ r. carried _)
 
-read-row : (k : ℕ) (letters rest : List ℕ) → Listed (reading .row k letters rest)
+read-row : (form k : ℕ) (letters rest : List ℕ) → Listed (reading form .row k letters rest)
 unfolding reading readRow
-read-row k letters rest = then-listed (readItems letters (sectionAt k .row) blank rest) _ (items-listed letters (sectionAt k .row) blank rest) (λ r. carried _)
+read-row form k letters rest = then-listed (readItems letters (shapeAt form k .row) blank rest) _ (items-listed letters (shapeAt form k .row) blank rest) (λ r. carried _)
 
 stage-listed : (text : List ℕ) → Listed (readStage text)
 unfolding readStage
 stage-listed text = by-length (ltb 32768 (length text))
   where
-    by-length : (b : Bool) → Listed {A = Stage} (elim b as (λ _. Outcome Stage) [ true ↦ refused 1 | false ↦ whole reading (form ∷ []) text ])
+    by-length : (b : Bool) → Listed {A = Stage} (elim b as (λ _. Outcome Stage) [ true ↦ refused 1 | false ↦ whole (reading oldForm) (oldForm ∷ []) text ])
     by-length true = listed 1 (omega arith) (omega arith)
-    by-length false = whole-listed reading read-names read-row (form ∷ []) text
+    by-length false = whole-listed (reading oldForm) (read-names oldForm) (read-row oldForm) (oldForm ∷ []) text
 
 read-listed : (text : List ℕ) → Listed (readCells text)
 unfolding readCells
 read-listed text = made-listed (readStage text) (stage-listed text)
 
-write-names : (k : ℕ) (rest : List ℕ) → Listed (writing .names k rest)
+write-names : (form k : ℕ) (rest : List ℕ) → Listed (writing form .names k rest)
 unfolding writing writeNames
-write-names k rest = carried _
+write-names form k rest = carried _
 
-write-row : (k : ℕ) (letters rest : List ℕ) → Listed (writing .row k letters rest)
+write-row : (form k : ℕ) (letters rest : List ℕ) → Listed (writing form .row k letters rest)
 unfolding writing writeRow
-write-row k letters rest = if-listed _ 2 _ (omega arith) (omega arith) (if-listed _ 2 _ (omega arith) (omega arith) (carried _))
+write-row form k letters rest = if-listed _ 2 _ (omega arith) (omega arith) (if-listed _ 2 _ (omega arith) (omega arith) (carried _))
 
 write-listed : (cells : List ℕ) → Listed (writeText cells)
 unfolding writeText
 write-listed cells = by-form (hasForm cells)
   where
-    by-form : (b : Bool) → Listed {A = (List ℕ)} (elim b as (λ _. Outcome (List ℕ)) [ true ↦ madeOf (whole writing [] (drop 1 cells)) | false ↦ refused 2 ])
-    by-form true = made-listed _ (whole-listed writing write-names write-row [] (drop 1 cells))
+    by-form : (b : Bool) → Listed {A = (List ℕ)} (elim b as (λ _. Outcome (List ℕ)) [ true ↦ madeOf (whole (writing (formIn cells)) [] (drop 1 cells)) | false ↦ refused 2 ])
+    by-form true = made-listed _ (whole-listed (writing (formIn cells)) (write-names (formIn cells)) (write-row (formIn cells)) [] (drop 1 cells))
     by-form false = two
 
 -- an output and its room

@@ -8,7 +8,7 @@ use native.Mathlib.Omega.{arith}
 use borrow.Author.Tests.{ne-eqb, eq-eqb}
 use lib.ListN.{length, drop}
 use lib.Seq.{drop-drop, drop-at}
-use Rattle.graph_file.specs.Format.{form, labelSection, pairSection, sectionAt, sections, labels, pairs}
+use Rattle.graph_file.specs.Format.{labelSection, pairSection, sectionAt, sections, labels, pairs}
 use Rattle.graph_file.specs.Admission.{Row, rowOf, Sofar, nothing, begun, taken}
 use Rattle.graph_file.specs.Line.{startsWith}
 use Rattle.graph_file.specs.Table.{rowsAt}
@@ -31,56 +31,56 @@ later-none k j ([] ∷ rest) h = later-none k (suc j) rest (omega arith)
 later-none k j ((row ∷ rows) ∷ rest) h = ne-eqb j k (λ e. omega arith)
 
 -- the look through a section's rows takes all of them, and ends behind them
-rows-scanned : (n k : ℕ) (st : Sofar) (rows : List Row) (more : List ℕ) → AdmittedRows k st rows → length rows ≤ n → startsWith k more ≡ false
+rows-scanned : (form n k : ℕ) (st : Sofar) (rows : List Row) (more : List ℕ) → AdmittedRows form k st rows → length rows ≤ n → startsWith k more ≡ false
     → rowsFrom n k (cellsOf k rows ++ more) ≡ rowsAt (length rows) (cellsOf k rows ++ more)
 unfolding cellsOf rowsAt startsWith
-rows-scanned n k st [] more h l e = rows-off n k more e
-rows-scanned zero k st (row ∷ rows) more h l e = absurd (omega arith)
-rows-scanned (suc n) k st (row ∷ rows) more h l e =
+rows-scanned form n k st [] more h l e = rows-off n k more e
+rows-scanned form zero k st (row ∷ rows) more h l e = absurd (omega arith)
+rows-scanned form (suc n) k st (row ∷ rows) more h l e =
     rows-on n k (k ∷ ((row ++ cellsOf k rows) ++ more)) (eq-eqb k k refl)
     ∙ ap (λ (l : List Row). rowOf (k ∷ ((row ++ cellsOf k rows) ++ more)) ∷ l)
-    (rw (append-assoc row (cellsOf k rows) more, drop-at row (cellsOf k rows ++ more) 5 (h .1)) (rows-scanned n k (taken k st row) rows more (h .2) (omega arith) e))
+    (rw (append-assoc row (cellsOf k rows) more, drop-at row (cellsOf k rows ++ more) 5 (h .1)) (rows-scanned form n k (taken k st row) rows more (h .2) (omega arith) e))
 
 module _ (cells : List ℕ) (was : WasRead cells) where
   abbrev table : AcceptedTable cells
   table = read-accepted (was .0) cells (was .1)
 
-  section-scanned : (n k : ℕ) (st : Sofar) (rows : List Row) (rest : List (List Row)) → k < 9 → rowsIn k cells ≡ rows → sectionAt k .most ≡ n → AdmittedRows k st rows
+  section-scanned : (form n k : ℕ) (st : Sofar) (rows : List Row) (rest : List (List Row)) → k < 9 → rowsIn k cells ≡ rows → sectionAt k .most ≡ n → AdmittedRows form k st rows
       → drop (sectionPlace k cells) cells ≡ cellsOf k rows ++ tableCells (suc k) rest → rowsFrom n k (drop (sectionPlace k cells) cells) ≡ rowsIn k cells
-  section-scanned n k st rows rest h same most admitted split =
+  section-scanned form n k st rows rest h same most admitted split =
       let few : length (rowsIn k cells) ≤ sectionAt k .most = table .limits k h
       in let long : length (rowsIn k cells) ≡ length rows = ap length same
       in ap (rowsFrom n k) split
-      ∙ rows-scanned n k st rows (tableCells (suc k) rest) admitted (omega arith) (later-none k (suc k) rest (omega arith))
+      ∙ rows-scanned form n k st rows (tableCells (suc k) rest) admitted (omega arith) (later-none k (suc k) rest (omega arith))
       ∙ sym (ap (rowsAt (length rows)) split)
       ∙ ap (λ (l : List Row). rowsAt (length l) (drop (sectionPlace k cells) cells)) (sym same)
       ∙ table .places k h
 
   -- the first two sections
-  both-scanned : (sections : List (List Row)) → length sections ≡ 9 → cells ≡ form ∷ tableCells 0 sections → AdmittedSections 0 nothing sections
+  both-scanned : (form : ℕ) (sections : List (List Row)) → length sections ≡ 9 → cells ≡ form ∷ tableCells 0 sections → AdmittedSections form 0 nothing sections
       → ((k : ℕ) → gathered k 0 sections ≡ rowsIn k cells) → (scannedLabels cells ≡ rowsIn labelSection cells) × (scannedPairs cells ≡ rowsIn pairSection cells)
   unfolding scannedLabels scannedPairs tableCells gathered joinedIf sectionPlace sectionAt sections labels pairs
-  both-scanned [] c e h g = absurd (omega arith)
-  both-scanned (a ∷ []) c e h g = absurd (omega arith)
-  both-scanned (a ∷ b ∷ rest) c e h g =
+  both-scanned form [] c e h g = absurd (omega arith)
+  both-scanned form (a ∷ []) c e h g = absurd (omega arith)
+  both-scanned form (a ∷ b ∷ rest) c e h g =
       let labelled : rowsIn 0 cells ≡ a = sym (g 0) ∙ rw (gathered-later 0 1 (b ∷ rest) (omega arith)) (append-nil a)
       in let paired : rowsIn 1 cells ≡ b = sym (g 1) ∙ rw (gathered-later 1 2 rest (omega arith)) (append-nil b)
       in let first : drop 1 cells ≡ cellsOf 0 a ++ tableCells 1 (b ∷ rest) = ap (λ (l : List ℕ). drop 1 l) e
       in let second : drop (1 + 6 * length (rowsIn 0 cells)) cells ≡ cellsOf 1 b ++ tableCells 2 rest =
       sym (drop-drop (6 * length (rowsIn 0 cells)) 1 cells)
       ∙ ap (drop (6 * length (rowsIn 0 cells))) first
-      ∙ drop-at (cellsOf 0 a) (tableCells 1 (b ∷ rest)) (6 * length (rowsIn 0 cells)) (cells-length 0 (begun nothing) a (h .0) ∙ ap (λ (l : List Row). 6 * length l) (sym labelled))
-      in let found : rowsFrom 8 0 (drop 1 cells) ≡ rowsIn 0 cells = section-scanned 8 0 (begun nothing) a (b ∷ rest) (omega arith) labelled refl (h .0) first
+      ∙ drop-at (cellsOf 0 a) (tableCells 1 (b ∷ rest)) (6 * length (rowsIn 0 cells)) (cells-length form 0 (begun nothing) a (h .0) ∙ ap (λ (l : List Row). 6 * length l) (sym labelled))
+      in let found : rowsFrom 8 0 (drop 1 cells) ≡ rowsIn 0 cells = section-scanned form 8 0 (begun nothing) a (b ∷ rest) (omega arith) labelled refl (h .0) first
       in (
         found,
         ap (λ (l : List Row). rowsFrom 36 1 (drop (1 + 6 * length l) cells)) found
-            ∙ section-scanned 36 1 (begun (takenAll 0 (begun nothing) a)) b rest (omega arith) paired refl (h .2 .0) second,
+            ∙ section-scanned form 36 1 (begun (takenAll 0 (begun nothing) a)) b rest (omega arith) paired refl (h .2 .0) second,
       )
 
   scanned : (scannedLabels cells ≡ rowsIn labelSection cells) × (scannedPairs cells ≡ rowsIn pairSection cells)
   scanned =
       let t : AdmittedTable cells = read-admitted (was .0) cells (was .1)
-      in both-scanned (t .sections) (t .count) (t .cells-are) (t .admitted) (rows-are cells t)
+      in both-scanned (t .form) (t .sections) (t .count) (t .cells-are) (t .admitted) (rows-are cells t)
 
   pub letters-scanned : scannedLetters cells ≡ lettersOf cells
   unfolding scannedLetters lettersOf

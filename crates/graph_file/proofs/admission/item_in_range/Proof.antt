@@ -5,7 +5,7 @@ use Rattle.graph_file.proofs.admission.item_in_range.Statement.{stateme
 use Rattle.graph_file.proofs.admission.item_in_range.Tie as tie
 use Rattle.graph_file.proofs.admission.item_in_range.Reads as reads
 use Rattle.graph_file.proofs.admission.item_in_range.Lts as lts
-use Rattle.graph_file.proofs.admission.kind_in_range.Reads as kind-in-range-reads
+use Rattle.graph_file.proofs.admission.content_in_range.Reads as content-in-range-reads
 use Rattle.graph_file.proofs.rows.value_at.Reads as value-at-reads
 
 returns : tie.Need-returns
@@ -18,8 +18,8 @@ cast-c c = search needs
 value-at-requires : tie.Need-value-at-requires
 value-at-requires c κs = search needs
 
-kind-in-range-requires : tie.Need-kind-in-range-requires
-kind-in-range-requires c κs = search needs
+content-in-range-requires : tie.Need-content-in-range-requires
+content-in-range-requires c κs = search needs
 
 returns-2 : tie.Need-returns-2
 unfolding itemInRange
@@ -27,4 +27,4 @@ returns-2 c = rw (item-field (c .before .before .before .before .args .x) (c .be
 
 pub item-in-range-spec : {M : Type 1} → statement M
 item-in-range-spec =
-    tie.close (tie.spec returns cast-c value-at-requires kind-in-range-requires returns-2)
+    tie.close (tie.spec returns cast-c value-at-requires content-in-range-requires returns-2)

@@ -1,6 +1,6 @@
-use Rattle.graph_file.proofs.FormatLaws.{kind-name}
+use Rattle.graph_file.proofs.FormatLaws.{content-name}
 use Rattle.text_field.specs.Bytes.{within, isCapital}
-use Rattle.graph_file.specs.Table.{kindOf}
+use Rattle.graph_file.specs.Table.{contentOf}
 use Rattle.graph_file.specs.Line.{fieldFormed}
 use borrow.Author.Tests.{le-leb, lt-leb}
 use native.Mathlib.Omega.{arith}
@@ -20,24 +20,24 @@ is-name-requires : tie.Need-is-name-requires
 is-name-requires c κs = search needs
 
 returns-2 : tie.Need-returns-2
-unfolding fieldFormed kindOf within isCapital
+unfolding fieldFormed contentOf within isCapital
 returns-2 c = rw (c .before .match .keys1, le-leb _ _ (c .if2 .taken))
 
 returns-3 : tie.Need-returns-3
-unfolding fieldFormed kindOf within isCapital
+unfolding fieldFormed contentOf within isCapital
 returns-3 c = rw (c .before .match .keys1, lt-leb _ _ (c .if2 .left))
 
 returns-4 : tie.Need-returns-4
-unfolding fieldFormed kindOf
+unfolding fieldFormed contentOf
 returns-4 c = rw (c .match .keys2)
 
 returns-5 : tie.Need-returns-5
-unfolding fieldFormed kindOf
+unfolding fieldFormed contentOf
 returns-5 c = rw (c .match .keys3)
 
 returns-6 : tie.Need-returns-6
-unfolding fieldFormed kindOf
-returns-6 c = let r = c .before .match .rest in c .is-name .ensures ∙ sym (rw (kind-name (c .before .before .before .args .kind) (omega arith) (omega arith) (omega arith) (omega arith) (r .0 .0 .1) (r .0 .1) (r .1)))
+unfolding fieldFormed contentOf
+returns-6 c = let r = c .before .match .rest in c .is-name .ensures ∙ sym (rw (content-name (c .before .before .before .args .content) (omega arith) (omega arith) (omega arith) (omega arith) (r .0 .0 .1) (r .0 .1) (r .1)))
 
 pub field-formed-spec : {M : Type 1} → statement M
 field-formed-spec =

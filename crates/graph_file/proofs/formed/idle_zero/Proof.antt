@@ -14,10 +14,10 @@ cell-requires : tie.Need-cell-requires
 cell-requires c κs = search needs
 
 returns : tie.Need-returns
-returns c = idle-used _ (c .before .before .before .args .row .now) (c .before .before .before .args .d) (c .before .used .result) (c .before .used .ensures) (c .if1 .taken)
+returns c = λ form. idle-used _ (c .before .before .before .args .row .now) (c .before .before .before .args .d) (c .before .used .result) (c .before .used .ensures form) (c .if1 .taken)
 
 returns-2 : tie.Need-returns-2
-returns-2 c = idle-past _ (c .before .before .before .before .args .row .now) (c .before .before .before .before .args .d) (c .before .before .used .result) (c .before .before .used .ensures) (c .before .if1 .left) _ (c .cell .ensures)
+returns-2 c = λ form. idle-past _ (c .before .before .before .before .args .row .now) (c .before .before .before .before .args .d) (c .before .before .used .result) (c .before .before .used .ensures form) (c .before .if1 .left) _ (c .cell .ensures)
 
 pub idle-zero-spec : {M : Type 1} → statement M
 idle-zero-spec = tie.close (tie.spec used-requires cell-requires returns returns-2)

@@ -24,11 +24,11 @@ idle-zeros-requires c κs = search needs
 
 returns : tie.Need-returns
 unfolding formed
-returns c = let a = c .before .before .before .before .before .before .args in and-second _ _ _ _ (c .before .before .items-formed .ensures ∙ ap (everyItem (itemFormed (a .row .now))) (ap itemsAt (c .before .before .before .row-place .ensures) ∙ row-items (a .k))) (c .before .if1 .taken) (c .idle-zeros .ensures)
+returns c = let a = c .before .before .before .before .before .before .args in and-second _ _ _ _ (c .before .before .items-formed .ensures ∙ ap (everyItem (itemFormed (a .row .now))) (ap itemsAt (c .before .before .before .row-place .ensures) ∙ row-items (a .form) (a .k))) (c .before .if1 .taken) (c .idle-zeros .ensures (c .before .before .before .before .before .before .args .form))
 
 returns-2 : tie.Need-returns-2
 unfolding formed
-returns-2 c = let a = c .before .before .before .before .before .args in and-first _ _ _ (c .before .items-formed .result) (c .before .items-formed .ensures ∙ ap (everyItem (itemFormed (a .row .now))) (ap itemsAt (c .before .before .row-place .ensures) ∙ row-items (a .k))) (c .if1 .left)
+returns-2 c = let a = c .before .before .before .before .before .args in and-first _ _ _ (c .before .items-formed .result) (c .before .items-formed .ensures ∙ ap (everyItem (itemFormed (a .row .now))) (ap itemsAt (c .before .before .row-place .ensures) ∙ row-items (a .form) (a .k))) (c .if1 .left)
 
 pub is-formed-spec : {M : Type 1} → statement M
 is-formed-spec =

@@ -1,9 +1,9 @@
 use mathlib.Core.Path.{sym, _∙_}
 use Rattle.graph_file.proofs.LineLaws.{field-number, first-at}
-use Rattle.graph_file.proofs.FormatLaws.{kind-name}
+use Rattle.graph_file.proofs.FormatLaws.{content-name}
 use native.Mathlib.Omega.{arith}
 use Rattle.graph_file.specs.Line.{readField}
-use Rattle.graph_file.specs.Table.{kindOf}
+use Rattle.graph_file.specs.Table.{contentOf}
 use borrow.Author.Needs.{needs}
 use Rattle.graph_file.proofs.line.take_field.Statement.{statement}
 use Rattle.graph_file.proofs.line.take_field.Tie as tie
@@ -21,7 +21,7 @@ take-number-requires : tie.Need-take-number-requires
 take-number-requires c κs = search needs
 
 returns : tie.Need-returns
-returns c = c .take-number .ensures ∙ sym (field-number _ _ (c .before .before .before .before .args .kind) (c .before .if1 .taken))
+returns c = c .take-number .ensures ∙ sym (field-number _ _ (c .before .before .before .before .args .content) (c .before .if1 .taken))
 
 byte-at-requires : tie.Need-byte-at-requires
 byte-at-requires c κs = search needs
@@ -57,20 +57,20 @@ take-name-requires : tie.Need-take-name-requires
 take-name-requires c κs = search needs
 
 returns-2 : tie.Need-returns-2
-unfolding readField kindOf
+unfolding readField contentOf
 returns-2 c = let a = c .before .before .before .before .before .before .before .args in c .take-byte .ensures ∙ sym (rw (c .before .before .match .keys1, first-at (a .text .now) (a .at), ← c .before .before .before .byte-at .ensures, ← c .before .is-capital .ensures))
 
 returns-3 : tie.Need-returns-3
-unfolding readField kindOf
+unfolding readField contentOf
 returns-3 c = let a = c .before .before .before .before .before .before .before .before .args in c .take-byte2 .ensures ∙ sym (rw (c .before .before .before .match .keys2, first-at (a .text .now) (a .at), ← c .before .before .before .before .byte-at .ensures, ← c .before .before .is-capital2 .ensures, ← c .before .label-place .ensures))
 
 returns-4 : tie.Need-returns-4
-unfolding readField kindOf
+unfolding readField contentOf
 returns-4 c = let a = c .before .before .before .before .before .before .args in c .take-end .ensures ∙ sym (rw (c .before .match .keys3, first-at (a .text .now) (a .at), ← c .before .before .byte-at .ensures))
 
 returns-5 : tie.Need-returns-5
 unfolding readField
-returns-5 c = let a = c .before .before .before .before .before .before .args in let r = c .before .match .rest in c .take-name .ensures ∙ sym (rw (kind-name (a .kind) (omega arith) (omega arith) (omega arith) (omega arith) (r .0 .0 .1) (r .0 .1) (r .1)))
+returns-5 c = let a = c .before .before .before .before .before .before .args in let r = c .before .match .rest in c .take-name .ensures ∙ sym (rw (content-name (a .content) (omega arith) (omega arith) (omega arith) (omega arith) (r .0 .0 .1) (r .0 .1) (r .1)))
 
 pub take-field-spec : {M : Type 1} → statement M
 take-field-spec =

@@ -2,7 +2,7 @@ use Prim.Native.Nat.{_%_}
 use Rattle.graph_file.specs.Table.{lettersAt}
 use lib.ListN.{drop}
 use Rattle.graph_file.proofs.WriteLaws.{put-text, text-letter, text-label, text-end, text-name}
-use Rattle.graph_file.proofs.FormatLaws.{kind-name}
+use Rattle.graph_file.proofs.FormatLaws.{content-name}
 use Rattle.text_field.specs.Buffer.{puts}
 use native.Mathlib.Omega.{arith}
 use mathlib.Core.Path.{_∙_, ap}
@@ -26,7 +26,7 @@ same-length : tie.Need-same-length
 same-length c = search needs
 
 returns : tie.Need-returns
-returns c = let a = c .before .before .before .before .before .before .before .args in c .before .before .put-number .ensures ∙ ap (puts _) (text-number _ _ (lettersAt (a .labels) (drop 1 (a .table .now))) (a .kind) (c .before .before .before .before .if1 .taken))
+returns c = let a = c .before .before .before .before .before .before .before .args in c .before .before .put-number .ensures ∙ ap (puts _) (text-number _ _ (lettersAt (a .labels) (drop 1 (a .table .now))) (a .content) (c .before .before .before .before .if1 .taken))
 
 byte-of-requires : tie.Need-byte-of-requires
 byte-of-requires c κs = search needs
@@ -56,25 +56,25 @@ same-length-2 : tie.Need-same-length-2
 same-length-2 c = search needs
 
 returns-2 : tie.Need-returns-2
-returns-2 c = let a = c .before .before .before .before .before .before .before .before .before .args in put-text _ _ _ _ _ (c .before .before .put-byte .ensures) (c .before .before .before .byte-of .ensures) (text-letter (lettersAt (a .labels) (drop 1 (a .table .now))) (a .kind) (a .v) (a .w) (c .before .before .before .before .before .match .keys1))
+returns-2 c = let a = c .before .before .before .before .before .before .before .before .before .args in put-text _ _ _ _ _ (c .before .before .put-byte .ensures) (c .before .before .before .byte-of .ensures) (text-letter (lettersAt (a .labels) (drop 1 (a .table .now))) (a .content) (a .v) (a .w) (c .before .before .before .before .before .match .keys1))
 
 same-length-3 : tie.Need-same-length-3
 same-length-3 c = search needs
 
 returns-3 : tie.Need-returns-3
-returns-3 c = let a = c .before .before .before .before .before .before .before .before .before .before .args in put-text _ _ _ _ _ (c .before .before .put-byte2 .ensures) (c .before .before .before .byte-of2 .ensures ∙ ap (λ x. x % 256) (c .before .before .before .before .letter-of .ensures)) (text-label (lettersAt (a .labels) (drop 1 (a .table .now))) (a .kind) (a .v) (a .w) (c .before .before .before .before .before .before .match .keys2))
+returns-3 c = let a = c .before .before .before .before .before .before .before .before .before .before .args in put-text _ _ _ _ _ (c .before .before .put-byte2 .ensures) (c .before .before .before .byte-of2 .ensures ∙ ap (λ x. x % 256) (c .before .before .before .before .letter-of .ensures)) (text-label (lettersAt (a .labels) (drop 1 (a .table .now))) (a .content) (a .v) (a .w) (c .before .before .before .before .before .before .match .keys2))
 
 same-length-4 : tie.Need-same-length-4
 same-length-4 c = search needs
 
 returns-4 : tie.Need-returns-4
-returns-4 c = let a = c .before .before .before .before .before .before .before .before .before .args in put-text _ _ _ _ _ (c .before .before .put-byte3 .ensures) (c .before .before .before .end-byte .ensures) (text-end (lettersAt (a .labels) (drop 1 (a .table .now))) (a .kind) (a .v) (a .w) (c .before .before .before .before .before .match .keys3))
+returns-4 c = let a = c .before .before .before .before .before .before .before .before .before .args in put-text _ _ _ _ _ (c .before .before .put-byte3 .ensures) (c .before .before .before .end-byte .ensures) (text-end (lettersAt (a .labels) (drop 1 (a .table .now))) (a .content) (a .v) (a .w) (c .before .before .before .before .before .match .keys3))
 
 same-length-5 : tie.Need-same-length-5
 same-length-5 c = search needs
 
 returns-5 : tie.Need-returns-5
-returns-5 c = let a = c .before .before .before .before .before .before .before .before .args in let r = c .before .before .before .before .match .rest in c .before .before .put-name .ensures ∙ ap (puts _) (text-name (lettersAt (a .labels) (drop 1 (a .table .now))) (a .kind) (a .v) (a .w) (kind-name (a .kind) (omega arith) (omega arith) (omega arith) (omega arith) (r .0 .0 .1) (r .0 .1) (r .1)))
+returns-5 c = let a = c .before .before .before .before .before .before .before .before .args in let r = c .before .before .before .before .match .rest in c .before .before .put-name .ensures ∙ ap (puts _) (text-name (lettersAt (a .labels) (drop 1 (a .table .now))) (a .content) (a .v) (a .w) (content-name (a .content) (omega arith) (omega arith) (omega arith) (omega arith) (r .0 .0 .1) (r .0 .1) (r .1)))
 
 pub put-field-spec : {M : Type 1} → statement M
 put-field-spec =

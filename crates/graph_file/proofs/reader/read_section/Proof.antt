@@ -35,7 +35,7 @@ same-length c = search needs
 
 returns : tie.Need-returns
 unfolding partOutcome refusedOr
-returns c = let a = c .before .before .before .before .before .before .before .before .before .args in (names-refused (a .k) (a .n) (a .table .now) (a .part .now) (a .c) (c .before .before .read-line .result) (c .before .before .read-line .ensures ∙ ap (λ (o : ℕ). readItems (lettersAt 0 (drop 1 (a .table .now))) (itemsAt o) blank (drop 0 (a .part .now))) (c .before .before .before .names-place .ensures)) (not-true _ (c .if1 .taken)), λ z. absurd (omega arith))
+returns c = let a = c .before .before .before .before .before .before .before .before .before .args in (names-refused (a .form) (a .k) (a .n) (a .table .now) (a .part .now) (a .c) (c .before .before .read-line .result) (c .before .before .read-line .ensures ∙ ap (λ (o : ℕ). readItems (lettersAt 0 (drop 1 (a .table .now))) (itemsAt o) blank (drop 0 (a .part .now))) (c .before .before .before .names-place .ensures)) (not-true _ (c .if1 .taken)), λ z. absurd (omega arith))
 
 read-rows-requires : tie.Need-read-rows-requires
 read-rows-requires c κs = let q = c .before .before .before .before .before .before .before .before .before .before .pre .1 in let a = c .before .before .before .before .before .before .before .before .before .before .args in (c .before .before .before .before .before .before .before .before .before .before .pre .0, (room-later (a .k) (a .n) (length (a .table .now)) (a .part .now) (c .before .before .before .read-line .result .next) (q .0), q .1, placed-fresh (a .k) (a .n) (a .c) (q .2), refl, c .before .before .before .before .before .before .most .ensures))
@@ -44,7 +44,7 @@ same-length-2 : tie.Need-same-length-2
 same-length-2 c = search needs
 
 returns-2 : tie.Need-returns-2
-returns-2 c = let a = c .before .before .before .before .before .before .before .before .before .before .before .before .before .before .before .args in (section-refused (a .k) (a .n) (a .table .now) (a .part .now) (a .c) (c .before .before .before .before .before .before .before .before .read-line .result) (c .before .before .before .before .before .before .before .before .read-line .ensures ∙ ap (λ (o : ℕ). readItems (lettersAt 0 (drop 1 (a .table .now))) (itemsAt o) blank (drop 0 (a .part .now))) (c .before .before .before .before .before .before .before .before .before .names-place .ensures)) (not-false _ (c .before .before .before .before .before .before .if1 .left)) (c .before .before .before .before .read-rows .result) (c .before .before .before .before .read-rows .last .1 .1 .1 .1 .1 .0) (c .before .before .before .before .read-rows .ensures .0) (c .if2 .taken), λ z. absurd (c .if2 .taken z))
+returns-2 c = let a = c .before .before .before .before .before .before .before .before .before .before .before .before .before .before .before .args in (section-refused (a .form) (a .k) (a .n) (a .table .now) (a .part .now) (a .c) (c .before .before .before .before .before .before .before .before .read-line .result) (c .before .before .before .before .before .before .before .before .read-line .ensures ∙ ap (λ (o : ℕ). readItems (lettersAt 0 (drop 1 (a .table .now))) (itemsAt o) blank (drop 0 (a .part .now))) (c .before .before .before .before .before .before .before .before .before .names-place .ensures)) (not-false _ (c .before .before .before .before .before .before .if1 .left)) (c .before .before .before .before .read-rows .result) (c .before .before .before .before .read-rows .last .1 .1 .1 .1 .1 .1 .0) (c .before .before .before .before .read-rows .ensures .0) (c .if2 .taken), λ z. absurd (c .if2 .taken z))
 
 cast-if3 : tie.Need-cast-if3
 cast-if3 c = search needs
@@ -57,7 +57,7 @@ same-length-3 c = search needs
 
 returns-3 : tie.Need-returns-3
 unfolding partOutcome refusedOr
-returns-3 c = let a = c .before .before .before .before .before .before .before .before .before .before .before .before .before .before .before .before .before .before .before .args in (section-few (a .k) (a .n) (a .table .now) (a .part .now) (a .c) (c .before .before .before .before .before .before .before .before .before .before .before .before .read-line .result) (c .before .before .before .before .before .before .before .before .before .before .before .before .read-line .ensures ∙ ap (λ (o : ℕ). readItems (lettersAt 0 (drop 1 (a .table .now))) (itemsAt o) blank (drop 0 (a .part .now))) (c .before .before .before .before .before .before .before .before .before .before .before .before .before .names-place .ensures)) (not-false _ (c .before .before .before .before .before .before .before .before .before .before .if1 .left)) (c .before .before .before .before .before .before .before .before .read-rows .result) (c .before .before .before .before .before .before .before .before .read-rows .last .1 .1 .1 .1 .1 .0) (c .before .before .before .before .before .before .before .before .read-rows .ensures .0) (c .before .before .before .before .if2 .left) (omega (arith, c .if3 .taken, c .before .least .ensures)), λ z. absurd (omega arith))
+returns-3 c = let a = c .before .before .before .before .before .before .before .before .before .before .before .before .before .before .before .before .before .before .before .args in (section-few (a .form) (a .k) (a .n) (a .table .now) (a .part .now) (a .c) (c .before .before .before .before .before .before .before .before .before .before .before .before .read-line .result) (c .before .before .before .before .before .before .before .before .before .before .before .before .read-line .ensures ∙ ap (λ (o : ℕ). readItems (lettersAt 0 (drop 1 (a .table .now))) (itemsAt o) blank (drop 0 (a .part .now))) (c .before .before .before .before .before .before .before .before .before .before .before .before .before .names-place .ensures)) (not-false _ (c .before .before .before .before .before .before .before .before .before .before .if1 .left)) (c .before .before .before .before .before .before .before .before .read-rows .result) (c .before .before .before .before .before .before .before .before .read-rows .last .1 .1 .1 .1 .1 .1 .0) (c .before .before .before .before .before .before .before .before .read-rows .ensures .0) (c .before .before .before .before .if2 .left) (omega (arith, c .if3 .taken, c .before .least .ensures)), λ z. absurd (omega arith))
 
 clipped-requires : tie.Need-clipped-requires
 clipped-requires c κs = search needs
@@ -67,7 +67,7 @@ same-length-4 c = search needs
 
 returns-4 : tie.Need-returns-4
 unfolding partOutcome refusedOr
-returns-4 c = let a = c .before .before .before .before .before .before .before .before .before .before .before .before .before .before .before .before .before .before .before .before .args in (rw (c .clipped .ensures .0) (section-done (a .k) (a .n) (a .table .now) (a .part .now) (a .c) (c .before .before .before .before .before .before .before .before .before .before .before .before .before .read-line .result) (c .before .before .before .before .before .before .before .before .before .before .before .before .before .read-line .ensures ∙ ap (λ (o : ℕ). readItems (lettersAt 0 (drop 1 (a .table .now))) (itemsAt o) blank (drop 0 (a .part .now))) (c .before .before .before .before .before .before .before .before .before .before .before .before .before .before .names-place .ensures)) (not-false _ (c .before .before .before .before .before .before .before .before .before .before .before .if1 .left)) (c .before .before .before .before .before .before .before .before .before .read-rows .result) (c .before .before .before .before .before .before .before .before .before .read-rows .last .1 .1 .1 .1 .1 .0) (c .before .before .before .before .before .before .before .before .before .read-rows .ensures .0) (c .before .before .before .before .before .if2 .left) (omega (arith, c .before .if3 .left, c .before .before .least .ensures))), λ z. record { rows = c .before .before .before .before .before .before .before .before .before .read-rows .ensures .1 (c .before .before .before .before .before .if2 .left); inside = c .clipped .ensures .1 })
+returns-4 c = let a = c .before .before .before .before .before .before .before .before .before .before .before .before .before .before .before .before .before .before .before .before .args in (rw (c .clipped .ensures .0) (section-done (a .form) (a .k) (a .n) (a .table .now) (a .part .now) (a .c) (c .before .before .before .before .before .before .before .before .before .before .before .before .before .read-line .result) (c .before .before .before .before .before .before .before .before .before .before .before .before .before .read-line .ensures ∙ ap (λ (o : ℕ). readItems (lettersAt 0 (drop 1 (a .table .now))) (itemsAt o) blank (drop 0 (a .part .now))) (c .before .before .before .before .before .before .before .before .before .before .before .before .before .before .names-place .ensures)) (not-false _ (c .before .before .before .before .before .before .before .before .before .before .before .if1 .left)) (c .before .before .before .before .before .before .before .before .before .read-rows .result) (c .before .before .before .before .before .before .before .before .before .read-rows .last .1 .1 .1 .1 .1 .1 .0) (c .before .before .before .before .before .before .before .before .before .read-rows .ensures .0) (c .before .before .before .before .before .if2 .left) (omega (arith, c .before .if3 .left, c .before .before .least .ensures))), λ z. record { rows = c .before .before .before .before .before .before .before .before .before .read-rows .ensures .1 (c .before .before .before .before .before .if2 .left); inside = c .clipped .ensures .1 })
 
 pub read-section-spec : {M : Type 1} → statement M
 read-section-spec =

@@ -18,7 +18,7 @@ name-stop-requires : tie.Need-name-stop-requires
 name-stop-requires c κs = search needs
 
 returns : tie.Need-returns
-returns c = same-place _ (c .before .name-start .result) (c .name-stop .result) (place-after (c .before .before .before .before .args .text .now) (c .before .before .before .before .args .lines) (c .before .before .after-lines .result) (c .before .name-start .result) (c .name-stop .result) (c .before .before .after-lines .ensures) (c .before .name-start .ensures) (c .name-stop .ensures))
+returns c = same-place _ (c .before .name-start .result) (c .name-stop .result) (place-after (c .before .before .before .before .args .form) (c .before .before .before .before .args .text .now) (c .before .before .before .before .args .lines) (c .before .before .after-lines .result) (c .before .name-start .result) (c .name-stop .result) (c .before .before .after-lines .ensures) (c .before .name-start .ensures) (c .name-stop .ensures))
 
 pub name-after-spec : {M : Type 1} → statement M
 name-after-spec =

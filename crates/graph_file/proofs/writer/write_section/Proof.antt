@@ -37,7 +37,7 @@ same-length : tie.Need-same-length
 same-length c = search needs
 
 returns : tie.Need-returns
-returns c = let a = c .before .before .before .before .before .before .before .before .before .before .before .before .before .before .before .before .before .args in (section-refused (a .k) (a .table .now) (a .p) (a .c) _ (a .out .now, a .n) _ (c .before .before .before .before .before .before .counts-begun .ensures) (names-put (a .k) _ _ _ _ _ (c .before .before .before .before .before .before .before .before .before .put-line .ensures) (c .before .before .before .before .before .before .before .before .before .before .before .before .names-place .ensures)) (c .before .before .before .before .write-rows .result) _ (c .before .before .before .before .write-rows .ensures .0) (c .if1 .taken), λ z. absurd (c .if1 .taken z))
+returns c = let a = c .before .before .before .before .before .before .before .before .before .before .before .before .before .before .before .before .before .args in (section-refused (a .form) (a .k) (a .table .now) (a .p) (a .c) _ (a .out .now, a .n) _ (c .before .before .before .before .before .before .counts-begun .ensures) (names-put (a .form) (a .k) _ _ _ _ _ (c .before .before .before .before .before .before .before .before .before .put-line .ensures) (c .before .before .before .before .before .before .before .before .before .before .before .before .names-place .ensures)) (c .before .before .before .before .write-rows .result) _ (c .before .before .before .before .write-rows .ensures .0) (c .if1 .taken), λ z. absurd (c .if1 .taken z))
 
 cast-rows : tie.Need-cast-rows
 cast-rows c = search needs
@@ -50,13 +50,13 @@ same-length-2 c = search needs
 
 returns-2 : tie.Need-returns-2
 unfolding partWritten refusedOrPoured
-returns-2 c = let a = c .before .before .before .before .before .before .before .before .before .before .before .before .before .before .before .before .before .before .before .before .args in let l : c .before .before .before .before .before .before .before .write-rows .result .counts .rows < sectionAt (a .k) .least = omega (arith, c .if2 .taken, c .before .least .ensures) in (section-few (a .k) (a .table .now) (a .p) (a .c) _ (a .out .now, a .n) _ (c .before .before .before .before .before .before .before .before .before .counts-begun .ensures) (names-put (a .k) _ _ _ _ _ (c .before .before .before .before .before .before .before .before .before .before .before .before .put-line .ensures) (c .before .before .before .before .before .before .before .before .before .before .before .before .before .before .before .names-place .ensures)) (c .before .before .before .before .before .before .before .write-rows .result) _ (c .before .before .before .before .before .before .before .write-rows .ensures .0) (c .before .before .before .if1 .left) l, λ z. absurd (omega arith))
+returns-2 c = let a = c .before .before .before .before .before .before .before .before .before .before .before .before .before .before .before .before .before .before .before .before .args in let l : c .before .before .before .before .before .before .before .write-rows .result .counts .rows < sectionAt (a .k) .least = omega (arith, c .if2 .taken, c .before .least .ensures) in (section-few (a .form) (a .k) (a .table .now) (a .p) (a .c) _ (a .out .now, a .n) _ (c .before .before .before .before .before .before .before .before .before .counts-begun .ensures) (names-put (a .form) (a .k) _ _ _ _ _ (c .before .before .before .before .before .before .before .before .before .before .before .before .put-line .ensures) (c .before .before .before .before .before .before .before .before .before .before .before .before .before .before .before .names-place .ensures)) (c .before .before .before .before .before .before .before .write-rows .result) _ (c .before .before .before .before .before .before .before .write-rows .ensures .0) (c .before .before .before .if1 .left) l, λ z. absurd (omega arith))
 
 same-length-3 : tie.Need-same-length-3
 same-length-3 c = search needs
 
 returns-3 : tie.Need-returns-3
-returns-3 c = let a = c .before .before .before .before .before .before .before .before .before .before .before .before .before .before .before .before .before .before .before .before .args in let l : sectionAt (a .k) .least ≤ c .before .before .before .before .before .before .before .write-rows .result .counts .rows = omega (arith, c .if2 .left, c .before .least .ensures) in (section-done (a .k) (a .table .now) (a .p) (a .c) _ (a .out .now, a .n) _ (c .before .before .before .before .before .before .before .before .before .counts-begun .ensures) (names-put (a .k) _ _ _ _ _ (c .before .before .before .before .before .before .before .before .before .before .before .before .put-line .ensures) (c .before .before .before .before .before .before .before .before .before .before .before .before .before .before .before .names-place .ensures)) (c .before .before .before .before .before .before .before .write-rows .result) _ (c .before .before .before .before .before .before .before .write-rows .ensures .0) (c .before .before .before .if1 .left) l, c .before .before .before .before .before .before .before .write-rows .ensures .1)
+returns-3 c = let a = c .before .before .before .before .before .before .before .before .before .before .before .before .before .before .before .before .before .before .before .before .args in let l : sectionAt (a .k) .least ≤ c .before .before .before .before .before .before .before .write-rows .result .counts .rows = omega (arith, c .if2 .left, c .before .least .ensures) in (section-done (a .form) (a .k) (a .table .now) (a .p) (a .c) _ (a .out .now, a .n) _ (c .before .before .before .before .before .before .before .before .before .counts-begun .ensures) (names-put (a .form) (a .k) _ _ _ _ _ (c .before .before .before .before .before .before .before .before .before .before .before .before .put-line .ensures) (c .before .before .before .before .before .before .before .before .before .before .before .before .before .before .before .names-place .ensures)) (c .before .before .before .before .before .before .before .write-rows .result) _ (c .before .before .before .before .before .before .before .write-rows .ensures .0) (c .before .before .before .if1 .left) l, c .before .before .before .before .before .before .before .write-rows .ensures .1)
 
 pub write-section-spec : {M : Type 1} → statement M
 write-section-spec =
