@@ -36,10 +36,10 @@ class Rng:
 
 
 class Gym:
-    """A gym file in the making. Ends are -1 for `$` and the label's number otherwise."""
+    """A gym file in the making. Ends are -1 for `$` and the label's number otherwise. In a file with kinds a name is `kind name`."""
 
     def __init__(self, labels, scopes):
-        self.labels, self.scopes = labels, scopes
+        self.labels, self.scopes, self.kinds = labels, scopes, False
         self.order, self.trans, self.accepts = set(), {}, set()
         self.edges, self.decls, self.open, self.queries = set(), set(), set(), []
 
@@ -61,9 +61,9 @@ class Gym:
         out += ['accept'] + [f'{s}' for s in sorted(self.accepts)]
         out += ['scopes', f'{self.scopes}']
         out += ['from label to'] + [f'{a} {lab[l]} {b}' for a, l, b in sorted(self.edges)]
-        out += ['at name mark'] + [f'{s} {n} {m}' for s, n, m in sorted(self.decls)]
+        out += ['at kind name mark' if self.kinds else 'at name mark'] + [f'{s} {n} {m}' for s, n, m in sorted(self.decls)]
         out += ['at open'] + [f'{s} {self.end(e)}' for s, e in sorted(self.open)]
-        out += ['start seek'] + [f'{s} {n}' for s, n in self.queries]
+        out += ['start kind seek' if self.kinds else 'start seek'] + [f'{s} {n}' for s, n in self.queries]
         text = '\n'.join(out) + '\n'
         assert len(text) <= 32768
         return text
@@ -133,6 +133,15 @@ def realistic():
     for w in walls:
         g.queries.append((w, 'inspector'))
     g.queries += [(site, 'hours'), (lanes[0], 'unknown')]
+    return g
+
+
+def with_kinds(g):
+    """The same file with counters and limits: each declaration's kind is drawn, and each name sought in one kind or the other."""
+    r = Rng(8)
+    g.kinds = True
+    g.decls = {(s, f'{r.pick("cl")} {n}', m) for s, n, m in sorted(g.decls)}
+    g.queries = [(s, f'{r.pick("cl")} {n}') for s, n in g.queries]
     return g
 
 
@@ -292,6 +301,7 @@ FILES = [
     ('empty', 'no text at all: what starting the program costs', lambda: ''),
     ('example', "document 01's example", example),
     ('realistic', 'a gym of 64 scopes with 200 queries', realistic),
+    ('realistic_kinds', 'the same with kinds', lambda: with_kinds(realistic())),
     ('faulty_last_row', 'the largest file read whole, its last row refused', faulty_last_row),
     ('clique_nowhere', 'twenty profiles that all import one another, the name nowhere', lambda: clique(False, False)),
     ('clique_site', 'the same, the name in the site alone', lambda: clique(True, False)),

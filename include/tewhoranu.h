@@ -59,6 +59,10 @@ extern "C" {
 #define TEWHORANU_SHADOWED 1  /* reached, and another reached path is more specific */
 #define TEWHORANU_UNREACHED 2 /* neither */
 
+/* The forms of file, as cell 0 of a graph table has them: names alone, which are of the kind `v`, or kinds and names. */
+#define TEWHORANU_OLD_FORM 0
+#define TEWHORANU_WITH_KINDS 1
+
 /* Sizes that always serve: cells of a graph table, bytes of a file, records of a step table, bytes of a summary. */
 #define TEWHORANU_CELLS 12271
 #define TEWHORANU_TEXT 32768
@@ -119,26 +123,27 @@ static inline const char *tewhoranu_refusal_text(uint64_t answer)
     }
 }
 
-/* Reads a gym file's text into a graph table: cell 0 is the file's form, 0, then come six cells for each row
- * (docs/ARCHITECTURE.md, "The graph table").
+/* Reads a gym file's text into a graph table: cell 0 is the file's form, TEWHORANU_OLD_FORM or TEWHORANU_WITH_KINDS, then
+ * come six cells for each row (docs/ARCHITECTURE.md, "The graph table"), the same in both forms.
  * Answers 64 and the number of cells, at most TEWHORANU_CELLS; cells behind them stay as they were.
  * Refuses by 1; then from the top line by line 2, 5, 3, 4; then 6; then 9. */
 uint64_t tewhoranu_read(const uint8_t *text, size_t text_length, uint64_t *table, size_t table_length);
 
-/* Writes a graph table as a gym file's text: the inverse of reading.
+/* Writes a graph table as a gym file's text, in the form that cell 0 says: the inverse of reading.
  * Answers 64 and the number of bytes, at most TEWHORANU_TEXT; bytes behind them stay as they were.
  * Refuses by 2 where cell 0 is missing or no form of file; then from the first row, row by row, by 2, 5, 3, 4; then by
- * 6; then by 9. */
+ * 6; then by 9. In the old form a row of another kind than `v` is 2. */
 uint64_t tewhoranu_write(const uint64_t *table, size_t table_length, uint8_t *out, size_t out_length);
 
-/* Finds the name that a query of the file seeks.
+/* Finds the name that a query of the file seeks: the name alone, without its kind.
  * Answers its length, 1 to 16, and puts the place of its first byte in the text into *place: the name is
  * text[*place] to text[*place + length - 1].
  * Answers 0 if there is no such name, since a refusal by 1 to 7 stands in the way, and leaves *place as it was;
  * tewhoranu_listing of the same query tells which. The answer is a length: do not hand it to tewhoranu_refused. */
 uint64_t tewhoranu_name_sought(const uint8_t *text, size_t text_length, size_t query, uint64_t *place);
 
-/* Writes the listing of a query of the file: what it sees, and whether rows still to come could change that.
+/* Writes the listing of a query of the file: what it sees, and whether rows still to come could change that. The head of
+ * a file with kinds has the query's kind.
  * Answers 64 and the number of bytes; bytes behind them stay as they were.
  * Refuses by 1 to 6 as tewhoranu_read does, then 7, then 9. */
 uint64_t tewhoranu_listing(const uint8_t *text, size_t text_length, size_t query, uint8_t *out, size_t out_length);

@@ -71,6 +71,9 @@ int main(int argc, char **argv)
 {
     static const char listing[] = "start seek found awaits\n3 service one 3$\nmark path\n10 3P1\n";
     static const char summary[] = "queries one several none share\n3 3 0 0 100\n";
+    static const char kinds[] = "label\nless more\nstate label next\naccept\n0\nscopes\n1\nfrom label to\n"
+                                "at kind name mark\n0 c x 1\n0 v x 2\nat open\n0 $\nstart kind seek\n0 c x\n0 v x\n";
+    static const char limit[] = "start kind seek found awaits\n0 v x one 0$\nmark path\n2 0\n";
     static const char visible[] = "21 2", shadowed[] = "10 2P1", unreached[] = "5 2P1P0";
     FILE *file = argc == 2 ? fopen(argv[1], "rb") : NULL;
     size_t length, cells;
@@ -84,7 +87,7 @@ int main(int argc, char **argv)
     answer = tewhoranu_read(text, length, table, TEWHORANU_CELLS);
     EXPECT(!tewhoranu_refused(answer));
     cells = tewhoranu_written(answer);
-    EXPECT(cells == 1 + 6 * 23 && table[1] == 0 && table[2] == 'I');
+    EXPECT(cells == 1 + 6 * 23 && table[0] == TEWHORANU_OLD_FORM && table[1] == 0 && table[2] == 'I');
     EXPECT(tewhoranu_read(text, length, table, cells - 1) == TEWHORANU_NO_ROOM);
     EXPECT(tewhoranu_read(text, length - 1, table, cells) == TEWHORANU_MALFORMED);
     EXPECT(tewhoranu_read(text, TEWHORANU_TEXT + 1, table, cells) == TEWHORANU_TOO_LONG);
@@ -93,6 +96,8 @@ int main(int argc, char **argv)
     EXPECT(refused_with(length, "1 P 0\n2", "3 P 0\n2", TEWHORANU_NOT_ASCENDING));
     EXPECT(refused_with(length, "scopes\n5\n", "scopes\n5\n5\n", TEWHORANU_TOO_MANY_ROWS));
     EXPECT(refused_with(length, "$ I\n", "$ $\n", TEWHORANU_NO_ORDER));
+    EXPECT(refused_with(length, "at name mark\n", "at kind name mark\n", TEWHORANU_MALFORMED));
+    EXPECT(refused_with(length, "start seek\n", "start kind seek\n", TEWHORANU_MALFORMED));
 
     answer = tewhoranu_write(table, cells, out, sizeof out);
     EXPECT(answer == TEWHORANU_DONE + length && memcmp(out, text, length) == 0);
@@ -134,6 +139,26 @@ int main(int argc, char **argv)
     answer = tewhoranu_compare(text, length, bytes(visible), strlen(visible), bytes(visible), strlen(visible), steps, 0,
                                others, 0);
     EXPECT(is_case(answer, TEWHORANU_NEITHER));
+
+    /* a file with kinds: its cells, its text, its listing, its name sought */
+    length = strlen(kinds);
+    answer = tewhoranu_read(bytes(kinds), length, table, TEWHORANU_CELLS);
+    EXPECT(answer == TEWHORANU_DONE + 1 + 6 * 7 && table[0] == TEWHORANU_WITH_KINDS);
+    cells = tewhoranu_written(answer);
+    EXPECT(table[13] == 6 && table[15] == 'c' && table[18] == 1 && table[21] == 'v' && table[24] == 2);
+    answer = tewhoranu_write(table, cells, out, sizeof out);
+    EXPECT(answer == TEWHORANU_DONE + length && memcmp(out, kinds, length) == 0);
+    table[0] = TEWHORANU_OLD_FORM;
+    EXPECT(tewhoranu_write(table, cells, out, sizeof out) == TEWHORANU_MALFORMED);
+    table[0] = TEWHORANU_WITH_KINDS + 1;
+    EXPECT(tewhoranu_write(table, cells, out, sizeof out) == TEWHORANU_MALFORMED);
+    answer = tewhoranu_listing(bytes(kinds), length, 1, out, sizeof out);
+    EXPECT(answer == TEWHORANU_DONE + strlen(limit) && memcmp(out, limit, strlen(limit)) == 0);
+    EXPECT(tewhoranu_name_sought(bytes(kinds), length, 1, &place) == 1 && place == length - 2);
+    answer = tewhoranu_judge(bytes(kinds), length, 1, bytes("2 0"), 3, steps, 0);
+    EXPECT(is_case(answer, TEWHORANU_VISIBLE));
+    answer = tewhoranu_judge(bytes(kinds), length, 1, bytes("1 0"), 3, steps, 0);
+    EXPECT(is_case(answer, TEWHORANU_UNREACHED));
     puts("calls: ok");
     return 0;
 }

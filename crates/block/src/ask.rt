@@ -1,16 +1,18 @@
 // A query's own block, the ask: what it says behind its tables; specs/Ask says what it is.
 ghost use mathlib.Core.Path.{_≡_};
-ghost use Rattle.block.specs.Ask.{IsAsk, askStart, askHigh, askLow, askGoal};
+ghost use Rattle.block.specs.Ask.{IsAsk, askStart, askName, askGoal};
 
 pub const FROM: usize = 192;
 
-pub const HIGH: usize = 193;
+pub const KIND: usize = 193;
 
-pub const LOW: usize = 194;
+pub const HIGH: usize = 194;
 
-pub const GOAL: usize = 195;
+pub const LOW: usize = 195;
 
-pub const ASKSIZE: usize = 196;
+pub const GOAL: usize = 196;
+
+pub const ASKSIZE: usize = 197;
 
 // The query's start.
 pub fn ask_start(ask: &[u64]) -> u64
@@ -20,17 +22,24 @@ pub fn ask_start(ask: &[u64]) -> u64
     ask[FROM]
 }
 
-// The two numbers of the name sought.
+// The name sought: its kind, and its two numbers.
+pub fn ask_kind(ask: &[u64]) -> u64
+    requires ask { ⌜ IsAsk (now ask) ⌝ }
+    ensures answer { λ r. ⌜ r ≡ askName (now (ask .entry)) .kind ⌝ }
+{
+    ask[KIND]
+}
+
 pub fn ask_high(ask: &[u64]) -> u64
     requires ask { ⌜ IsAsk (now ask) ⌝ }
-    ensures answer { λ r. ⌜ r ≡ askHigh (now (ask .entry)) ⌝ }
+    ensures answer { λ r. ⌜ r ≡ askName (now (ask .entry)) .high ⌝ }
 {
     ask[HIGH]
 }
 
 pub fn ask_low(ask: &[u64]) -> u64
     requires ask { ⌜ IsAsk (now ask) ⌝ }
-    ensures answer { λ r. ⌜ r ≡ askLow (now (ask .entry)) ⌝ }
+    ensures answer { λ r. ⌜ r ≡ askName (now (ask .entry)) .low ⌝ }
 {
     ask[LOW]
 }

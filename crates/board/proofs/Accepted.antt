@@ -62,7 +62,7 @@ end-below labels (by n) h l = omega arith
 
 module _ (cells : List ℕ) (a : AcceptedTable cells) (t : AdmittedTable cells) where
   abbrev anyQuery : Query (language (rulesOf cells))
-  anyQuery = record { start = 0; name = record { high = 0; low = 0 } }
+  anyQuery = record { start = 0; name = record { kind = 0; high = 0; low = 0 } }
 
   in-range : InRange (language (rulesOf cells)) (graphOf cells)
   in-range = let least = a .scopes-least in a .accepted anyQuery (omega arith) .in-range

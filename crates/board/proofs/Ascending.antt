@@ -55,7 +55,7 @@ module _ (cells : List ℕ) (t : AdmittedTable cells) (up : SectionsAscend 0 (dr
   unfolding sectionAt sections declarations
   declarations-up =
       pairwise-weaken (KeyBefore (sectionAt declarationSection .key)) FirstUp (rowsIn declarationSection cells)
-      (λ a b m n k. first-up (1 ∷ 2 ∷ 3 ∷ []) a b k) (table-ascends cells t declarationSection (omega arith) refl)
+      (λ a b m n k. first-up (1 ∷ 2 ∷ 3 ∷ 4 ∷ []) a b k) (table-ascends cells t declarationSection (omega arith) refl)
 
   pub admitted-declarations : RowsAscend 0 (partOf declarationSection cells)
   admitted-declarations = section-up declarationSection declarations-up

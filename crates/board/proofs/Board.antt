@@ -29,7 +29,8 @@ use Rattle.search.specs.Board.{boardOf}
 use Rattle.search.specs.Tables.{endNumber, tableOrder, tableBoard}
 use Rattle.graph_table.specs.Sections.{partOf, rowsOf}
 use Rattle.board.specs.Tables.{accepted, letterOf}
-use Rattle.board.specs.Marks.{declares, DeclaringIs}
+use Rattle.graph_table.specs.Values.{packed, rowDeclared, declares}
+use Rattle.board.specs.Marks.{DeclaringIs}
 use Rattle.board.specs.Made.{Made}
 use Rattle.board.specs.Promises.{Sound, LettersAre, ScopesAre, BoardIs, OrderIs, OpenIs, OpenPast}
 use Rattle.graph_table.proofs.Tests.{below-or}
@@ -49,11 +50,11 @@ and-flip false true = refl
 and-flip false false = refl
 
 -- some row declares the name, by the rows and by the declarations
-any-declares : (r : Rules) (x : PackedName) (s : ℕ) (rows : List Row) → anyOf (declares x s) rows ≡ declaresAny (language r) (map (declarationOf r) rows) s x
-unfolding anyOf declares declaresAny declarationOf
+any-declares : (r : Rules) (x : PackedName) (s : ℕ) (rows : List Row) → anyOf (declares x s) (map rowDeclared rows) ≡ declaresAny (language r) (map (declarationOf r) rows) s x
+unfolding anyOf declares declaresAny declarationOf nameAt
 any-declares r x s [] = refl
 any-declares r x s (row ∷ rows) =
-    ap (λ (b : Bool). elim (eqb (value row 0) s && sameName (nameAt 1 row) x) as (λ _. Bool) [ true ↦ true | false ↦ b ]) (any-declares r x s rows)
+    ap (λ (b : Bool). elim (eqb (rowDeclared row .at) s && sameName (packed (rowDeclared row .name)) x) as (λ _. Bool) [ true ↦ true | false ↦ b ]) (any-declares r x s rows)
 
 module _ (cells : List ℕ) (sound : Sound cells) where
   abbrev rules : Rules
@@ -77,7 +78,7 @@ module _ (cells : List ℕ) (sound : Sound cells) where
   unfolding graphOf
   goal-eq x goal is s =
       ⊎-elim
-      (λ (h : s < 64). is s h ∙ ap (anyOf (declares x s)) (part declarationSection) ∙ any-declares rules x s (rowsIn declarationSection cells))
+      (λ (h : s < 64). is s h ∙ ap (λ (rows : List Row). anyOf (declares x s) (map rowDeclared rows)) (part declarationSection) ∙ any-declares rules x s (rowsIn declarationSection cells))
       (λ (h : 64 ≤ s). scope-past goal s h ∙ sym (declared-past x s h))
       (below-or s 64)
 

@@ -8,28 +8,30 @@ use native.Mathlib.Omega.{arith}
 use native.Mathlib.Nat.{sub-zero}
 use lib.ListN.{length, take, drop, length-drop}
 use lib.Seq.{take-nil, take-take, drop-drop, take-add, length-take-le}
-use borrow.Author.Tests.{ne-eqb}
+use Rattle.scope_graph.specs.Rows.{PackedName}
 use Rattle.graph_file.specs.Format.{declarationSection}
 use Rattle.graph_table.specs.Rows.{RowsAscend}
 use Rattle.block.specs.Block.{declaredPart}
-use Rattle.graph_table.specs.Sections.{leading, startOf, partOf}
-use Rattle.board.specs.Marks.{declaredHere, matches, marksIn, declaredCell}
+use Rattle.graph_table.specs.Sections.{leading, startOf, partOf, rowsOf}
+use Rattle.graph_table.specs.Values.{rowDeclared, declares}
+use Rattle.graph_table.proofs.RowLaws.{declares-apart}
+use Rattle.board.specs.Marks.{declaredHere, marksOf, marksIn, declaredCell}
 use Rattle.board.specs.Promises.{DeclaredIs}
 use Rattle.graph_table.proofs.Tests.{below-or}
 use Rattle.graph_table.proofs.Leading.{leading-yes, leading-no, leading-within, start-within}
 use Rattle.board.proofs.SectionLaws.{between, between-later}
 
-module _ (s high low : ℕ) where
+module _ (s : ℕ) (x : PackedName) where
   abbrev marks : List ℕ → List ℕ
-  marks l = marksIn l s high low
+  marks l = marksIn l s x
 
   -- a row of another scope, and rows of later scopes
-  marks-other : (a at h l mark x : ℕ) (cells : List ℕ) → (at ≡ s → ⊥) → marks (a ∷ at ∷ h ∷ l ∷ mark ∷ x ∷ cells) ≡ marks cells
-  unfolding marksIn matches declaredHere
-  marks-other a at h l mark x cells n = rw (ne-eqb at s n, marksIn)
+  marks-other : (a at c d e f : ℕ) (cells : List ℕ) → (at ≡ s → ⊥) → marks (a ∷ at ∷ c ∷ d ∷ e ∷ f ∷ cells) ≡ marks cells
+  unfolding marksIn marksOf rowsOf declaredHere
+  marks-other a at c d e f cells n = rw (declares-apart x s (rowDeclared (at ∷ c ∷ d ∷ e ∷ f ∷ [])) n, declaredHere)
 
   marks-none : (m : ℕ) (l : List ℕ) → RowsAscend m l → s < m → marks l ≡ []
-  unfolding marksIn
+  unfolding marksIn marksOf rowsOf
   marks-none m [] h i = refl
   marks-none m (a ∷ []) h i = refl
   marks-none m (a ∷ b ∷ []) h i = refl
@@ -56,13 +58,13 @@ module _ (s high low : ℕ) where
   own l = between (leading 1 s l) (leading 1 (suc s) l) l
 
   marks-first : (a b c d e f y : ℕ) (l : List ℕ) → marks (between 0 (6 + y) (a ∷ b ∷ c ∷ d ∷ e ∷ f ∷ l))
-      ≡ declaredHere (matches s high low b c d) e (marks (between 0 y l))
-  unfolding marksIn between
+      ≡ declaredHere (declares x s (rowDeclared (b ∷ c ∷ d ∷ e ∷ f ∷ []))) (rowDeclared (b ∷ c ∷ d ∷ e ∷ f ∷ []) .mark) (marks (between 0 y l))
+  unfolding marksIn marksOf rowsOf between
   marks-first a b c d e f y l = rw (sub-zero (6 + y), sub-zero y, take-add 6 y (a ∷ b ∷ c ∷ d ∷ e ∷ f ∷ l))
 
   marks-six : (a b c d e f : ℕ) (l : List ℕ) → RowsAscend b l → marks (own l) ≡ marks l
       → marks (own (a ∷ b ∷ c ∷ d ∷ e ∷ f ∷ l)) ≡ marks (a ∷ b ∷ c ∷ d ∷ e ∷ f ∷ l)
-  unfolding marksIn between
+  unfolding marksIn marksOf rowsOf between
   marks-six a b c d e f l up i =
       let row = a ∷ b ∷ c ∷ d ∷ e ∷ f ∷ l in
       ⊎-elim
@@ -76,12 +78,12 @@ module _ (s high low : ℕ) where
       (λ (m : b ≤ s).
       let z : marks (between 0 (leading 1 (suc s) l) l) ≡ marks l = rw (leading-none b l up n) at i in
       rw (leading-no 1 s row (omega arith) n, leading-yes 1 (suc s) row (omega arith) (omega arith))
-      (marks-first a b c d e f (leading 1 (suc s) l) l ∙ ap (declaredHere (matches s high low b c d) e) z))
+      (marks-first a b c d e f (leading 1 (suc s) l) l ∙ ap (declaredHere (declares x s (rowDeclared (b ∷ c ∷ d ∷ e ∷ f ∷ []))) (rowDeclared (b ∷ c ∷ d ∷ e ∷ f ∷ []) .mark)) z))
       (below-or s b))
       (below-or b s)
 
   pub own-marks : (m : ℕ) (l : List ℕ) → RowsAscend m l → marks (own l) ≡ marks l
-  unfolding leading marksIn between
+  unfolding leading marksIn marksOf rowsOf between
   own-marks m [] h = refl
   own-marks m (a ∷ []) h = refl
   own-marks m (a ∷ b ∷ []) h = refl
@@ -130,7 +132,7 @@ module _ (cells : List ℕ) (s : ℕ) where
 
 pub declared-is : DeclaredIs
 unfolding declaredPart
-declared-is cells block sound made s high low h =
+declared-is cells block sound made s x h =
     rw (made .declared s (omega arith), made .declared (suc s) (omega arith))
-    (ap (λ (l : List ℕ). marksIn l s high low) (part-own cells s)
-    ∙ own-marks s high low 0 (partOf declarationSection cells) (sound .declarations-ascend))
+    (ap (λ (l : List ℕ). marksIn l s x) (part-own cells s)
+    ∙ own-marks s x 0 (partOf declarationSection cells) (sound .declarations-ascend))

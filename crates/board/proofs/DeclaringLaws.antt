@@ -1,55 +1,48 @@
 -- The pass that finds the scopes that declare a name. Assumes nothing.
 use Prim.Native.Nat.{ℕ, _+_, _-_, _*_, _%_, _^_, _≤_, _<_}
-use mathlib.Core.Path.{_≡_, refl, sym, ap, _∙_}
+use mathlib.Core.Path.{_≡_, sym, ap, _∙_}
 use mathlib.Core.Bool.{Bool, true, false, _&&_, _||_}
-use mathlib.Core.List.{List, [], _∷_, map}
+use mathlib.Core.List.{List, map}
 use native.Mathlib.Omega.{arith}
 use lib.Bits.{bitOr}
 use lib.Dec.{eqb}
 use lib.ListN.{length, getD, drop}
 use borrow.Author.Tests.{ne-eqb}
 use Rattle.scope_graph.specs.Rows.{PackedName, sameName, anyOf}
-use Rattle.graph_file.specs.Admission.{Row, value, rowOf}
-use Rattle.graph_file.specs.Decode.{nameAt}
-use Rattle.graph_file.proofs.RowLaws.{row-cells}
+use Rattle.graph_file.specs.Admission.{rowOf}
 use Rattle.block.specs.Sets.{hasScope}
 use Rattle.block.proofs.SetLaws.{scopes-none, scopes-or, scopes-single}
 use Rattle.graph_table.specs.Sections.{rowsOf}
-use Rattle.board.specs.Marks.{declares, DeclaringIs}
+use Rattle.graph_table.specs.Values.{packed, declarationRow, rowDeclared, declares}
+use Rattle.graph_table.proofs.RowLaws.{declaration-cells}
+use Rattle.board.specs.Marks.{DeclaringIs}
 use Rattle.graph_table.proofs.Tests.{and-first, and-second, and-true, or-false, flip}
 use Rattle.board.proofs.Passes.{any-noted, any-all}
 
-pub same : Row → Row
-same row = row
-
-map-same : (rows : List Row) → map same rows ≡ rows
-unfolding same
-map-same [] = refl
-map-same (row ∷ rows) = ap (λ (l : List Row). row ∷ l) (map-same rows)
-
 pub record Declaring (rows : List ℕ) (x : PackedName) (p out : ℕ) : Type 0 where
   pub within : p ≤ length rows
-  pub each : (s : ℕ) → s < 64 → (hasScope out s || anyOf (declares x s) (map same (rowsOf (drop p rows)))) ≡ anyOf (declares x s) (map same (rowsOf rows))
+  pub each : (s : ℕ) → s < 64
+      → (hasScope out s || anyOf (declares x s) (map rowDeclared (rowsOf (drop p rows)))) ≡ anyOf (declares x s) (map rowDeclared (rowsOf rows))
 
 pub declaring-none : (rows : List ℕ) (x : PackedName) → Declaring rows x 0 0
 declaring-none rows x = record { within = omega arith; each = λ s h. rw (scopes-none s) }
 
 module _ (rows : List ℕ) (x : PackedName) (p out : ℕ) (so : Declaring rows x p out) where
   abbrev at : ℕ
-  at = getD rows (p + 1) 0
+  at = declarationRow rows p .at
 
   abbrev named : Bool
-  named = eqb (getD rows (p + 2) 0) (x .high) && eqb (getD rows (p + 3) 0) (x .low)
+  named = sameName (packed (declarationRow rows p .name)) x
 
-  row-declares : (s : ℕ) → declares x s (same (rowOf (drop p rows))) ≡ (eqb at s && named)
-  unfolding declares same sameName nameAt
-  row-declares s = ap (λ (row : Row). eqb (value row 0) s && (eqb (value row 1) (x .high) && eqb (value row 2) (x .low))) (row-cells rows p)
+  row-declares : (s : ℕ) → declares x s (rowDeclared (rowOf (drop p rows))) ≡ (eqb at s && named)
+  unfolding declares
+  row-declares s = sym (ap (declares x s) (declaration-cells rows p))
 
   noted-at : (more : ℕ) → 6 ≤ length rows - p → ((s : ℕ) → s < 64 → hasScope more s ≡ (hasScope out s || (eqb at s && named))) → Declaring rows x (p + 6) more
   noted-at more h e = record {
     within = omega arith;
     each = λ s k.
-        any-noted same (declares x s) rows p (hasScope out s) (hasScope more s) (anyOf (declares x s) (map same (rowsOf rows))) h
+        any-noted rowDeclared (declares x s) rows p (hasScope out s) (hasScope more s) (anyOf (declares x s) (map rowDeclared (rowsOf rows))) h
         (e s k ∙ ap (λ b. hasScope out s || b) (sym (row-declares s))) (so .each s k);
   }
 
@@ -69,5 +62,4 @@ module _ (rows : List ℕ) (x : PackedName) (p out : ℕ) (so : Declaring rows x
 
   pub declaring-all : length rows - p < 6 → DeclaringIs rows x out
   declaring-all h s k =
-      any-all same (declares x s) rows p (hasScope out s) (anyOf (declares x s) (map same (rowsOf rows))) h (so .each s k)
-      ∙ ap (anyOf (declares x s)) (map-same (rowsOf rows))
+      any-all rowDeclared (declares x s) rows p (hasScope out s) (anyOf (declares x s) (map rowDeclared (rowsOf rows))) h (so .each s k)

@@ -7,11 +7,13 @@ pub mod CellLaws
 pub mod EdgeCells
 pub mod EdgeLaws
 pub mod DeclaringLaws
+pub mod MarkLaws
 pub mod FillLaws
 pub mod SectionLaws
 pub mod Ascending
 pub mod Accepted
 pub mod Capitals
+pub mod KindBytes
 pub mod Queries
 pub mod Example
 pub mod Declared

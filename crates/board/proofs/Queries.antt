@@ -3,25 +3,26 @@ use Prim.Native.Nat.{ℕ, zero, suc, _+_, _*_, _/_, _≤_, _<_}
 use mathlib.Core.Path.{_≡_, refl, sym, ap, _∙_, subst}
 use mathlib.Core.List.{List, [], _∷_}
 use native.Mathlib.Omega.{arith}
-use lib.ListN.{length, getD, length-map, List·getD-map}
+use lib.ListN.{length, getD, drop, length-map, List·getD-map}
 use Rattle.scope_graph.specs.Language.{_∈_}
 use Rattle.scope_graph.specs.Graph.{Query}
 use Rattle.scope_graph.specs.Rows.{language}
 use Rattle.scope_graph.proofs.Lists.{here, there}
 use Rattle.graph_file.specs.Format.{querySection}
-use Rattle.graph_file.specs.Admission.{Row, blank}
+use Rattle.graph_file.specs.Admission.{Row, rowOf, blank}
 use Rattle.graph_file.specs.Decode.{rowsIn, rulesOf, scopesOf, nameAt, queryOf, queriesOf, WasRead}
 use Rattle.graph_file.specs.Accepted.{AcceptedTable}
 use Rattle.graph_file.proofs.DecodeAccepted.{read-accepted}
-use Rattle.graph_file.proofs.RowLaws.{row-cells}
 use Rattle.graph_table.specs.declared.rows.QueryRow.{QueryRow}
 use Rattle.graph_table.specs.Sections.{partOf, rowsOf}
-use Rattle.graph_table.specs.Values.{queryRow}
-use Rattle.board.specs.Queries.{queryAt, queryFrom, Asked}
+use Rattle.graph_table.specs.Values.{queryRow, rowQuery}
+use Rattle.board.specs.Queries.{queryAt, queryOn, Asked}
 use Rattle.board.specs.Promises.{Sound}
 use Rattle.graph_table.proofs.Parts.{rows-count, row-at}
+use Rattle.graph_table.proofs.RowLaws.{query-cells}
 use Rattle.board.proofs.SectionLaws.{rows-in-part}
 use Rattle.board.proofs.Accepted.{read-sound}
+use Rattle.board.proofs.KindBytes.{query-kinds}
 
 -- an element that stands at a place of a list is in it
 pub getD-in : {A : Type 0} (l : List A) (i : ℕ) (d : A) → i < length l → getD l i d ∈ l
@@ -55,31 +56,37 @@ module _ (cells : List ℕ) (was : WasRead cells) where
         counted ∙ ap (λ (l : List Row). length l) rows-is
         ∙ sym (length-map (rowsIn querySection cells) (queryOf (rulesOf cells)))
 
+    pub query-below : i < length (queriesOf cells) → i < n
+    query-below h = let c = count-is in omega arith
+
     module _ (h : i < n) where
       pub query-whole : 6 * i + 6 ≤ length queries
       query-whole = row-whole queries i (omega arith)
 
-      row-here : getD (rowsIn querySection cells) i blank
-          ≡ getD queries (6 * i + 1) 0 ∷ getD queries (6 * i + 2) 0 ∷ getD queries (6 * i + 3) 0 ∷ getD queries (6 * i + 4) 0
-          ∷ getD queries (6 * i + 5) 0 ∷ []
+      row-here : getD (rowsIn querySection cells) i blank ≡ rowOf (drop (6 * i) queries)
       row-here =
           let c = rows-count (length queries) queries (omega arith) in
-          ap (λ (rows : List Row). getD rows i blank) (sym rows-is) ∙ row-at queries i (omega arith) ∙ row-cells queries (6 * i)
+          ap (λ (rows : List Row). getD rows i blank) (sym rows-is) ∙ row-at queries i (omega arith)
 
       module _ (q : QueryRow) (p : ℕ) (placed : p ≡ 6 * i) (e : q ≡ queryRow queries p) where
-        pub query-is : queryFrom cells (q .start) (q .high) (q .low) ≡ queryAt cells i
-        unfolding queryAt queriesOf queryOf nameAt
-        query-is =
-            rw (e, placed)
-            (sym (List·getD-map (queryOf (rulesOf cells)) (rowsIn querySection cells) i blank ∙ ap (queryOf (rulesOf cells)) row-here))
+        by-row : q ≡ rowQuery (getD (rowsIn querySection cells) i blank)
+        by-row = e ∙ ap (queryRow queries) placed ∙ query-cells queries (6 * i) ∙ ap rowQuery (sym row-here)
 
-        pub query-asked : Asked cells (q .start)
-        unfolding queryAt
+        pub query-is : queryOn cells q ≡ queryAt cells i
+        unfolding queryAt queriesOf queryOf nameAt
+        query-is = ap (queryOn cells) by-row ∙ sym (List·getD-map (queryOf (rulesOf cells)) (rowsIn querySection cells) i blank)
+
+        pub query-asked : Asked cells (queryOn cells q)
+        unfolding queryAt queriesOf
         query-asked =
             let c = count-is in
+            let n = length-map (rowsIn querySection cells) (queryOf (rulesOf cells)) in
             record {
               read = was;
               starts =
                   subst (λ (z : Query (language (rulesOf cells))). z .start < scopesOf cells) (sym query-is)
                   (accepted .starts (queryAt cells i) (getD-in (queriesOf cells) i _ (omega arith)));
+              kind =
+                  subst (λ (z : QueryRow). z .name .kind < 256) (sym by-row)
+                  (query-kinds (was .0) cells (was .1) _ (getD-in (rowsIn querySection cells) i blank (omega arith)));
             }

@@ -83,8 +83,8 @@ OpenPast = (cells : List ℕ) → Sound cells → (q : Query (language (rulesOf 
 
 -- the declarations of a scope are those of its part of the table
 abbrev pub DeclaredIs : Type 0
-DeclaredIs = (cells block : List ℕ) → Sound cells → Made cells block → (s high low : ℕ) → s < 64
-    → marksIn (declaredPart block cells s) s high low ≡ marksIn (partOf declarationSection cells) s high low
+DeclaredIs = (cells block : List ℕ) → Sound cells → Made cells block → (s : ℕ) (x : PackedName) → s < 64
+    → marksIn (declaredPart block cells s) s x ≡ marksIn (partOf declarationSection cells) s x
 
 -- what a text is read as, and what a text is written of, is sound
 abbrev pub ReadSound : Type 0

@@ -1,38 +1,26 @@
 // The declarations: which scopes declare a name, and where each scope's rows stand.
-use graph_table::DeclarationRow;
+use graph_table::Name;
 use graph_table::SCOPE;
 use graph_table::declaration_row;
 use graph_table::rows_from;
+use graph_table::same_name;
 ghost use mathlib.Core.Path.{_≡_};
-ghost use mathlib.Core.Bool.{Bool, _&&_};
-ghost use mathlib.Core.List.{List};
 ghost use Prim.Native.Nat.{ℕ, _+_, _≤_, _<_};
-ghost use lib.Dec.{eqb};
 ghost use lib.ListN.{length};
+ghost use Rattle.graph_table.specs.Values.{packed};
 ghost use Rattle.board.specs.Tables.{tabulate};
 ghost use Rattle.board.specs.Marks.{DeclaringIs, declaredCell};
 
-// Does the row declare the name?
-fn has_name(row: DeclarationRow, high: u64, low: u64) -> bool
-    ensures answer { λ r. ⌜ r ≡ (eqb (row .high) high && eqb (row .low) low) ⌝ }
-{
-    if row.high == high {
-        row.low == low
-    } else {
-        false
-    }
-}
-
 // The scopes that declare the name, as a set.
-pub fn declaring(rows: &[u64], high: u64, low: u64) -> u64
-    ensures answer { λ r. ⌜ DeclaringIs (now (rows .entry)) (record { high = high; low = low }) r ⌝ }
+pub fn declaring(rows: &[u64], name: Name) -> u64
+    ensures answer { λ r. ⌜ DeclaringIs (now (rows .entry)) (packed name) r ⌝ }
 {
     let mut out: u64 = 0;
     let mut p = 0;
     while 6 <= rows.len() - p {
         let row = declaration_row(rows, p);
         p += 6;
-        if !has_name(row, high, low) {
+        if !same_name(row.name, name) {
             continue;
         }
         let at = row.at;

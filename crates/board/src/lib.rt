@@ -1,4 +1,5 @@
 // The board: a file's tables, made of its graph table once and put into the lent block.
+mod asked;
 mod automaton;
 mod cells;
 mod declarations;
@@ -9,6 +10,7 @@ mod making;
 mod order;
 mod sections;
 
+pub use asked::name_asked;
 pub use declarations::declaring;
 pub use making::put_board;
 pub use sections::part;

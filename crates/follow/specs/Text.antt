@@ -6,12 +6,25 @@ use lib.ListN.{getD}
 use Rattle.scope_graph.specs.Language.{End, stop, by}
 use Rattle.scope_graph.specs.Path.{HopOf}
 use Rattle.scope_graph.specs.Computed.{Found, found-none, found-one, found-several}
+use Rattle.scope_graph.specs.Rows.{PackedName}
 use Rattle.text_field.specs.Number.{numberText}
+use Rattle.text_field.specs.Name.{nameText}
+use Rattle.graph_table.specs.declared.sections.Form.{Form}
+use Rattle.graph_table.specs.declared.sections.Form.the-variants.{Old, Kinds}
 
--- the fixed lines: `start seek found awaits`, `mark path`
-abbrev pub headLine : List ℕ
-headLine = 115 ∷ 116 ∷ 97 ∷ 114 ∷ 116 ∷ 32 ∷ 115 ∷ 101 ∷ 101 ∷ 107 ∷ 32 ∷ 102 ∷ 111 ∷ 117 ∷ 110 ∷ 100 ∷ 32 ∷ 97 ∷ 119 ∷ 97 ∷ 105 ∷ 116 ∷ 115 ∷ 10 ∷ []
+-- the names line above a query's values, by the file's form: `start seek found awaits`, and for a
+-- file with kinds `start kind seek found awaits` (02, K8)
+abbrev pub headLine : Form → List ℕ
+headLine Old = 115 ∷ 116 ∷ 97 ∷ 114 ∷ 116 ∷ 32 ∷ 115 ∷ 101 ∷ 101 ∷ 107 ∷ 32 ∷ 102 ∷ 111 ∷ 117 ∷ 110 ∷ 100 ∷ 32 ∷ 97 ∷ 119 ∷ 97 ∷ 105 ∷ 116 ∷ 115 ∷ 10 ∷ []
+headLine Kinds = 115 ∷ 116 ∷ 97 ∷ 114 ∷ 116 ∷ 32 ∷ 107 ∷ 105 ∷ 110 ∷ 100 ∷ 32 ∷ 115 ∷ 101 ∷ 101 ∷ 107 ∷ 32 ∷ 102 ∷ 111 ∷ 117 ∷ 110 ∷ 100 ∷ 32 ∷ 97 ∷ 119 ∷ 97 ∷ 105 ∷ 116 ∷ 115 ∷ 10 ∷ []
 
+-- what is sought, behind a query's start and a space: in a file with kinds the kind's letter and a
+-- space, then the name
+abbrev pub seekColumns : Form → PackedName → List ℕ
+seekColumns Old x = nameText (x .high) (x .low)
+seekColumns Kinds x = x .kind ∷ 32 ∷ nameText (x .high) (x .low)
+
+-- `mark path`
 abbrev pub rowsLine : List ℕ
 rowsLine = 109 ∷ 97 ∷ 114 ∷ 107 ∷ 32 ∷ 112 ∷ 97 ∷ 116 ∷ 104 ∷ 10 ∷ []
 

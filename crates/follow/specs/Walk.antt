@@ -13,7 +13,7 @@ use Rattle.scope_graph.specs.Computed.{NodeOf}
 use Rattle.block.specs.Sets.{placesOf}
 use Rattle.block.specs.Layout.{LETTER}
 use Rattle.block.specs.Block.{hopOf, scopesCell, declaredPart}
-use Rattle.block.specs.Ask.{askStart, askHigh, askLow, askGoal}
+use Rattle.block.specs.Ask.{askStart, askName, askGoal}
 use Rattle.search.specs.Board.{hitsFrom}
 use Rattle.search.specs.Tables.{tableOrder, tableBoard}
 use Rattle.search.specs.Conditions.{freeAt}
@@ -46,7 +46,7 @@ placeRow = record { at = 0; mark = 0; text = 0 ∷ [] }
 module _ (block table ask : List ℕ) where
   -- the marks of the declarations of the name sought at a scope
   unfoldable pub marksAt : ℕ → List ℕ
-  marksAt s = marksIn (declaredPart block table s) s (askHigh ask) (askLow ask)
+  marksAt s = marksIn (declaredPart block table s) s (askName ask)
 
   -- a place's rows, `hops` being the path up to where it was sought from
   unfoldable pub placeRows : Task → List (HopOf ℕ) → NodeOf ℕ → List Taken

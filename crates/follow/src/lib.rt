@@ -13,7 +13,6 @@ mod rows;
 
 pub use count::is_broken;
 use nodes::follow_at;
-pub use rows::declares;
 ghost use mathlib.Core.Path.{_≡_};
 ghost use Prim.Native.Nat.{_≤_, _<_};
 ghost use lib.ListN.{length};

@@ -6,14 +6,13 @@ use crate::count::is_done;
 use crate::count::is_room;
 use crate::count::note;
 use crate::count::one_more;
-use block::ask_high;
-use block::ask_low;
 use block::ask_start;
 use block::declared_end;
 use block::declared_from;
 use block::letter;
-use graph_table::DeclarationRow;
+use board::name_asked;
 use graph_table::declaration_row;
+use graph_table::declares;
 use text_field::number_len;
 use text_field::put_byte;
 use text_field::put_number;
@@ -25,8 +24,8 @@ ghost use Rattle.text_field.specs.Buffer.{Buf, puts};
 ghost use Rattle.text_field.specs.Number.{numberText};
 ghost use Rattle.block.specs.Layout.{IsBlock};
 ghost use Rattle.block.specs.Block.{hopOf};
-ghost use Rattle.block.specs.Ask.{IsAsk, askStart, askHigh, askLow};
-ghost use Rattle.board.specs.Marks.{matches, marksIn};
+ghost use Rattle.block.specs.Ask.{IsAsk, askStart, askName};
+ghost use Rattle.board.specs.Marks.{marksIn};
 ghost use Rattle.follow.specs.Text.{hopsText, rowText};
 ghost use Rattle.follow.specs.Tally.{State, takeRow, takeRows};
 ghost use Rattle.follow.specs.Walk.{pathHops, letterBytes, entryRows, marksAt};
@@ -204,13 +203,6 @@ fn put_entry(
     }
 }
 
-// Does the row declare the name sought at s?
-pub fn declares(s: u64, high: u64, low: u64, row: DeclarationRow) -> bool
-    ensures matching { λ r. ⌜ r ≡ matches s high low (row .at) (row .high) (row .low) ⌝ }
-{
-    row.at == s && (row.high == high && row.low == low)
-}
-
 // The entries of the path at s, from the declarations in these cells from cell p on. A row has six
 // cells.
 fn put_declared(
@@ -226,12 +218,11 @@ fn put_declared(
 ) -> Tally
     requires block { ⌜ IsBlock (now block) ⌝ }
     requires ask { ⌜ IsAsk (now ask) ⌝ }
-    ensures taken { λ r. ⌜ _≡_ {A = State} (now (out .exit), r) (takeRows bounds (now (out .entry), tally) (entryRows (letterBytes (now (block .entry))) (askStart (now (ask .entry))) (pathHops path) s (marksIn (drop p (now (decls .entry))) s (askHigh (now (ask .entry))) (askLow (now (ask .entry)))))) ⌝ }
+    ensures taken { λ r. ⌜ _≡_ {A = State} (now (out .exit), r) (takeRows bounds (now (out .entry), tally) (entryRows (letterBytes (now (block .entry))) (askStart (now (ask .entry))) (pathHops path) s (marksIn (drop p (now (decls .entry))) s (askName (now (ask .entry)))))) ⌝ }
 {
     let n = decls.len();
     let start = ask_start(ask);
-    let high = ask_high(ask);
-    let low = ask_low(ask);
+    let name = name_asked(ask);
     let size = path_size(path, start);
     let mut t = tally;
     let mut i = p;
@@ -241,7 +232,7 @@ fn put_declared(
         }
         let row = declaration_row(decls, i);
         i += 6;
-        if !declares(s, high, low, row) {
+        if !declares(row, s, name) {
             continue;
         }
         t = put_entry(block, path, start, size, s, row.mark, bounds, out, t);

@@ -11,11 +11,11 @@ use lib.ListN.{drop}
 use native.Mathlib.Nat.{sub-zero}
 use lib.Dec.{eqb·zero-suc, eqb·suc-suc}
 use Rattle.graph_file.specs.declared.rows.Counts.{Counts}
-use Rattle.graph_file.specs.Format.{Sequence, ascending, once, free, sectionAt, shapeAt}
+use Rattle.graph_file.specs.Format.{Item, Sequence, ascending, once, free, sectionAt, shapeAt}
 use Rattle.graph_file.specs.Admission.{Row, value, rowOf, inRange, keyLess, listed, follows, unless, admission}
 use Rattle.graph_file.specs.Line.{place}
-use Rattle.graph_file.specs.Table.{formatBytes, keyStep, keyAt, itemsAt, rowPlace, lettersAt, lastAt, sofarAt}
-use Rattle.graph_file.proofs.FormatLaws.{keys-step, key-more, key-last, row-items}
+use Rattle.graph_file.specs.Table.{formatBytes, keyStep, keyAt, itemsAt, rangePlace, lettersAt, lastAt, sofarAt}
+use Rattle.graph_file.proofs.FormatLaws.{keys-step, key-more, key-last, range-items, ranged-all}
 use Rattle.graph_file.proofs.RowLaws.{place-hit, place-miss, letters-length}
 
 -- the key at a place of the format, place by place: less, equal so far, greater, and at its end
@@ -82,12 +82,18 @@ module _ (form k : ℕ) (t : List ℕ) (p : ℕ) (c : Counts) where
   unfolding admission sofarAt unless
   refused-full h = rw (le-ltb (c .rows) (sectionAt k .most) h)
 
-  module _ (room : c .rows < sectionAt k .most) where
-    pub refused-range : inRange (c .labels) (c .scopes) (itemsAt (rowPlace form k)) (rowOf (drop p t)) ≡ false → admission form k (sofarAt t p c) (rowOf (drop p t)) ≡ 3
-    unfolding admission sofarAt unless
-    refused-range e = rw (lt-ltb (c .rows) (sectionAt k .most) room, letters-length (c .labels) (drop 1 t), ← row-items form k, e)
+  -- the fields with a range tell whether the row is in range
+  fields-range : inRange (c .labels) (c .scopes) (itemsAt (rangePlace k)) (rowOf (drop p t)) ≡ inRange (c .labels) (c .scopes) (shapeAt form k .row) (rowOf (drop p t))
+  fields-range =
+      ap (λ (items : List Item). inRange (c .labels) (c .scopes) items (rowOf (drop p t))) (range-items form k)
+      ∙ ranged-all (c .labels) (c .scopes) (shapeAt form k .row) (rowOf (drop p t))
 
-    module _ (ranged : inRange (c .labels) (c .scopes) (itemsAt (rowPlace form k)) (rowOf (drop p t)) ≡ true) where
+  module _ (room : c .rows < sectionAt k .most) where
+    pub refused-range : inRange (c .labels) (c .scopes) (itemsAt (rangePlace k)) (rowOf (drop p t)) ≡ false → admission form k (sofarAt t p c) (rowOf (drop p t)) ≡ 3
+    unfolding admission sofarAt unless
+    refused-range e = rw (lt-ltb (c .rows) (sectionAt k .most) room, letters-length (c .labels) (drop 1 t), ← fields-range, e)
+
+    module _ (in-range : inRange (c .labels) (c .scopes) (itemsAt (rangePlace k)) (rowOf (drop p t)) ≡ true) where
       pub follows-last : {b : Bool} → follows (sectionAt k .sequence) (sectionAt k .key) (lettersAt (c .labels) (drop 1 t)) (c .rows) (lastAt (c .rows) p t) (rowOf (drop p t)) ≡ b → admission form k (sofarAt t p c) (rowOf (drop p t)) ≡ unless b 4 0
       unfolding admission sofarAt unless
-      follows-last e = rw (lt-ltb (c .rows) (sectionAt k .most) room, letters-length (c .labels) (drop 1 t), ← row-items form k, ranged, e)
+      follows-last e = rw (lt-ltb (c .rows) (sectionAt k .most) room, letters-length (c .labels) (drop 1 t), ← fields-range, in-range, e)

@@ -1,8 +1,8 @@
 -- An admitted table is an accepted scope graph (specs/Accepted). Assumes nothing.
 use Prim.Native.Nat.{ℕ, _<_}
 use mathlib.Core.Path.{_≡_, refl, sym, ap, subst}
-use mathlib.Core.Bool.{true, _&&_}
-use mathlib.Core.Logic.{inl, inr, ⊎-elim}
+use mathlib.Core.Bool.{Bool, true, false, _&&_}
+use mathlib.Core.Logic.{_⊎_, inl, inr, ⊎-elim}
 use mathlib.Core.List.{List, [], _∷_, map}
 use native.Mathlib.Omega.{arith}
 use lib.Dec.{leb}
@@ -16,7 +16,7 @@ use Rattle.scope_graph.specs.Order.{endOf}
 use Rattle.scope_graph.specs.Listing.{Pairwise, EdgeBefore, MarkBefore, Accepted}
 use Rattle.scope_graph.proofs.Lists.{here, there, and-left, and-right, map-elim}
 use Rattle.scope_graph.proofs.Rows.{language-laws}
-use Rattle.graph_file.specs.Format.{Content, state, scope, mark, count, label, end, field, ascending, labels, pairs, transitions, accepts, scopeCount, edges, declarations, openPairs, queries, sections, sectionAt, shapesOf, shapeAt, labelSection, pairSection, transitionSection, acceptSection, countSection, edgeSection, declarationSection, openSection, querySection}
+use Rattle.graph_file.specs.Format.{Content, state, scope, mark, count, label, end, field, ascending, labels, transitions, accepts, edges, declarations, openPairs, sections, sectionAt, hasKinds, declarationShape, queryShape, shapesOf, shapeAt, labelSection, pairSection, transitionSection, acceptSection, countSection, edgeSection, declarationSection, openSection, querySection}
 use Rattle.graph_file.specs.Admission.{Row, value, blank, contentInRange, itemInRange, inRange}
 use Rattle.graph_file.specs.Decode.{rowsIn, lettersOf, orderPairOf, transitionOf, rulesOf, nameAt, edgeOf, declarationOf, openPairOf, queryOf, scopesOf, graphOf, opensOf, queriesOf}
 use Rattle.graph_file.specs.Accepted.{EndListed, TransitionBefore, AcceptedTable, ReadAccepted, WrittenAccepted}
@@ -46,11 +46,14 @@ edge-key r a b k =
 mark-key : (r : Rules) (a b : Row) → KeyBefore (sectionAt declarationSection .key) a b → MarkBefore (language r) (declarationOf r a) (declarationOf r b)
 unfolding sectionAt sections declarations declarationOf nameAt
 mark-key r a b k at named =
-    let high : value a 1 ≡ value b 1 = ap (λ (n : PackedName). n .high) named in
-    let low : value a 2 ≡ value b 2 = ap (λ (n : PackedName). n .low) named in
-    ⊎-elim (λ l. absurd (omega arith))
-    (λ e. ⊎-elim (λ l. absurd (omega arith)) (λ f. ⊎-elim (λ l. absurd (omega arith)) (λ g. ⊎-elim (λ l. l) (λ h. absurd (h .1)) (g .1)) (f .1)) (e .1))
-    k
+    let kind : value a 1 ≡ value b 1 = ap (λ (n : PackedName). n .kind) named in
+    let high : value a 2 ≡ value b 2 = ap (λ (n : PackedName). n .high) named in
+    let low : value a 3 ≡ value b 3 = ap (λ (n : PackedName). n .low) named in
+    later (value a 0) (value b 0) at (later (value a 1) (value b 1) kind (later (value a 2) (value b 2) high (later (value a 3) (value b 3) low (⊎-elim (λ l. l) (λ h. absurd (h .1)))))) k
+  where
+    -- where the values at a place are equal, the key goes on behind it
+    later : {A B : Type 0} (x y : ℕ) → x ≡ y → (A → B) → (x < y) ⊎ ((x ≡ y) × A) → B
+    later x y e f c = ⊎-elim (λ l. absurd (omega arith)) (λ d. f (d .1)) c
 
 transition-key : (a b : Row) → KeyBefore (sectionAt transitionSection .key) a b → TransitionBefore (transitionOf a) (transitionOf b)
 unfolding sectionAt sections transitions transitionOf
@@ -89,6 +92,31 @@ module _ (cells : List ℕ) (t : AdmittedTable cells) where
     unfolding contentInRange
     end-in m row r = endOf-listed _ _ (leb-true _ _ (field-in k h end c m row r))
 
+  -- the scope and the mark of a declaration, and the scope of a query, in either form
+  declared-at : field scope 0 ∈ shapeAt (t .form) declarationSection .row
+  unfolding declarationShape shapeAt shapesOf
+  declared-at = by (hasKinds (t .form))
+    where
+      by : (b : Bool) → field scope 0 ∈ declarationShape b .row
+      by true = here
+      by false = here
+
+  declared-mark : field mark 4 ∈ shapeAt (t .form) declarationSection .row
+  unfolding declarationShape shapeAt shapesOf
+  declared-mark = by (hasKinds (t .form))
+    where
+      by : (b : Bool) → field mark 4 ∈ declarationShape b .row
+      by true = there (there (there (there (there (there here)))))
+      by false = there (there (there (there (there here))))
+
+  query-start : field scope 0 ∈ shapeAt (t .form) querySection .row
+  unfolding queryShape shapeAt shapesOf
+  query-start = by (hasKinds (t .form))
+    where
+      by : (b : Bool) → field scope 0 ∈ queryShape b .row
+      by true = here
+      by false = here
+
   count-in : (leb 1 (scopesOf cells) && leb (scopesOf cells) 64) ≡ true
   unfolding shapeAt shapesOf contentInRange scopesOf
   count-in = field-in countSection (omega arith) count 0 here (getD (rowsIn countSection cells) 0 blank) (rw (table-count cells t) here)
@@ -124,7 +152,7 @@ module _ (cells : List ℕ) (t : AdmittedTable cells) where
     listed = each asEdge (λ (e : Edge L). e .step < length (lettersOf cells)) (rowsIn edgeSection cells)
         (label-in edgeSection (omega arith) 1 (there (there here)));
     at-scope = each asDeclaration (λ (d : Declaration L). d .at < scopesOf cells) (rowsIn declarationSection cells)
-        (scope-in declarationSection (omega arith) 0 here);
+        (scope-in declarationSection (omega arith) 0 declared-at);
     together = λ e f m n p q. tt;
   }
 
@@ -150,7 +178,7 @@ module _ (cells : List ℕ) (t : AdmittedTable cells) where
     rules = rules-pass;
     accepted = accepted;
     starts = each (queryOf (rulesOf cells)) (λ (q : Query L). q .start < scopesOf cells) (rowsIn querySection cells)
-        (scope-in querySection (omega arith) 0 here);
+        (scope-in querySection (omega arith) 0 query-start);
     transitions-ascend = ascend transitionOf TransitionBefore transitionSection (omega arith) refl transition-key;
     limits = table-limit cells t;
     labels = rw (length-map (rowsIn labelSection cells) (λ (row : Row). value row 0)) (table-limit cells t labelSection (omega arith));
@@ -162,7 +190,7 @@ module _ (cells : List ℕ) (t : AdmittedTable cells) where
     states = each transitionOf (λ (x : Transition). x .state < 16) (rowsIn transitionSection cells) (state-in transitionSection (omega arith) 0 here);
     accepts = each (λ (row : Row). value row 0) (λ s. s < 16) (rowsIn acceptSection cells) (state-in acceptSection (omega arith) 0 here);
     marks = each asDeclaration (λ (d : Declaration L). d .mark < 65536) (rowsIn declarationSection cells)
-        (mark-in declarationSection (omega arith) 3 (there (there (there (there here)))));
+        (mark-in declarationSection (omega arith) 4 declared-mark);
     open-at = each asOpenPair (λ (o : OpenPair L). o .at < scopesOf cells) (rowsIn openSection cells) (scope-in openSection (omega arith) 0 here);
     open-end = each asOpenPair (λ (o : OpenPair L). EndListed (length (lettersOf cells)) (o .end)) (rowsIn openSection cells)
         (end-in openSection (omega arith) 1 (there (there here)));

@@ -1,5 +1,5 @@
--- The scope graph of document 01's example, computed from its table by the definitions. Assumes
--- nothing.
+-- The scope graph of document 01's example, and of a file with kinds, computed from their tables by
+-- the definitions. Assumes nothing.
 use mathlib.Core.Path.{_≡_, refl}
 use mathlib.Core.List.{[], _∷_}
 use Rattle.scope_graph.specs.Language.{stop, by}
@@ -7,15 +7,15 @@ use Rattle.scope_graph.specs.Rows.{PackedName}
 use Rattle.scope_graph.specs.Order.{endOf}
 use Rattle.graph_file.specs.Decode.{keptIf, rowsAmong, rowsIn, lettersOf, orderPairOf, transitionOf, rulesOf, nameAt, edgeOf, declarationOf, openPairOf, queryOf, scopesOf, graphOf, opensOf, queriesOf}
 use Rattle.graph_file.specs.Accepted.{AcceptedTable}
-use Rattle.graph_file.proofs.Examples.{exampleText, exampleCells, example-read}
+use Rattle.graph_file.proofs.Examples.{exampleText, exampleCells, example-read, kindsText, kindsCells, kinds-read}
 use Rattle.graph_file.proofs.DecodeAccepted.{read-accepted}
 
--- `hours` and `service`
+-- `hours` and `service`, of the kind `v`
 hours : PackedName
-hours = record { high = 7525362636775489536; low = 0 }
+hours = record { kind = 118; high = 7525362636775489536; low = 0 }
 
 service : PackedName
-service = record { high = 8315178139909317888; low = 0 }
+service = record { kind = 118; high = 8315178139909317888; low = 0 }
 
 -- I is label 0, P is label 1
 example-rules : rulesOf exampleCells
@@ -47,3 +47,18 @@ example-queries = refl
 
 example-accepted : AcceptedTable exampleCells
 example-accepted = read-accepted exampleText exampleCells example-read
+
+-- with kinds (02, K8)
+c-hours : PackedName
+c-hours = record { kind = 99; high = 7525362636775489536; low = 0 }
+
+kinds-graph : graphOf kindsCells ≡ record { scopes = 1; edges = []; declarations = record { at = 0; name = c-hours; mark = 1 } ∷ record { at = 0; name = hours; mark = 2 } ∷ [] }
+unfolding hours c-hours keptIf rowsAmong rowsIn nameAt edgeOf declarationOf scopesOf graphOf
+kinds-graph = refl
+
+kinds-queries : queriesOf kindsCells ≡ record { start = 0; name = hours } ∷ record { start = 0; name = c-hours } ∷ []
+unfolding hours c-hours keptIf rowsAmong rowsIn nameAt queryOf queriesOf
+kinds-queries = refl
+
+kinds-accepted : AcceptedTable kindsCells
+kinds-accepted = read-accepted kindsText kindsCells kinds-read

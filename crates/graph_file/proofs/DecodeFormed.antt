@@ -10,8 +10,9 @@ use lib.Dec.{eqb}
 use lib.ListN.{drop}
 use borrow.Author.Tests.{eqb-true}
 use Rattle.scope_graph.specs.Language.{_∈_}
+use Rattle.text_field.specs.Bytes.{within, isLower}
 use Rattle.text_field.specs.Outcome.{done}
-use Rattle.graph_file.specs.Format.{Item, sectionAt, shapeAt}
+use Rattle.graph_file.specs.Format.{Item, plainKind, sectionAt, shapeAt}
 use Rattle.graph_file.specs.Admission.{Row, rowOf}
 use Rattle.graph_file.specs.Line.{itemFormed, formed}
 use Rattle.graph_file.specs.File.{Piece, Stage, afterRow, oneRow, throughRows, afterNames, throughSection, throughSections, whole, cellsFollow, writeNames, writeRow, writing, madeOf, hasForm, formIn, readCells, writeText}
@@ -88,3 +89,8 @@ written-formed j cells text e =
 pub read-formed : (j : ℕ) (text cells : List ℕ) → readCells text ≡ done cells → (row : Row) → row ∈ rowsIn j cells → (i : Item) → i ∈ shapeAt (formIn cells) j .row → itemFormed row i ≡ true
 unfolding formed
 read-formed j text cells e row m i n = item-in (itemFormed row) (shapeAt (formIn cells) j .row) i n (and-left _ _ (written-formed j cells text (read-then-written text cells e) row m))
+
+-- the plain kind is a kind
+pub plain-lower : (v : ℕ) → eqb v plainKind ≡ true → isLower v ≡ true
+unfolding isLower within
+plain-lower v e = rw (eqb-true v plainKind e)

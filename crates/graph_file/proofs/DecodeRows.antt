@@ -13,7 +13,7 @@ use Rattle.scope_graph.specs.Language.{_∈_}
 use Rattle.scope_graph.specs.Path.{Distinct}
 use Rattle.scope_graph.specs.Listing.{Pairwise}
 use Rattle.scope_graph.proofs.Lists.{Two, and-left, and-right, and-both, or-cases, or-left, or-right, true-false, not-is, not-true}
-use Rattle.graph_file.specs.Format.{Content, state, scope, mark, count, letter, label, end, name, Item, byte, field, everyItem, ascending, labels, scopeCount, sections, sectionAt, shapeAt, labelSection, countSection}
+use Rattle.graph_file.specs.Format.{Content, state, scope, mark, count, letter, label, end, name, kind, plain, Item, byte, field, everyItem, ascending, labels, scopeCount, sections, sectionAt, shapeAt, labelSection, countSection}
 use Rattle.graph_file.specs.Admission.{Row, value, Sofar, joined, counted, taken, contentInRange, itemInRange, inRange, keyLess, listed, follows, unless, admission}
 use Rattle.graph_file.proofs.DecodeWay.{takenAll, AdmittedRows}
 
@@ -58,6 +58,8 @@ module _ (a b c d : ℕ) (labels : a ≤ b) (scopes : c ≤ d) where
   content-grows label v h = lt-ltb v b (let l = ltb-true v a h in omega arith)
   content-grows end v h = le-leb v b (let l = leb-true v a h in omega arith)
   content-grows name v h = h
+  content-grows kind v h = h
+  content-grows plain v h = h
 
   item-grows : (row : Row) (i : Item) → itemInRange a c row i ≡ true → itemInRange b d row i ≡ true
   unfolding itemInRange

@@ -10,12 +10,12 @@ use lib.Dec.{ltb}
 use lib.ListN.{length, drop}
 use lib.Seq.{sets, length-sets}
 use borrow.Author.Tests.{ltb-false, eqb-true}
-use Rattle.graph_file.specs.Format.{Item, sectionAt, shapeAt, oldForm}
+use Rattle.graph_file.specs.Format.{Item, sectionAt, shapeAt}
 use Rattle.text_field.specs.Outcome.{Outcome, refused, done, andThen, refuseIf}
 use Rattle.graph_file.specs.Admission.{Row, rowOf, blank, Sofar, nothing, begun, taken, admission}
 use Rattle.graph_file.specs.Line.{Reading, readItem, placeOf, readItems}
 use Rattle.graph_file.specs.Order.{orderFault}
-use Rattle.graph_file.specs.File.{Piece, Way, Stage, ifAdmitted, afterRow, oneRow, throughRows, afterNames, enough, throughSection, isEmpty, throughSections, ordered, atStart, whole, readNames, readRow, reading, readStage, madeOf, readCells, writeNames, cellsFollow, writeRow, writing, hasForm, formIn, writeText}
+use Rattle.graph_file.specs.File.{Piece, Way, Stage, ifAdmitted, afterRow, oneRow, throughRows, afterNames, enough, throughSection, isEmpty, throughSections, ordered, atStart, whole, readNames, readRow, reading, formOf, readStage, madeOf, readCells, writeNames, cellsFollow, writeRow, writing, hasForm, formIn, writeText}
 
 -- what is done was not refused on the way
 pub andThen-done : {A B : Type 0} (o : Outcome A) (next : A → Outcome B) {b : B} → andThen o next ≡ done b → (a : A) × (o ≡ done a) × (next a ≡ done b)
@@ -318,7 +318,7 @@ read-admitted text cells e =
     let c = andThen-done (readStage text) (λ g. done (g .made)) e in
     ⊎-elim (λ x. absurd (let z : _≡_ {A = ℕ} 0 1 = cc in omega arith))
     (λ x.
-    let a = whole-admitted (reading oldForm) Made (reading-tells oldForm) (oldForm ∷ []) text (c .0) (x .1) refl in
+    let a = whole-admitted (reading (formOf text)) Made (reading-tells (formOf text)) (formOf text ∷ []) text (c .0) (x .1) refl in
     rw (sym (a .1) ∙ done-is (c .2)) at (a .3))
     (either-done (ltb 32768 (length text)) _ _ (c .1))
 

@@ -8,27 +8,27 @@ use native.Mathlib.Omega.{arith}
 use lib.Dec.{eqb, leb}
 use lib.ListN.{length, getD, take, drop}
 use lib.Seq.{drop-append-seam}
-use borrow.Author.Tests.{ltb-true, leb-true, le-leb, eqb-true, ne-eqb, not-true}
+use borrow.Author.Tests.{ltb-true, leb-true, le-leb, eqb-true, eq-eqb, ne-eqb, not-true}
 use Rattle.text_field.specs.declared.NumberRead.{NumberRead}
 use Rattle.text_field.specs.declared.NumberRead.the-variants.{Number, NoNumber}
 use Rattle.text_field.specs.declared.NameRead.{NameRead}
 use Rattle.text_field.specs.declared.NameRead.the-variants.{Name, NoName}
-use Rattle.text_field.specs.Bytes.{within, isCapital, isDigit, isNameByte}
+use Rattle.text_field.specs.Bytes.{within, isCapital, isLower, isDigit, isNameByte}
 use Rattle.text_field.specs.Number.{numberText, numberHere, numberMeaning}
 use Rattle.text_field.specs.Name.{nameText, nameHere, isNameCells, nameMeaning}
 use Rattle.text_field.proofs.ByteLaws.{clash, within-bounds}
 use Rattle.text_field.proofs.NumberLaws.{number-back, number-found}
 use Rattle.text_field.proofs.NameLaws.{name-back, name-found}
-use Rattle.graph_file.specs.Format.{Content, state, scope, mark, count, letter, label, end, name, valuesOf}
-use Rattle.text_field.specs.Outcome.{done, andThen}
+use Rattle.graph_file.specs.Format.{Content, state, scope, mark, count, letter, label, end, name, kind, plain, plainKind, valuesOf}
+use Rattle.text_field.specs.Outcome.{Outcome, done, andThen}
 use Rattle.graph_file.specs.Admission.{contentInRange}
 use Rattle.graph_file.specs.Line.{Reading, numberTaken, nameTaken, byteTaken, place, endTaken, first, readField, asByte, endByte, fieldText, fieldFormed}
 use Rattle.text_field.proofs.OutcomeLaws.{done-same, not-done}
 use Rattle.graph_file.proofs.InverseLetters.{Letters, letter-there}
 use Rattle.graph_file.proofs.InverseTable.{closes}
 
--- what a reading of a field of content k tells of the text, for the value v, and w where the field has
--- a second one
+-- what a reading of a field that holds k tells of the text, for the value v, and w where the field
+-- has a second one
 pub record FieldFound (letters : List ℕ) (k : Content) (text : List ℕ) (r : Reading) (v w : ℕ) : Type 0 where
   pub whole : text ≡ fieldText letters k v w ++ r .rest
   pub formed : fieldFormed k v w ≡ true
@@ -39,6 +39,11 @@ unfolding isCapital
 capital-byte x h =
     let p = within-bounds 65 90 x h
     in (omega arith, mod-eq-of-lt (omega arith), ne-eqb x 36 (λ e. omega arith))
+
+-- a lower-case letter is a byte
+pub lower-byte : (x : ℕ) → isLower x ≡ true → asByte x ≡ x
+unfolding isLower
+lower-byte x h = let p = within-bounds 97 122 x h in mod-eq-of-lt (omega arith)
 
 capital-not-zero : isCapital 0 ≡ true → ⊥
 unfolding isCapital within
@@ -80,7 +85,7 @@ end-count letters x text r e = by (eqb x 36) refl
     by true h = byte-count true 0 text r (sym (end-mark letters x text h) ∙ e)
     by false h = byte-count (isCapital x) (suc (place x letters)) text r (sym (end-label letters x text h) ∙ e)
 
--- a field read has as many values as its content
+-- a field read has as many values as it should
 pub field-count : (letters : List ℕ) (k : Content) (text : List ℕ) (r : Reading) → readField letters k text ≡ done r → length (r .values) ≡ valuesOf k
 unfolding readField valuesOf
 field-count letters state text r e = number-count (numberHere text) text r e
@@ -91,6 +96,8 @@ field-count letters letter text r e = byte-count (isCapital (first text)) (first
 field-count letters label text r e = byte-count (isCapital (first text)) (place (first text) letters) text r e
 field-count letters end text r e = end-count letters (first text) text r e
 field-count letters name text r e = name-count (nameHere text) text r e
+field-count letters kind text r e = byte-count (isLower (first text)) (first text) text r e
+field-count letters plain text r e = sym (ap (λ (z : Reading). length (z .values)) (done-same (record { values = plainKind ∷ []; rest = text }) r e))
 
 record NumberFound (text : List ℕ) (r : Reading) (v : ℕ) : Type 0 where
   whole : text ≡ numberText v ++ r .rest
@@ -137,6 +144,31 @@ found-letter letters text r v w e p =
     in let c : isCapital v ≡ true = rw x (f .0)
     in record { whole = front text (f .0) ∙ rw (capital-byte v c .1, x, f .2); formed = c }
 
+-- a kind is the text's first byte, and the plain one is no text
+lower-front : (text : List ℕ) → isLower (first text) ≡ true → text ≡ first text ∷ drop 1 text
+unfolding isLower within
+lower-front [] h = absurd (clash h refl)
+lower-front (x ∷ text) h = refl
+
+found-kind : (letters text : List ℕ) (r : Reading) (v w : ℕ) → byteTaken (isLower (first text)) (first text) text ≡ done r
+    → v ≡ getD (r .values) 0 0 → FieldFound letters kind text r v w
+unfolding fieldText fieldFormed
+found-kind letters text r v w e p =
+    let f = byte-found (isLower (first text)) (first text) text r e
+    in let x : v ≡ first text = p ∙ ap (λ (z : List ℕ). getD z 0 0) (f .1)
+    in let c : isLower v ≡ true = rw x (f .0)
+    in record { whole = lower-front text (f .0) ∙ rw (lower-byte v c, x, f .2); formed = c }
+
+found-plain : (letters text : List ℕ) (r : Reading) (v w : ℕ) → _≡_ {A = Outcome Reading} (done (record { values = plainKind ∷ []; rest = text })) (done r)
+    → v ≡ getD (r .values) 0 0 → FieldFound letters plain text r v w
+unfolding fieldText fieldFormed
+found-plain letters text r v w e p =
+    let q = done-same (record { values = plainKind ∷ []; rest = text }) r e
+    in record {
+      whole = ap (λ (z : Reading). z .rest) q;
+      formed = eq-eqb v plainKind (p ∙ sym (ap (λ (z : Reading). getD (z .values) 0 0) q));
+    }
+
 -- a listed letter is written again as it was read
 listed-byte : (letters : List ℕ) (x : ℕ) → isCapital x ≡ true → place x letters < length letters → asByte (getD letters (place x letters) 0) ≡ x
 listed-byte letters x c h = rw (letter-there x letters h) (capital-byte x c .1)
@@ -180,6 +212,8 @@ field-found letters scopes count text r v w e p q g = let f = found-number (numb
 field-found letters scopes letter text r v w e p q g = found-letter letters text r v w e p
 field-found letters scopes label text r v w e p q g = found-label letters text r v w e p (ltb-true v (length letters) g)
 field-found letters scopes end text r v w e p q g = found-end letters text r v w e p (leb-true v (length letters) g)
+field-found letters scopes kind text r v w e p q g = found-kind letters text r v w e p
+field-found letters scopes plain text r v w e p q g = found-plain letters text r v w e p
 field-found letters scopes name text r v w e p q g = let f = found-name (nameHere text) text r v w refl e p (q refl) in record { whole = f .whole; formed = f .formed }
 
 number-again : (v : ℕ) (rest : List ℕ) → leb v 99999 ≡ true → not (isDigit (first rest)) ≡ true
@@ -221,3 +255,5 @@ module _ (letters : List ℕ) (L : Letters letters) where
   field-again scopes label v w rest f g c = let a = label-again v (ltb-true v (length letters) g) in rw (a .0, a .1)
   field-again scopes end v w rest f g c = end-again v w rest (leb-true v (length letters) g)
   field-again scopes name v w rest f g c = name-again v w rest f c
+  field-again scopes kind v w rest f g c = rw (lower-byte v f, f)
+  field-again scopes plain v w rest f g c = ap (λ (x : ℕ). done (record { values = x ∷ []; rest = rest })) (sym (eqb-true v plainKind f))

@@ -1,28 +1,31 @@
--- The two promises that tie reading and writing together, proved. Assumes nothing.
+-- The promises that tie reading and writing together, and the form to both, proved. Assumes
+-- nothing.
 use Prim.Native.Nat.{ℕ, _≤_}
 use mathlib.Core.Path.{_≡_, refl, sym, ap, _∙_}
 use mathlib.Core.List.{List, [], _∷_}
 use mathlib.Core.Bool.{Bool, true, false}
 use native.Mathlib.Omega.{arith}
-use lib.Dec.{ltb}
+use lib.Dec.{ltb, leb}
 use lib.ListN.{length, drop}
-use borrow.Author.Tests.{eqb-true, leb-true, le-ltb}
+use borrow.Author.Tests.{leb-true, le-ltb}
 use Rattle.text_field.proofs.ByteLaws.{clash}
-use Rattle.graph_file.specs.Format.{oldForm}
+use Rattle.graph_file.specs.Format.{kindForm}
 use Rattle.text_field.specs.Outcome.{Outcome, refused, done, andThen}
-use Rattle.graph_file.specs.File.{Stage, whole, reading, writing, readStage, madeOf, readCells, hasForm, formIn, writeText}
+use Rattle.graph_file.specs.File.{Stage, whole, reading, writing, formOf, readStage, madeOf, readCells, hasForm, formIn, writeText}
 use Rattle.graph_file.specs.Inverse.{ReadThenWritten, WrittenThenRead}
+use Rattle.graph_file.specs.Forms.{FormRead, FormWritten}
 use Rattle.text_field.proofs.OutcomeLaws.{done-same, not-done, went}
 use Rattle.graph_file.proofs.InverseTable.{room, room-enough}
 use Rattle.graph_file.proofs.InverseWays.{whole-back}
 use Rattle.graph_file.proofs.InverseReading.{reading-mirrored}
 use Rattle.graph_file.proofs.InverseWriting.{writing-mirrored, written-fits}
+use Rattle.graph_file.proofs.FormLaws.{form-told, form-known}
 
 stage-long : (text : List ℕ) → ltb 32768 (length text) ≡ true → readStage text ≡ refused 1
 unfolding readStage
 stage-long text h = rw (h, readStage)
 
-stage-short : (text : List ℕ) → ltb 32768 (length text) ≡ false → readStage text ≡ whole (reading oldForm) (oldForm ∷ []) text
+stage-short : (text : List ℕ) → ltb 32768 (length text) ≡ false → readStage text ≡ whole (reading (formOf text)) (formOf text ∷ []) text
 unfolding readStage
 stage-short text h = rw (h, readStage)
 
@@ -39,10 +42,10 @@ unfolding hasForm formIn
 form-first [] h = absurd (clash h refl)
 form-first (x ∷ cells) h = refl
 
-form-known : (cells : List ℕ) → hasForm cells ≡ true → formIn cells ≡ oldForm
+known-form : (cells : List ℕ) → hasForm cells ≡ true → formIn cells ≤ kindForm
 unfolding hasForm formIn
-form-known [] h = absurd (clash h refl)
-form-known (x ∷ cells) h = eqb-true x oldForm h
+known-form [] h = absurd (clash h refl)
+known-form (x ∷ cells) h = leb-true x kindForm h
 
 -- a stage whose product was made
 record Made (o : Outcome Stage) (s : List ℕ) : Type 0 where
@@ -59,25 +62,46 @@ unfolding madeOf andThen
 made-of o g e = rw e
 
 -- a table's cells: their form, and the rows
-cells-written : (rows : List ℕ) → writeText (oldForm ∷ rows) ≡ madeOf (whole (writing oldForm) [] rows)
+cells-written : (form : ℕ) (rows : List ℕ) → leb form kindForm ≡ true → writeText (form ∷ rows) ≡ madeOf (whole (writing form) [] rows)
 unfolding hasForm formIn
-cells-written rows = text-formed (oldForm ∷ rows) refl
+cells-written form rows h = text-formed (form ∷ rows) h
+
+-- A text that was read, in its form: the cells are the form and the rows, which are written as the
+-- text.
+record ReadBack (text cells : List ℕ) : Type 0 where
+  rows : List ℕ
+  cells-are : cells ≡ formOf text ∷ rows
+  written-back : writeText cells ≡ done text
+
+read-back : (text cells : List ℕ) → readCells text ≡ done cells → ReadBack text cells
+unfolding readCells
+read-back text cells e = by (ltb 32768 (length text)) refl (made (readStage text) cells e)
+  where
+    by : (t : Bool) → ltb 32768 (length text) ≡ t → Made (readStage text) cells → ReadBack text cells
+    by true t m = absurd (not-done 1 (m .stage) (sym (stage-long text t) ∙ m .came))
+    by false t m =
+        let form = formOf text
+        in let b = whole-back (reading form) (writing form) (reading-mirrored form) (form ∷ []) text (m .stage) (sym (stage-short text t) ∙ m .came)
+        in let c : cells ≡ form ∷ b .made = sym (m .product) ∙ b .grown
+        in record {
+          rows = b .made;
+          cells-are = c;
+          written-back = ap writeText c ∙ cells-written form (b .made) (form-known text) ∙ made-of (whole (writing form) [] (b .made)) (record { sofar = m .stage .sofar; made = text; rest = [] }) (b .back []);
+        }
 
 -- what was read is written back byte for byte
 pub read-then-written : ReadThenWritten
-unfolding readCells
-read-then-written text cells e = by (ltb 32768 (length text)) refl (made (readStage text) cells e)
-  where
-    by : (t : Bool) → ltb 32768 (length text) ≡ t → Made (readStage text) cells → writeText cells ≡ done text
-    by true t m = absurd (not-done 1 (m .stage) (sym (stage-long text t) ∙ m .came))
-    by false t m =
-        let b = whole-back (reading oldForm) (writing oldForm) (reading-mirrored oldForm) (oldForm ∷ []) text (m .stage) (sym (stage-short text t) ∙ m .came)
-        in ap writeText (sym (m .product) ∙ b .grown) ∙ cells-written (b .made) ∙ made-of (whole (writing oldForm) [] (b .made)) (record { sofar = m .stage .sofar; made = text; rest = [] }) (b .back [])
+read-then-written text cells e = read-back text cells e .written-back
+
+-- a graph has the form of the text that it was read from
+pub form-read : FormRead
+unfolding formIn
+form-read text cells e = ap (λ (l : List ℕ). formIn l) (read-back text cells e .cells-are)
 
 -- What was written goes back whole, and takes no more than the sections' room.
 record Written (cells text : List ℕ) : Type 0 where
   stage : Stage
-  known : hasForm cells ≡ true
+  known : formIn cells ≤ kindForm
   back : whole (reading (formIn cells)) (formIn cells ∷ []) text ≡ done stage
   product : stage .made ≡ cells
   short : length text ≤ room (formIn cells) 9 0
@@ -92,7 +116,7 @@ written cells text e = by (hasForm cells) refl
         in let b = whole-back (writing form) (reading form) (writing-mirrored form) [] (drop 1 cells) (m .stage) (m .came)
         in let z : b .made ≡ text = sym (b .grown) ∙ m .product
         in record {
-          known = t;
+          known = known-form cells t;
           stage = record { sofar = m .stage .sofar; made = form ∷ drop 1 cells; rest = [] };
           back = ap (whole (reading form) (form ∷ [])) (sym z) ∙ b .back (form ∷ []);
           product = sym (form-first cells t);
@@ -104,9 +128,19 @@ written cells text e = by (hasForm cells) refl
 pub written-short : (cells text : List ℕ) → writeText cells ≡ done text → length text ≤ 32768
 written-short cells text e = omega (arith, leb-true (room (formIn cells) 9 0) 32768 (room-enough (formIn cells)), written cells text e .short)
 
+-- a text has the form of the graph that it was written of
+pub form-written : FormWritten
+form-written cells text e =
+    let w = written cells text e
+    in form-told (formIn cells) (formIn cells ∷ []) text (w .stage) (w .known) (w .back)
+
 -- what was written is read back cell for cell
 pub written-then-read : WrittenThenRead
 unfolding readCells
 written-then-read cells text e =
     let w = written cells text e
-    in made-of (readStage text) (w .stage) (stage-short text (le-ltb 32768 (length text) (written-short cells text e)) ∙ ap (λ (f : ℕ). whole (reading f) (f ∷ []) text) (sym (form-known cells (w .known))) ∙ w .back) ∙ ap done (w .product)
+    in made-of (readStage text) (w .stage)
+    (stage-short text (le-ltb 32768 (length text) (written-short cells text e))
+    ∙ ap (λ (f : ℕ). whole (reading f) (f ∷ []) text) (form-written cells text e)
+    ∙ w .back)
+    ∙ ap done (w .product)

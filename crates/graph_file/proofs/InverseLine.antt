@@ -16,7 +16,7 @@ use Rattle.graph_file.specs.Admission.{Row, value, blank, contentInRange
 use Rattle.graph_file.specs.Line.{Reading, first, readField, startsWith, readItem, placeOf, readItems, fieldText, itemText, lineText, itemFormed, sparesPlace, idleZeros, formed}
 use Rattle.text_field.proofs.OutcomeLaws.{done-same, not-done, went}
 use Rattle.graph_file.proofs.InverseLetters.{Letters}
-use Rattle.graph_file.proofs.InverseTable.{closes, bounded, lastPlace, clear, orderly, Clear, field-clear}
+use Rattle.graph_file.proofs.InverseTable.{closes, ends-closes, bounded, lastPlace, clear, orderly, Clear, field-clear}
 use Rattle.graph_file.proofs.InverseField.{field-count, field-found, field-again}
 use Rattle.graph_file.proofs.InversePlaces.{put-values, itemValues, filled, filled-row, idle-all, blank-zero}
 
@@ -110,7 +110,7 @@ closed-by : (letters : List ℕ) (k : Content) (items : List Item) (row : Row) (
 unfolding bounded lineText itemText
 closed-by letters k [] row rest h = absurd (clash h refl)
 closed-by letters k (byte b ∷ items) row rest h = h
-closed-by letters k (field j c ∷ items) row rest h = absurd (clash h refl)
+closed-by letters k (field j c ∷ items) row rest h = ends-closes k _ h
 
 module _ (letters : List ℕ) (L : Letters letters) where
   item-again : (scopes : ℕ) (i : Item) (items : List Item) (row : Row) (rest : List ℕ) → clear i items ≡ true → itemFormed row i ≡ true

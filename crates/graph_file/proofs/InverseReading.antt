@@ -32,11 +32,11 @@ row-written form k letters (a ∷ b ∷ c ∷ d ∷ e ∷ []) t h f = rw (le-ltb
 row-written form k letters (a ∷ b ∷ c ∷ d ∷ e ∷ x ∷ row) t h f = absurd (omega arith)
 
 -- what reading a names line makes and leaves
-record NamesRead (form k : ℕ) (s : List ℕ) (p : Piece) : Type 0 where
-  stands : s ≡ shapeAt form k .names ++ p .rest
-  silent : p .made ≡ []
+pub record NamesRead (form k : ℕ) (s : List ℕ) (p : Piece) : Type 0 where
+  pub stands : s ≡ shapeAt form k .names ++ p .rest
+  pub silent : p .made ≡ []
 
-names-read : (form k : ℕ) (s : List ℕ) (p : Piece) → readNames form k s ≡ done p → NamesRead form k s p
+pub names-read : (form k : ℕ) (s : List ℕ) (p : Piece) → readNames form k s ≡ done p → NamesRead form k s p
 unfolding readNames
 names-read form k s p e =
     let a = went (readItems [] (map byte (shapeAt form k .names)) blank s) (λ r. done (record { row = blank; made = []; rest = r .rest })) p e

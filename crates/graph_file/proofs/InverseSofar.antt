@@ -12,7 +12,7 @@ use Rattle.text_field.specs.Bytes.{isCapital}
 use Rattle.text_field.proofs.ByteLaws.{both}
 use Rattle.text_field.proofs.NumberLaws.{length-below, length-most}
 use Rattle.text_field.proofs.CellLaws.{name-length}
-use Rattle.graph_file.specs.Format.{Content, state, scope, mark, count, letter, label, end, name, Item, byte, field, everyItem, labels, sections, sectionAt, shapesOf, shapeAt, labelSection, countSection}
+use Rattle.graph_file.specs.Format.{Content, state, scope, mark, count, letter, label, end, name, kind, plain, Item, byte, field, everyItem, labels, sections, sectionAt, shapesOf, shapeAt, labelSection, countSection}
 use Rattle.graph_file.specs.Admission.{Row, value, Sofar, nothing, begun, joined, counted, taken, contentInRange, itemInRange, inRange, listed, follows, unless, admission}
 use Rattle.graph_file.specs.Line.{fieldText, itemText, lineText, fieldFormed, itemFormed, idleZeros, formed}
 use Rattle.graph_file.proofs.InverseOutcome.{held}
@@ -90,6 +90,8 @@ field-width letters scopes letter v w h g = omega arith
 field-width letters scopes label v w h g = omega arith
 field-width letters scopes end v w h g = omega arith
 field-width letters scopes name v w h g = name-length v w
+field-width letters scopes kind v w h g = omega arith
+field-width letters scopes plain v w h g = omega arith
 
 pub line-width : (letters : List ℕ) (scopes : ℕ) (items : List Item) (row : Row) → scopes ≤ 64
     → everyItem (itemInRange (length letters) scopes row) items ≡ true → length (lineText letters items row) ≤ longest items

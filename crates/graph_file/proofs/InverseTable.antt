@@ -5,12 +5,12 @@ use mathlib.Core.Path.{_≡_, refl}
 use mathlib.Core.List.{List, [], _∷_, map}
 use mathlib.Core.Bool.{Bool, true, false, not, _&&_}
 use native.Mathlib.Omega.{arith}
-use lib.Dec.{eqb, leb, ltb}
+use lib.Dec.{leb, ltb}
 use lib.ListN.{length, getD}
 use borrow.Author.Tests.{ltb-true}
 use Rattle.text_field.specs.Bytes.{within, isDigit, isLower, isNameByte}
-use Rattle.text_field.proofs.ByteLaws.{both}
-use Rattle.graph_file.specs.Format.{Content, state, scope, mark, count, letter, label, end, name, Item, byte, field, valuesOf, everyItem, Shape, labels, pairs, transitions, accepts, scopeCount, edges, declarations, openPairs, queries, sections, sectionAt, shapesOf, shapeAt}
+use Rattle.text_field.proofs.ByteLaws.{both, clash}
+use Rattle.graph_file.specs.Format.{Content, state, scope, mark, count, letter, label, end, name, kind, plain, Item, byte, field, valuesOf, everyItem, Shape, labels, pairs, transitions, accepts, scopeCount, edges, declarations, openPairs, queries, sections, sectionAt, hasKinds, declarationShape, queryShape, shapesOf, shapeAt}
 use Rattle.graph_file.specs.Line.{sparesPlace}
 
 -- Does the byte end a field of what it holds: could it be no byte of it?
@@ -23,12 +23,40 @@ closes letter b = true
 closes label b = true
 closes end b = true
 closes name b = not (isNameByte b)
+closes kind b = true
+closes plain b = true
 
--- a field is followed by a byte that ends it
+-- Does a field of what it holds end by itself, whatever byte follows?
+unfoldable pub endsItself : Content → Bool
+endsItself state = false
+endsItself scope = false
+endsItself mark = false
+endsItself count = false
+endsItself letter = true
+endsItself label = true
+endsItself end = true
+endsItself name = false
+endsItself kind = true
+endsItself plain = true
+
+pub ends-closes : (k : Content) (b : ℕ) → endsItself k ≡ true → closes k b ≡ true
+unfolding endsItself closes
+ends-closes state b h = absurd (clash h refl)
+ends-closes scope b h = absurd (clash h refl)
+ends-closes mark b h = absurd (clash h refl)
+ends-closes count b h = absurd (clash h refl)
+ends-closes letter b h = refl
+ends-closes label b h = refl
+ends-closes end b h = refl
+ends-closes name b h = absurd (clash h refl)
+ends-closes kind b h = refl
+ends-closes plain b h = refl
+
+-- a field ends by itself, or a byte that ends it follows
 unfoldable pub bounded : Content → List Item → Bool
 bounded k [] = false
 bounded k (byte b ∷ items) = closes k b
-bounded k (field j c ∷ items) = false
+bounded k (field j c ∷ items) = endsItself k
 
 -- the last place that a field fills
 unfoldable pub lastPlace : Content → ℕ → ℕ
@@ -59,11 +87,24 @@ field-clear k c items h =
     in let r = both (everyItem (sparesPlace c) items) (everyItem (sparesPlace (lastPlace k c)) items) (q .1)
     in record { inside = ltb-true (lastPlace k c) 5 (p .0); closed = q .0; spared = r .0; last-spared = r .1 }
 
+-- Has a field of what it holds a text that begins with no lower-case letter?
+unfoldable pub startsField : Content → Bool
+startsField state = true
+startsField scope = true
+startsField mark = true
+startsField count = true
+startsField letter = true
+startsField label = true
+startsField end = true
+startsField name = false
+startsField kind = false
+startsField plain = false
+
 -- a row's line begins with no lower-case letter
 unfoldable pub startsRow : List Item → Bool
 startsRow [] = false
 startsRow (byte b ∷ items) = not (isLower b)
-startsRow (field k c ∷ items) = eqb (valuesOf k) 1
+startsRow (field k c ∷ items) = startsField k
 
 -- how many bytes a field takes at most: states and scopes have two digits, marks five
 unfoldable pub widest : Content → ℕ
@@ -75,6 +116,8 @@ widest letter = 1
 widest label = 1
 widest end = 1
 widest name = 16
+widest kind = 1
+widest plain = 0
 
 unfoldable pub longest : List Item → ℕ
 longest [] = 0
@@ -95,8 +138,10 @@ allFine (s ∷ ss) = fine s && allFine ss
 
 -- the nine sections are as they must be, in a file of any form: by computing
 shapes-fine : (form : ℕ) → allFine (shapesOf form) ≡ true
-unfolding shapesOf allFine fine startsNames startsRow orderly clear lastPlace bounded closes everyItem sparesPlace valuesOf isLower isDigit isNameByte within
-shapes-fine form = refl
+unfolding hasKinds declarationShape queryShape shapesOf allFine fine startsNames startsRow startsField orderly clear lastPlace bounded endsItself closes everyItem sparesPlace valuesOf isLower isDigit isNameByte within
+shapes-fine zero = refl
+shapes-fine (suc zero) = refl
+shapes-fine (suc (suc n)) = refl
 
 at-fine : (ss : List Shape) (d : Shape) (k : ℕ) → allFine ss ≡ true → k < length ss → fine (getD ss k d) ≡ true
 unfolding allFine
@@ -130,8 +175,10 @@ room form (suc left) k = length (shapeAt form k .names) + (sectionAt k .most * l
 
 -- the nine sections' room is within what refusal 1 allows: by computing
 pub room-enough : (form : ℕ) → leb (room form 9 0) 32768 ≡ true
-unfolding labels pairs transitions accepts scopeCount edges declarations openPairs queries sections sectionAt shapesOf shapeAt room longest widest
-room-enough form = refl
+unfolding labels pairs transitions accepts scopeCount edges declarations openPairs queries sections sectionAt hasKinds declarationShape queryShape shapesOf shapeAt room longest widest
+room-enough zero = refl
+room-enough (suc zero) = refl
+room-enough (suc (suc n)) = refl
 
 -- the bytes of a names line are a line that holds no field
 pub bytes-orderly : (bs : List ℕ) → orderly (map byte bs) ≡ true

@@ -13,13 +13,13 @@ use Rattle.text_field.specs.Bytes.{within, isDigit, isCapital, isLower}
 use Rattle.text_field.specs.Number.{numberHere, numberMeaning}
 use Rattle.text_field.proofs.ByteLaws.{clash, within-bounds, within-below, digit-bounds}
 use Rattle.text_field.proofs.NumberLaws.{first-off}
-use Rattle.graph_file.specs.Format.{Content, state, scope, mark, count, letter, label, end, name, Item, byte, field, valuesOf, sectionAt, shapeAt}
+use Rattle.graph_file.specs.Format.{Content, state, scope, mark, count, letter, label, end, name, kind, plain, Item, byte, field, sectionAt, shapeAt}
 use Rattle.text_field.specs.Outcome.{done, andThen, refuseIf}
 use Rattle.graph_file.specs.Admission.{Row, rowOf, blank, Sofar, inRange}
 use Rattle.graph_file.specs.Line.{Reading, numberTaken, byteTaken, place, endTaken, first, readField, readItem, placeOf, readItems, lineText, formed}
 use Rattle.graph_file.specs.File.{Piece, readNames, rowFollows, readRow, reading, writeNames, cellsFollow, writeRow, writing}
 use Rattle.text_field.proofs.OutcomeLaws.{done-same, not-done, went, passed}
-use Rattle.graph_file.proofs.InverseTable.{startsRow, startsNames, longest, room, section-fine}
+use Rattle.graph_file.proofs.InverseTable.{startsField, startsRow, startsNames, longest, room, section-fine}
 use Rattle.graph_file.proofs.InverseField.{end-label}
 use Rattle.graph_file.proofs.InverseLine.{byte-found, line-again}
 use Rattle.graph_file.proofs.InverseNames.{names-again}
@@ -62,9 +62,9 @@ end-starts letters text r e = by (eqb (first text) 36) refl
     by true t = mark-starts text (eqb-true (first text) 36 t)
     by false t = capital-starts (suc (place (first text) letters)) text r (sym (end-label letters (first text) text t) ∙ e)
 
-field-starts : (letters : List ℕ) (k : Content) (text : List ℕ) (r : Reading) → eqb (valuesOf k) 1 ≡ true → readField letters k text ≡ done r
+field-starts : (letters : List ℕ) (k : Content) (text : List ℕ) (r : Reading) → startsField k ≡ true → readField letters k text ≡ done r
     → rowFollows text ≡ true
-unfolding readField valuesOf
+unfolding readField startsField
 field-starts letters state text r h e = number-starts text r e
 field-starts letters scope text r h e = number-starts text r e
 field-starts letters mark text r h e = number-starts text r e
@@ -73,6 +73,8 @@ field-starts letters letter text r h e = capital-starts (first text) text r e
 field-starts letters label text r h e = capital-starts (place (first text) letters) text r e
 field-starts letters end text r h e = end-starts letters text r e
 field-starts letters name text r h e = absurd (clash h refl)
+field-starts letters kind text r h e = absurd (clash h refl)
+field-starts letters plain text r h e = absurd (clash h refl)
 
 -- a text that was read as a row does not begin with a lower-case letter
 row-starts : (letters : List ℕ) (items : List Item) (acc : Row) (text : List ℕ) (r : Reading) → startsRow items ≡ true

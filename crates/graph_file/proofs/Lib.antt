@@ -8,6 +8,7 @@ pub mod TakenLaws
 pub mod StageLaws
 pub mod ReadLaws
 pub mod SectionLaws
+pub mod ReadForm
 pub mod CopyLaws
 pub mod InverseOutcome
 pub mod InverseLetters
@@ -22,12 +23,14 @@ pub mod InverseReading
 pub mod InverseWriting
 pub mod InverseFile
 pub mod PourLaws
+pub mod FormLaws
 pub mod WriteLaws
 pub mod WriteStages
 pub mod WriteText
 pub mod SoughtLaws
 pub mod RoomLaws
 pub mod TableLaws
+pub mod SoughtStart
 pub mod DecodeWay
 pub mod DecodeRows
 pub mod DecodeSections

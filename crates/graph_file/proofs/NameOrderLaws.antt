@@ -1,4 +1,4 @@
--- The key of a declaration row ascends as its scope, name and mark do (specs/NameOrder).
+-- The key of a declaration row ascends as its scope, kind, name and mark do (specs/NameOrder).
 -- Assumes nothing.
 use Prim.Native.Nat.{ℕ, _<_}
 use mathlib.Core.Path.{_≡_, refl, sym, _∙_}
@@ -8,6 +8,7 @@ use mathlib.Core.List.{List, [], _∷_}
 use native.Mathlib.Omega.{arith}
 use lib.Dec.{eqb, ltb}
 use borrow.Author.Tests.{lt-ltb, ltb-true, eq-eqb, eqb-true, ne-eqb}
+use Rattle.text_field.specs.Bytes.{isLower}
 use Rattle.text_field.specs.Name.{isNameCells, nameBefore, cellsBefore}
 use Rattle.text_field.proofs.NameLaws.{cells-equal}
 use Rattle.text_field.proofs.OrderLaws.{cells-ordered}
@@ -15,16 +16,16 @@ use Rattle.scope_graph.specs.Language.{_∈_}
 use Rattle.scope_graph.specs.Listing.{Pairwise}
 use Rattle.text_field.specs.Outcome.{done}
 use Rattle.scope_graph.proofs.Lists.{here, there, and-both, or-left, or-right}
-use Rattle.graph_file.specs.Format.{name, field, sections, sectionAt, declarations, shapesOf, shapeAt, declarationSection}
+use Rattle.graph_file.specs.Format.{name, kind, plain, Item, field, sections, sectionAt, declarations, hasKinds, declarationShape, shapesOf, shapeAt, declarationSection}
 use Rattle.graph_file.specs.Admission.{Row, value, keyLess}
 use Rattle.graph_file.specs.Line.{itemFormed, fieldFormed}
-use Rattle.graph_file.specs.File.{readCells}
+use Rattle.graph_file.specs.File.{formIn, readCells}
 use Rattle.graph_file.specs.Decode.{rowsIn}
-use Rattle.graph_file.specs.NameOrder.{nameIn, DeclaredBefore, DeclarationsAscend, ReadDeclarationsAscend}
+use Rattle.graph_file.specs.NameOrder.{nameIn, NamedBefore, DeclaredBefore, DeclarationsAscend, ReadDeclarationsAscend}
 use Rattle.graph_file.proofs.DecodeWay.{read-admitted}
 use Rattle.graph_file.proofs.DecodeRows.{KeyBefore, key-before}
 use Rattle.graph_file.proofs.DecodeTable.{table-ascends}
-use Rattle.graph_file.proofs.DecodeFormed.{read-formed}
+use Rattle.graph_file.proofs.DecodeFormed.{read-formed, plain-lower}
 
 -- what is before by the key passes the test
 before-key : (key : List ℕ) (a b : Row) → KeyBefore key a b → keyLess key a b ≡ true
@@ -50,51 +51,79 @@ cells-less h l h′ l′ e = by (eqb h h′) refl e
     by true t f = inr (eqb-true h h′ t, ltb-true l l′ f)
     by false t f = inl (ltb-true h h′ f)
 
-module _ (a b : Row) (named : isNameCells (value a 1) (value a 2) ≡ true) (named′ : isNameCells (value b 1) (value b 2) ≡ true) where
-  abbrev Key : Type 0
-  Key = KeyBefore (0 ∷ 1 ∷ 2 ∷ 3 ∷ []) a b
+module _ (a b : Row) (named : isNameCells (value a 2) (value a 3) ≡ true) (named′ : isNameCells (value b 2) (value b 3) ≡ true) where
+  -- behind scope and kind: the name's cells and the mark
+  abbrev NameKey : Type 0
+  NameKey = KeyBefore (2 ∷ 3 ∷ 4 ∷ []) a b
 
-  names-less : CellsLess (value a 1) (value a 2) (value b 1) (value b 2) → nameBefore (nameIn a) (nameIn b) ≡ true
+  names-less : CellsLess (value a 2) (value a 3) (value b 2) (value b 3) → nameBefore (nameIn a) (nameIn b) ≡ true
   unfolding nameIn
   names-less h = sym (cells-ordered _ _ _ _ named named′) ∙ cells-before _ _ _ _ h
 
-  declared : Key → DeclaredBefore a b
+  named-before : NameKey → NamedBefore a b
   unfolding nameIn
-  declared (inl h) = inl h
-  declared (inr (e, inl h)) = inr (e, inl (names-less (inl h)))
-  declared (inr (e, inr (f, inl h))) = inr (e, inl (names-less (inr (f, h))))
-  declared (inr (e, inr (f, inr (g, inl h)))) = inr (e, inr (rw (f, g), h))
-  declared (inr (e, inr (f, inr (g, inr h)))) = absurd (h .1)
+  named-before (inl h) = inl (names-less (inl h))
+  named-before (inr (f, inl h)) = inl (names-less (inr (f, h)))
+  named-before (inr (f, inr (g, inl h))) = inr (rw (f, g), h)
+  named-before (inr (f, inr (g, inr h))) = absurd (h .1)
 
-  by-key : DeclaredBefore a b → Key
+  name-key : NamedBefore a b → NameKey
   unfolding nameIn
-  by-key (inl h) = inl h
-  by-key (inr (e, inl n)) = inr (e, within (cells-less _ _ _ _ (cells-ordered _ _ _ _ named named′ ∙ n)))
+  name-key (inl n) = within (cells-less _ _ _ _ (cells-ordered _ _ _ _ named named′ ∙ n))
     where
-      within : CellsLess (value a 1) (value a 2) (value b 1) (value b 2) → KeyBefore (1 ∷ 2 ∷ 3 ∷ []) a b
+      within : CellsLess (value a 2) (value a 3) (value b 2) (value b 3) → NameKey
       within (inl h) = inl h
       within (inr h) = inr (h .0, inl (h .1))
-  by-key (inr (e, inr (s, m))) = let c = cells-equal _ _ _ _ named named′ s in inr (e, inr (c .0, inr (c .1, inl m)))
+  name-key (inr (s, m)) = let c = cells-equal _ _ _ _ named named′ s in inr (c .0, inr (c .1, inl m))
+
+  abbrev Key : Type 0
+  Key = KeyBefore (0 ∷ 1 ∷ 2 ∷ 3 ∷ 4 ∷ []) a b
+
+  declared : Key → DeclaredBefore a b
+  declared (inl h) = inl h
+  declared (inr (e, inl h)) = inr (e, inl h)
+  declared (inr (e, inr (f, h))) = inr (e, inr (f, named-before h))
+
+  by-key : DeclaredBefore a b → Key
+  by-key (inl h) = inl h
+  by-key (inr (e, inl h)) = inr (e, inl h)
+  by-key (inr (e, inr (f, h))) = inr (e, inr (f, name-key h))
 
 pub declarations-ascend : DeclarationsAscend
 unfolding sectionAt sections declarations
 declarations-ascend a b named named′ =
-    (λ h. declared a b named named′ (key-before (0 ∷ 1 ∷ 2 ∷ 3 ∷ []) a b h), λ h. before-key (0 ∷ 1 ∷ 2 ∷ 3 ∷ []) a b (by-key a b named named′ h))
+    (λ h. declared a b named named′ (key-before (0 ∷ 1 ∷ 2 ∷ 3 ∷ 4 ∷ []) a b h), λ h. before-key (0 ∷ 1 ∷ 2 ∷ 3 ∷ 4 ∷ []) a b (by-key a b named named′ h))
 
 -- rows with names that ascend by the key
-all-declared : (rows : List Row) → ((row : Row) → row ∈ rows → isNameCells (value row 1) (value row 2) ≡ true) → Pairwise (KeyBefore (0 ∷ 1 ∷ 2 ∷ 3 ∷ [])) rows
+all-declared : (rows : List Row) → ((row : Row) → row ∈ rows → isNameCells (value row 2) (value row 3) ≡ true) → Pairwise (KeyBefore (0 ∷ 1 ∷ 2 ∷ 3 ∷ 4 ∷ [])) rows
     → Pairwise DeclaredBefore rows
 all-declared [] n p = tt
 all-declared (row ∷ rows) n p =
     ((λ later m. declared row later (n row here) (n later (there m)) (p .0 later m)), all-declared rows (λ later m. n later (there m)) (p .1))
 
-names-read : (text cells : List ℕ) → readCells text ≡ done cells → (row : Row) → row ∈ rowsIn declarationSection cells → isNameCells (value row 1) (value row 2) ≡ true
-unfolding shapeAt shapesOf itemFormed fieldFormed
-names-read text cells e row m = read-formed declarationSection text cells e row m (field name 1) (there (there here))
+-- what a line's items say of the kind and of the name, in either form
+kind-formed : (t : Bool) (row : Row) → ((i : Item) → i ∈ declarationShape t .row → itemFormed row i ≡ true) → isLower (value row 1) ≡ true
+unfolding declarationShape itemFormed fieldFormed
+kind-formed true row h = h (field kind 1) (there (there here))
+kind-formed false row h = plain-lower (value row 1) (h (field plain 1) (there (there here)))
+
+name-formed : (t : Bool) (row : Row) → ((i : Item) → i ∈ declarationShape t .row → itemFormed row i ≡ true) → isNameCells (value row 2) (value row 3) ≡ true
+unfolding declarationShape itemFormed fieldFormed
+name-formed true row h = h (field name 2) (there (there (there (there here))))
+name-formed false row h = h (field name 2) (there (there (there here)))
+
+kinds-read : (text cells : List ℕ) → readCells text ≡ done cells → (row : Row) → row ∈ rowsIn declarationSection cells → isLower (value row 1) ≡ true
+unfolding shapeAt shapesOf
+kinds-read text cells e row m = kind-formed (hasKinds (formIn cells)) row (read-formed declarationSection text cells e row m)
+
+names-read : (text cells : List ℕ) → readCells text ≡ done cells → (row : Row) → row ∈ rowsIn declarationSection cells → isNameCells (value row 2) (value row 3) ≡ true
+unfolding shapeAt shapesOf
+names-read text cells e row m = name-formed (hasKinds (formIn cells)) row (read-formed declarationSection text cells e row m)
 
 pub read-declarations-ascend : ReadDeclarationsAscend
 unfolding sectionAt sections declarations
 read-declarations-ascend text cells e = record {
+  kinds = kinds-read text cells e;
   names = names-read text cells e;
   ascend = all-declared (rowsIn declarationSection cells) (names-read text cells e)
       (table-ascends cells (read-admitted text cells e) declarationSection (omega arith) refl);

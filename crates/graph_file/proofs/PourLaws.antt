@@ -11,7 +11,7 @@ use Rattle.graph_file.specs.Format.{sectionAt}
 use Rattle.text_field.specs.Outcome.{Outcome, refused, done, andThen, refuseIf}
 use Rattle.graph_file.specs.Admission.{begun, taken, admission}
 use Rattle.graph_file.specs.Order.{orderFault}
-use Rattle.graph_file.specs.File.{Piece, Way, Stage, ifAdmitted, afterRow, oneRow, throughRows, afterNames, enough, throughSection, isEmpty, throughSections, ordered}
+use Rattle.graph_file.specs.File.{Piece, Way, Stage, ifAdmitted, afterRow, oneRow, throughRows, afterNames, enough, throughSection, isEmpty, throughSections, throughSome, ordered}
 use Rattle.graph_file.specs.Writer.{stageFrom, poured, pour}
 
 -- the stage with more made before it
@@ -94,6 +94,11 @@ pub onward-sections : (w : Way) (left k : ℕ) → Onward (throughSections w lef
 unfolding throughSections after
 onward-sections w zero k m g = refuse-mapped (not (isEmpty (g .rest))) 2 m g
 onward-sections w (suc left) k m g = onward-then (throughSection w k) (throughSections w left (suc k)) (onward-section w k) (onward-sections w left (suc k)) m g
+
+pub onward-some : (w : Way) (left k : ℕ) → Onward (throughSome w left k)
+unfolding throughSome mapped andThen
+onward-some w zero k m g = refl
+onward-some w (suc left) k m g = onward-then (throughSection w k) (throughSome w left (suc k)) (onward-section w k) (onward-some w left (suc k)) m g
 
 pub onward-ordered : Onward ordered
 unfolding ordered after

@@ -14,13 +14,13 @@ use Rattle.text_field.specs.declared.NumberRead.{NumberRead}
 use Rattle.text_field.specs.declared.NumberRead.the-variants.{Number, NoNumber}
 use Rattle.text_field.specs.declared.NameRead.{NameRead}
 use Rattle.text_field.specs.declared.NameRead.the-variants.{Name, NoName}
-use Rattle.text_field.specs.Bytes.{isCapital}
+use Rattle.text_field.specs.Bytes.{isCapital, isLower}
 use Rattle.text_field.specs.Number.{numberMeaning, numberHere}
 use Rattle.text_field.specs.Name.{nameMeaning, nameHere}
 use Rattle.text_field.specs.Outcome.{done, andThen}
 use Rattle.text_field.proofs.OutcomeLaws.{done-same, not-done}
 use Rattle.graph_file.specs.declared.rows.Counts.{Counts}
-use Rattle.graph_file.specs.Format.{Content, state, scope, mark, count, letter, label, end, name, Item, byte, field, sectionAt, shapesOf, shapeAt, ownCells}
+use Rattle.graph_file.specs.Format.{Content, state, scope, mark, count, letter, label, end, name, kind, plain, Item, byte, field, hasKinds, declarationShape, queryShape, sectionAt, shapesOf, shapeAt, ownCells}
 use Rattle.graph_file.specs.Admission.{Row, blank, begun, taken}
 use Rattle.graph_file.specs.Line.{Reading, numberTaken, nameTaken, byteTaken, place, endTaken, first, readField, startsWith, readItem, placeOf, readItems}
 use Rattle.graph_file.specs.File.{Piece, Stage, afterRow, oneRow, throughRows, afterNames, throughSection, readNames, readRow, reading}
@@ -74,6 +74,8 @@ field-later letters letter text r e = byte-later (isCapital (first text)) (first
 field-later letters label text r e = byte-later (isCapital (first text)) (place (first text) letters) text r e
 field-later letters end text r e = end-later letters (first text) text r e
 field-later letters name text r e = name-later (nameHere text) text r e
+field-later letters kind text r e = byte-later (isLower (first text)) (first text) text r e
+field-later letters plain text r e = (0, ap (λ (z : Reading). z .rest) (done-same _ r e))
 
 -- how many ends of line stand among the items
 itemEnds : Item → ℕ
@@ -114,7 +116,17 @@ items-lines letters (i ∷ items) row text r e =
     let g = items-lines letters items (sets row (placeOf i) (s .0 .values)) (s .0 .rest) r (s .2) in
     omega arith
 
--- each section's row ends its line
+-- each section's row ends its line, in both forms
+declaration-ends : (kinds : Bool) → lineEnds (declarationShape kinds .row) ≡ 1
+unfolding lineEnds itemEnds lineCount declarationShape
+declaration-ends true = refl
+declaration-ends false = refl
+
+query-ends : (kinds : Bool) → lineEnds (queryShape kinds .row) ≡ 1
+unfolding lineEnds itemEnds lineCount queryShape
+query-ends true = refl
+query-ends false = refl
+
 row-ends : (f k : ℕ) → lineEnds (shapeAt f k .row) ≡ 1
 unfolding lineEnds itemEnds lineCount shapesOf shapeAt
 row-ends f zero = refl
@@ -123,9 +135,9 @@ row-ends f (suc (suc zero)) = refl
 row-ends f (suc (suc (suc zero))) = refl
 row-ends f (suc (suc (suc (suc zero)))) = refl
 row-ends f (suc (suc (suc (suc (suc zero))))) = refl
-row-ends f (suc (suc (suc (suc (suc (suc zero)))))) = refl
+row-ends f (suc (suc (suc (suc (suc (suc zero)))))) = declaration-ends (hasKinds f)
 row-ends f (suc (suc (suc (suc (suc (suc (suc zero))))))) = refl
-row-ends f (suc (suc (suc (suc (suc (suc (suc (suc zero)))))))) = refl
+row-ends f (suc (suc (suc (suc (suc (suc (suc (suc zero)))))))) = query-ends (hasKinds f)
 row-ends f (suc (suc (suc (suc (suc (suc (suc (suc (suc k))))))))) = refl
 
 names-lines : (f k : ℕ) (text : List ℕ) (p : Piece) → readNames f k text ≡ done p → lineCount (p .rest) ≤ lineCount text
@@ -203,6 +215,10 @@ room-section k n old size text at room e h b l =
     (λ a. inl (omega (arith, room-next k, room-below (k + 1) (omega arith))))
     (λ a. inr (let f : lineCount (take (length text - at) (drop at text)) ≡ lineCount (drop at text) = ap lineCount (part-is text at) in omega arith))
     room
+
+-- room is a matter of the table's size alone
+pub room-same : (text : List ℕ) (old size : ℕ) → TextRoom text old → size ≡ old → TextRoom text size
+room-same text old size room e = ⊎-elim (λ a. inl (omega arith)) (λ a. inr (omega arith)) room
 
 -- a table with room has its first cell
 pub room-first : (text : List ℕ) (size : ℕ) → TextRoom text size → 0 < size

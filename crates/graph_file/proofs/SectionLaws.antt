@@ -1,6 +1,6 @@
 -- Laws of reading a section, and the sections one after the other. Assumes nothing.
 use Prim.Native.Nat.{ℕ, zero, suc, _+_, _-_, _*_, _≤_, _<_}
-use mathlib.Core.Path.{_≡_, refl, sym, ap, _∙_}
+use mathlib.Core.Path.{_≡_, refl, sym, ap, subst, _∙_}
 use mathlib.Core.List.{List, [], _∷_, _++_, map, append-nil}
 use mathlib.Core.Bool.{Bool, true, false, not}
 use native.Mathlib.Omega.{arith}
@@ -11,15 +11,15 @@ use lib.ListN.{length, getD, take, drop, set, drop-of-length-le, length-drop}
 use lib.Seq.{take-all, drop-drop}
 use Rattle.graph_file.specs.declared.line.Line.{Line}
 use Rattle.graph_file.specs.declared.rows.Counts.{Counts}
-use Rattle.graph_file.specs.declared.reader.Part.{Part}
+use Rattle.graph_file.specs.declared.rows.Part.{Part}
 use Rattle.graph_file.specs.Format.{Item, byte, oldForm, labels, pairs, transitions, accepts, scopeCount, edges, declarations, openPairs, queries, pastLast, sections, sectionAt, shapeAt}
 use Rattle.text_field.specs.Outcome.{Outcome, refused, done, andThen, refuseIf}
 use Rattle.graph_file.specs.Admission.{Row, blank, Sofar, nothing, begun}
 use Rattle.graph_file.specs.Line.{Reading, readItems}
-use Rattle.graph_file.specs.File.{Piece, Way, Stage, throughRows, afterNames, enough, throughSection, isEmpty, throughSections, atStart, ordered, whole, readNames, reading, readStage}
+use Rattle.graph_file.specs.File.{Piece, Way, Stage, throughRows, afterNames, enough, throughSection, isEmpty, throughSections, throughSome, atStart, ordered, whole, readNames, reading, formOf, readStage}
 use Rattle.graph_file.specs.Order.{orderFault}
 use Rattle.graph_file.specs.Table.{itemsAt, namesPlace, rowsAt, lettersAt, pairsAt, lastAt, sofarAt}
-use Rattle.graph_file.specs.Reader.{lineOutcome, stageAt, refusedOr, partOutcome, Placed, RowsTaken, SectionTaken, roomBefore}
+use Rattle.graph_file.specs.Reader.{lineOutcome, stageAt, refusedOr, partOutcome, Placed, RowsTaken, SectionTaken, SomeTaken, roomBefore}
 use Rattle.graph_file.proofs.FormatLaws.{names-items}
 use Rattle.graph_file.proofs.LineLaws.{outcome-ok, outcome-not}
 use Rattle.graph_file.proofs.ReadLaws.{part-refused, part-done}
@@ -88,6 +88,26 @@ pub sections-left : (w : Way) (k : ℕ) (g : Stage) → 9 ≤ k → (x : ℕ) (x
 unfolding throughSections refuseIf isEmpty
 sections-left w k g h x xs e = let z : 9 - k ≡ 0 = omega arith in rw (z, throughSections, e)
 
+-- some sections one after the other, up to section `last`
+module _ (w : Way) (k left : ℕ) (g : Stage) where
+  pub some-refused : (n : ℕ) → throughSection w k g ≡ refused n → throughSome w (suc left) k g ≡ refused n
+  unfolding throughSome andThen
+  some-refused n e = rw e
+
+  pub some-next : (h : Stage) → throughSection w k g ≡ done h → throughSome w left (k + 1) h ≡ throughSome w (suc left) k g
+  unfolding throughSome andThen
+  some-next h e = sym (rw (e, add-one k))
+
+pub some-more : (w : Way) (k last : ℕ) (g : Stage) → k < last → throughSome w (last - k) k g ≡ throughSome w (suc (last - (k + 1))) k g
+some-more w k last g h = let e : last - k ≡ suc (last - (k + 1)) = omega arith in rw e
+
+pub some-over : (w : Way) (k last : ℕ) (g : Stage) → last ≤ k → throughSome w (last - k) k g ≡ done g
+unfolding throughSome
+some-over w k last g h = let z : last - k ≡ 0 = omega arith in rw (z, throughSome)
+
+pub some-taken : (k last : ℕ) (text : List ℕ) (r : Part) → k ≡ last → SomeTaken k text r → SomeTaken last text r
+some-taken k last text r e s = subst (λ (j : ℕ). SomeTaken j text r) e s
+
 -- the counts fit the next section
 pub placed-next : (k n : ℕ) (c : Counts) → Placed k n c → Placed (k + 1) n c
 placed-next k n c p = record { early = λ h. p .early (omega arith); first = λ h. absurd (omega arith); within = p .within; rowed = p .rowed }
@@ -138,7 +158,7 @@ pub whole-long : (text : List ℕ) → 32768 < length text → refused 1 ≡ rea
 unfolding readStage
 whole-long text h = sym (rw (lt-ltb 32768 (length text) h, readStage))
 
-module _ (text u : List ℕ) (short : length text ≤ 32768) (r : Part) (h : partOutcome r u text ≡ throughSections (reading oldForm) 9 0 (atStart (oldForm ∷ []) text)) where
+module _ (text u : List ℕ) (short : length text ≤ 32768) (r : Part) (h : partOutcome r u text ≡ throughSections (reading (formOf text)) 9 0 (atStart (formOf text ∷ []) text)) where
   whole-is : readStage text ≡ andThen (partOutcome r u text) ordered
   unfolding readStage whole
   whole-is = rw (le-ltb 32768 (length text) short, readStage, h)

@@ -2,7 +2,7 @@
 -- where there is no such query (specs/Sought). Assumes nothing.
 use Prim.Native.Nat.{ℕ, zero, suc, _+_, _-_, _≤_, _<_}
 use mathlib.Core.Path.{_≡_, refl, sym, ap, _∙_}
-use mathlib.Core.Bool.{true}
+use mathlib.Core.Bool.{Bool, true, false}
 use mathlib.Core.List.{List, [], _∷_, _++_, map, append-assoc}
 use native.Mathlib.Omega.{arith}
 use lib.ListN.{length, getD, take, drop, length-append, length-map}
@@ -13,22 +13,27 @@ use Rattle.text_field.specs.Number.{numberText, numberMeaning}
 use Rattle.text_field.specs.Name.{nameText, isNameCells, nameHere}
 use Rattle.text_field.proofs.NumberLaws.{number-back}
 use Rattle.text_field.proofs.NameLaws.{name-back, cells-name}
-use Rattle.graph_file.specs.Format.{valuesOf, shapesOf, shapeAt, oldForm, querySection}
+use Rattle.graph_file.specs.Format.{valuesOf, hasKinds, queryShape, shapesOf, shapeAt, querySection}
 use Rattle.text_field.specs.Outcome.{Outcome, refused, done, andThen}
 use Rattle.graph_file.specs.Admission.{Row, value, blank}
-use Rattle.graph_file.specs.Line.{numberTaken, readField, startsWith, readItem}
-use Rattle.graph_file.specs.File.{Stage, readStage, madeOf, formIn, readCells}
+use Rattle.graph_file.specs.Line.{numberTaken, byteTaken, readField, startsWith, readItem}
+use Rattle.graph_file.specs.File.{Stage, formOf, readStage, madeOf, formIn, readCells}
 use Rattle.graph_file.specs.Decode.{rulesOf, nameAt, queryOf, rowsIn, queriesOf}
 use Rattle.graph_file.specs.NameSought.{afterLines, lineCount, namePart, restOf, isNameField, fromName, queryFrom, fromWithin, fromSought, nameFront, nameSought, placeFrom, placeSought}
-use Rattle.graph_file.specs.Sought.{TableQuery, seekText, queryLines, beforeLine, SoughtIn, SoughtRight, NothingSought, SoughtNone}
+use Rattle.graph_file.specs.Sought.{TableQuery, shownKind, seekText, kindText, queryLines, beforeLine, SoughtIn, SoughtRight, NothingSought, SoughtNone}
+use Rattle.graph_file.proofs.InverseFile.{form-read}
 use Rattle.graph_file.proofs.SoughtLaws.{nowhere}
-use Rattle.graph_file.proofs.SoughtLines.{count-append, Ended, ended-line, ended-append, rowLine, rowLines, Named, AllNamed, named-apart, lines-append, line-then, lines-ended, lines-count}
+use Rattle.graph_file.proofs.SoughtLines.{count-append, Ended, ended-line, ended-append, between, rowLine, rowLines, Named, AllNamed, named-apart, lines-append, line-then, lines-ended, lines-count}
 use Rattle.graph_file.proofs.SoughtRows.{QueriesRead, queries-read}
 
--- in a query's line the name comes behind the scope's number and the space
-after-scope : (form v : ℕ) (u : List ℕ) → v ≤ 99999 → fromName (shapeAt form querySection .row) (numberText v ++ (32 ∷ u)) ≡ u
-unfolding fromName isNameField valuesOf restOf readItem readField numberTaken numberMeaning andThen startsWith shapeAt shapesOf isDigit within
-after-scope form v u h = rw (number-back v (32 ∷ u) h refl, drop-append-seam (numberText v) (32 ∷ u))
+-- in a query's line the name comes behind the scope's number, the space and the kind if it is shown
+after-scope : (form : ℕ) (row : Row) (u : List ℕ) → Named row → fromName (shapeAt form querySection .row) (numberText (value row 0) ++ (between (hasKinds form) row ++ u)) ≡ u
+unfolding fromName isNameField valuesOf restOf readItem readField numberTaken numberMeaning byteTaken andThen startsWith queryShape shapeAt shapesOf between shownKind isDigit within
+after-scope form row u h = by (hasKinds form)
+  where
+    by : (t : Bool) → fromName (queryShape t .row) (numberText (value row 0) ++ (between t row ++ u)) ≡ u
+    by true = rw (number-back (value row 0) (32 ∷ value row 1 ∷ 32 ∷ u) (h .scope) refl, drop-append-seam (numberText (value row 0)) (32 ∷ value row 1 ∷ 32 ∷ u), h .kind)
+    by false = rw (number-back (value row 0) (32 ∷ u) (h .scope) refl, drop-append-seam (numberText (value row 0)) (32 ∷ u))
 
 name-first : (high low : ℕ) (s : List ℕ) → isNameCells high low ≡ true → nameFront (nameText high low ++ (10 ∷ s)) ≡ nameText high low
 unfolding nameFront namePart isNameByte isLower isDigit within
@@ -36,56 +41,72 @@ name-first high low s h = rw (name-back high low (10 ∷ s) h refl) (take-at (na
 
 -- the names line ends with LF
 names-ended : (form : ℕ) (above : List ℕ) → Ended (above ++ shapeAt form querySection .names)
-unfolding shapeAt shapesOf
-names-ended form above n t =
-    let begin : List ℕ = 115 ∷ 116 ∷ 97 ∷ 114 ∷ 116 ∷ 32 ∷ 115 ∷ 101 ∷ 101 ∷ 107 ∷ [] in
-    let e : (above ++ begin) ++ (10 ∷ []) ≡ above ++ (begin ++ (10 ∷ [])) = append-assoc above begin (10 ∷ []) in
-    ap (λ (s : List ℕ). afterLines (lineCount s + n) (s ++ t)) (sym e) ∙ ended-line (above ++ begin) n t
+unfolding queryShape shapeAt shapesOf
+names-ended form above n t = by (hasKinds form)
+  where
+    line : (begin : List ℕ) → afterLines (lineCount (above ++ (begin ++ (10 ∷ []))) + n) ((above ++ (begin ++ (10 ∷ []))) ++ t) ≡ afterLines n t
+    line begin =
+        let e : (above ++ begin) ++ (10 ∷ []) ≡ above ++ (begin ++ (10 ∷ [])) = append-assoc above begin (10 ∷ []) in
+        ap (λ (s : List ℕ). afterLines (lineCount s + n) (s ++ t)) (sym e) ∙ ended-line (above ++ begin) n t
+
+    by : (k : Bool) → afterLines (lineCount (above ++ queryShape k .names) + n) ((above ++ queryShape k .names) ++ t) ≡ afterLines n t
+    by true = line (115 ∷ 116 ∷ 97 ∷ 114 ∷ 116 ∷ 32 ∷ 107 ∷ 105 ∷ 110 ∷ 100 ∷ 32 ∷ 115 ∷ 101 ∷ 101 ∷ 107 ∷ [])
+    by false = line (115 ∷ 116 ∷ 97 ∷ 114 ∷ 116 ∷ 32 ∷ 115 ∷ 101 ∷ 101 ∷ 107 ∷ [])
 
 -- the lines of rows a, of one row, and of rows b, behind a part that ends with its last line
 module _ (form : ℕ) (base : List ℕ) (ended : Ended base) (a : List Row) (row : Row) (b : List Row) (named : AllNamed (a ++ (row ∷ b))) where
+  abbrev lines : List Row → List ℕ
+  lines rows = rowLines (hasKinds form) rows
+
+  abbrev all : List Row
+  all = a ++ (row ∷ b)
+
   abbrev front : List ℕ
-  front = base ++ rowLines a
+  front = base ++ lines a
+
+  abbrev mid : List ℕ
+  mid = between (hasKinds form) row
 
   abbrev last : List ℕ
-  last = nameText (value row 1) (value row 2) ++ (10 ∷ rowLines b)
+  last = nameText (value row 2) (value row 3) ++ (10 ∷ lines b)
 
-  lines-split : base ++ rowLines (a ++ (row ∷ b)) ≡ front ++ (rowLine row ++ rowLines b)
+  lines-split : base ++ lines all ≡ front ++ (rowLine (hasKinds form) row ++ lines b)
   unfolding rowLines
-  lines-split = ap (λ (s : List ℕ). base ++ s) (lines-append a (row ∷ b)) ∙ sym (append-assoc base (rowLines a) (rowLine row ++ rowLines b))
+  lines-split = ap (λ (s : List ℕ). base ++ s) (lines-append (hasKinds form) a (row ∷ b)) ∙ sym (append-assoc base (lines a) (rowLine (hasKinds form) row ++ lines b))
 
-  line-there : base ++ rowLines (a ++ (row ∷ b)) ≡ front ++ (numberText (value row 0) ++ (32 ∷ last))
-  line-there = lines-split ∙ ap (λ (s : List ℕ). front ++ s) (line-then row (rowLines b))
+  line-there : base ++ lines all ≡ front ++ (numberText (value row 0) ++ (mid ++ last))
+  line-there = lines-split ∙ ap (λ (s : List ℕ). front ++ s) (line-then (hasKinds form) row (lines b))
 
   -- counted from the end
-  counted : lineCount (base ++ rowLines (a ++ (row ∷ b))) - length (a ++ (row ∷ b)) + length a ≡ lineCount front + 0
+  counted : lineCount (base ++ lines all) - length all + length a ≡ lineCount front + 0
   counted =
-      omega (arith, count-append base (rowLines (a ++ (row ∷ b))), lines-count (a ++ (row ∷ b)) named, count-append base (rowLines a), lines-count a (named-apart a (row ∷ b) named .0))
+      omega (arith, count-append base (lines all), lines-count (hasKinds form) all named, count-append base (lines a), lines-count (hasKinds form) a (named-apart a (row ∷ b) named .0))
 
-  line-found : afterLines (lineCount (base ++ rowLines (a ++ (row ∷ b))) - length (a ++ (row ∷ b)) + length a) (base ++ rowLines (a ++ (row ∷ b))) ≡ numberText (value row 0) ++ (32 ∷ last)
+  line-found : afterLines (lineCount (base ++ lines all) - length all + length a) (base ++ lines all) ≡ numberText (value row 0) ++ (mid ++ last)
   unfolding afterLines
   line-found =
-      ap (λ (n : ℕ). afterLines n (base ++ rowLines (a ++ (row ∷ b)))) counted
+      ap (λ (n : ℕ). afterLines n (base ++ lines all)) counted
       ∙ ap (afterLines (lineCount front + 0)) line-there
-      ∙ ended-append base (rowLines a) ended (lines-ended a) 0 (numberText (value row 0) ++ (32 ∷ last))
+      ∙ ended-append base (lines a) ended (lines-ended (hasKinds form) a) 0 (numberText (value row 0) ++ (mid ++ last))
 
   this : Named row
   this = named-apart a (row ∷ b) named .1 .0
 
-  query-found : queryFrom form (length (a ++ (row ∷ b))) (base ++ rowLines (a ++ (row ∷ b))) (length a) ≡ last
+  query-found : queryFrom form (length all) (base ++ lines all) (length a) ≡ last
   unfolding queryFrom
   query-found =
-      rw (lt-ltb (length a) (length (a ++ (row ∷ b))) (omega (arith, length-append a (row ∷ b))), queryFrom)
-      (ap (fromName (shapeAt form querySection .row)) line-found ∙ after-scope form (value row 0) last (this .scope))
+      rw (lt-ltb (length a) (length all) (omega (arith, length-append a (row ∷ b))), queryFrom)
+      (ap (fromName (shapeAt form querySection .row)) line-found ∙ after-scope form row last this)
 
-  front-found : nameFront last ≡ nameText (value row 1) (value row 2)
-  front-found = name-first (value row 1) (value row 2) (rowLines b) (this .name)
+  front-found : nameFront last ≡ nameText (value row 2) (value row 3)
+  front-found = name-first (value row 2) (value row 3) (lines b) (this .name)
 
-  place-found : length (base ++ rowLines (a ++ (row ∷ b))) - length last ≡ length front + length (numberText (value row 0)) + 1
-  place-found = omega (arith, ap length line-there, length-append front (numberText (value row 0) ++ (32 ∷ last)), length-append (numberText (value row 0)) (32 ∷ last))
+  place-found : length (base ++ lines all) - length last ≡ length front + length (numberText (value row 0)) + 1 + length (shownKind (hasKinds form) (value row 1))
+  unfolding between
+  place-found = omega (arith, ap length line-there, length-append front (numberText (value row 0) ++ (mid ++ last)), length-append (numberText (value row 0)) (mid ++ last), length-append (shownKind (hasKinds form) (value row 1)) last)
 
 -- what is sought in a text, by the stage that reading ends at
-sought-by : (text : List ℕ) (q : ℕ) (g : Stage) → readStage text ≡ done g → fromSought text q ≡ queryFrom oldForm (g .sofar .rows) text q
+sought-by : (text : List ℕ) (q : ℕ) (g : Stage) → readStage text ≡ done g → fromSought text q ≡ queryFrom (formOf text) (g .sofar .rows) text q
 unfolding fromSought fromWithin
 sought-by text q g e = rw e
 
@@ -94,12 +115,15 @@ module _ (cells : List ℕ) where
   abbrev asQuery : Row → TableQuery cells
   asQuery = queryOf (rulesOf cells)
 
-  lines-are : (rows : List Row) → queryLines cells (map asQuery rows) ≡ rowLines rows
-  unfolding queryLines rowLines seekText queryOf nameAt
+  abbrev kinds : Bool
+  kinds = hasKinds (formIn cells)
+
+  lines-are : (rows : List Row) → queryLines cells (map asQuery rows) ≡ rowLines kinds rows
+  unfolding queryLines rowLines seekText kindText queryOf nameAt between
   lines-are [] = refl
   lines-are (row ∷ rows) =
-      ap (λ (s : List ℕ). numberText (value row 0) ++ (32 ∷ (nameText (value row 1) (value row 2) ++ (10 ∷ s)))) (lines-are rows)
-      ∙ sym (line-then row (rowLines rows))
+      ap (λ (s : List ℕ). numberText (value row 0) ++ (32 ∷ (shownKind kinds (value row 1) ++ (nameText (value row 2) (value row 3) ++ (10 ∷ s))))) (lines-are rows)
+      ∙ sym (line-then kinds row (rowLines kinds rows))
 
   taken-are : (q : ℕ) (rows : List Row) → take q (map asQuery rows) ≡ map asQuery (take q rows)
   taken-are zero rows = refl
@@ -117,10 +141,10 @@ module _ (cells : List ℕ) where
   query-at (suc q) (row ∷ rows) d h = query-at q rows d (omega arith)
 
   -- the query of a row
-  row-sought : (text : List ℕ) → QueriesRead text cells → (q : ℕ) → q < length (rowsIn querySection cells)
+  row-sought : (text : List ℕ) → QueriesRead text cells → formOf text ≡ formIn cells → (q : ℕ) → q < length (rowsIn querySection cells)
       → SoughtIn cells text q (asQuery (getD (rowsIn querySection cells) q blank))
-  unfolding queriesOf queryOf nameAt seekText queryLines beforeLine nameSought placeSought placeFrom
-  row-sought text r q h =
+  unfolding queriesOf queryOf nameAt seekText kindText queryLines beforeLine nameSought placeSought placeFrom between
+  row-sought text r same q h =
       let rows = rowsIn querySection cells in
       let a = take q rows in
       let row = getD rows q blank in
@@ -131,28 +155,32 @@ module _ (cells : List ℕ) where
       let split : rows ≡ a ++ (row ∷ b) = split-at rows q blank h in
       let named : AllNamed (a ++ (row ∷ b)) = rw split at (r .named) in
       let long : length a ≡ q = length-take-le q rows (omega (arith, h)) in
-      let whole : text ≡ base ++ rowLines (a ++ (row ∷ b)) = r .whole ∙ sym (append-assoc (r .above) names (rowLines rows)) ∙ ap (λ (l : List Row). base ++ rowLines l) split in
+      let whole : text ≡ base ++ rowLines kinds (a ++ (row ∷ b)) = r .whole ∙ sym (append-assoc (r .above) names (rowLines kinds rows)) ∙ ap (λ (l : List Row). base ++ rowLines kinds l) split in
       let ended = names-ended form (r .above) in
       let found : fromSought text q ≡ last form base ended a row b named =
       sought-by text q (r .stage) (r .came)
-      ∙ ap (λ (f : ℕ). queryFrom f (r .stage .sofar .rows) text q) (r .first)
+      ∙ ap (λ (f : ℕ). queryFrom f (r .stage .sofar .rows) text q) same
       ∙ ap (λ (n : ℕ). queryFrom form n text q) (r .count ∙ ap length split)
       ∙ ap (λ (t : List ℕ). queryFrom form (length (a ++ (row ∷ b))) t q) whole
-      ∙ ap (queryFrom form (length (a ++ (row ∷ b))) (base ++ rowLines (a ++ (row ∷ b)))) (sym long)
+      ∙ ap (queryFrom form (length (a ++ (row ∷ b))) (base ++ rowLines kinds (a ++ (row ∷ b)))) (sym long)
       ∙ query-found form base ended a row b named in
-      let name : nameFront (fromSought text q) ≡ nameText (value row 1) (value row 2) = ap nameFront found ∙ front-found form base ended a row b named in
-      let before : rowLines a ≡ queryLines cells (take q (queriesOf cells)) = sym (ap (queryLines cells) (taken-are q rows) ∙ lines-are a) in
-      let before-is : base ++ rowLines a ≡ beforeLine cells (r .above) q = append-assoc (r .above) names (rowLines a) ∙ ap (λ (s : List ℕ). r .above ++ (names ++ s)) before in
-      let after : rowLines b ≡ queryLines cells (drop (suc q) (queriesOf cells)) = sym (ap (queryLines cells) (dropped-are (suc q) rows) ∙ lines-are b) in
-      let around : List ℕ → List ℕ → List ℕ = λ s t. s ++ (numberText (value row 0) ++ (32 ∷ (nameText (value row 1) (value row 2) ++ (10 ∷ t)))) in
+      let name : nameFront (fromSought text q) ≡ nameText (value row 2) (value row 3) = ap nameFront found ∙ front-found form base ended a row b named in
+      let before : rowLines kinds a ≡ queryLines cells (take q (queriesOf cells)) = sym (ap (queryLines cells) (taken-are q rows) ∙ lines-are a) in
+      let before-is : base ++ rowLines kinds a ≡ beforeLine cells (r .above) q = append-assoc (r .above) names (rowLines kinds a) ∙ ap (λ (s : List ℕ). r .above ++ (names ++ s)) before in
+      let after : rowLines kinds b ≡ queryLines cells (drop (suc q) (queriesOf cells)) = sym (ap (queryLines cells) (dropped-are (suc q) rows) ∙ lines-are b) in
+      let around : List ℕ → List ℕ → List ℕ = λ s t. s ++ (numberText (value row 0) ++ (32 ∷ (shownKind kinds (value row 1) ++ (nameText (value row 2) (value row 3) ++ (10 ∷ t))))) in
       record {
         above = r .above;
         lines =
-            whole ∙ line-there form base ended a row b named ∙ ap (around (base ++ rowLines a)) after
+            whole ∙ line-there form base ended a row b named ∙ ap (around (base ++ rowLines kinds a)) after
             ∙ ap (λ (s : List ℕ). around s (queryLines cells (drop (suc q) (queriesOf cells)))) before-is;
         name = name;
-        is-name = cells-name (value row 1) (value row 2) (this form base ended a row b named .name) .name;
-        from = ap (λ (s : List ℕ). length text - length s) found ∙ ap (λ (t : List ℕ). length t - length (last form base ended a row b named)) whole ∙ place-found form base ended a row b named ∙ ap (λ (s : List ℕ). length s + length (numberText (value row 0)) + 1) before-is;
+        is-name = cells-name (value row 2) (value row 3) (this form base ended a row b named .name) .name;
+        from =
+            ap (λ (s : List ℕ). length text - length s) found
+            ∙ ap (λ (t : List ℕ). length t - length (last form base ended a row b named)) whole
+            ∙ place-found form base ended a row b named
+            ∙ ap (λ (s : List ℕ). length s + length (numberText (value row 0)) + 1 + length (shownKind kinds (value row 1))) before-is;
         to = ap (λ (s : List ℕ). length text - length (fromSought text q) + length s) name;
       }
 
@@ -161,7 +189,7 @@ unfolding queriesOf
 sought-right text cells e q h d =
     let rows = rowsIn querySection cells in
     let k : q < length rows = rw (length-map rows (queryOf (rulesOf cells))) at h in
-    rw (query-at cells q rows d k) (row-sought cells text (queries-read text cells e) q k)
+    rw (query-at cells q rows d k) (row-sought cells text (queries-read text cells e) (sym (form-read text cells e)) q k)
 
 -- where no part of the text is sought
 nothing : (text : List ℕ) (q : ℕ) → fromSought text q ≡ [] → NothingSought text q

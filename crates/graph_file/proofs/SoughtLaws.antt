@@ -15,15 +15,15 @@ use Rattle.text_field.specs.declared.NumberRead.{NumberRead}
 use Rattle.text_field.specs.declared.NumberRead.the-variants.{Number, NoNumber}
 use Rattle.text_field.specs.declared.NameRead.{NameRead}
 use Rattle.text_field.specs.declared.NameRead.the-variants.{Name, NoName}
-use Rattle.text_field.specs.Number.{numberHere, numberPlaced, numberMeaning}
+use Rattle.text_field.specs.Number.{numberHere, numberMeaning}
 use Rattle.text_field.specs.Name.{nameHere, namePlaced, nameMeaning}
-use Rattle.text_field.specs.Bytes.{isCapital}
-use Rattle.graph_file.specs.declared.reader.Part.{Part}
+use Rattle.text_field.specs.Bytes.{isCapital, isLower}
+use Rattle.graph_file.specs.declared.rows.Part.{Part}
 use Rattle.graph_file.specs.declared.sought.NamePlace.{NamePlace}
-use Rattle.graph_file.specs.Format.{Item, byte, field, state, scope, mark, count, letter, label, end, name, valuesOf, shapesOf, shapeAt, oldForm, querySection}
+use Rattle.graph_file.specs.Format.{Item, byte, field, state, scope, mark, count, letter, label, end, name, kind, plain, shapeAt, querySection}
 use Rattle.text_field.specs.Outcome.{Outcome, refused, done, andThen}
 use Rattle.graph_file.specs.Line.{Reading, numberTaken, nameTaken, byteTaken, place, endTaken, readField, startsWith, readItem}
-use Rattle.graph_file.specs.File.{Stage, readStage}
+use Rattle.graph_file.specs.File.{Stage, formOf, readStage}
 use Rattle.graph_file.specs.Table.{sofarAt}
 use Rattle.graph_file.specs.Reader.{stageAt, refusedOr, partOutcome}
 use Rattle.graph_file.specs.NameSought.{afterLines, lineCount, namePart, restOf, isNameField, fromName, queryFrom, fromWithin, fromSought, nameFront, nameSought, placeFrom, placeSought}
@@ -66,20 +66,6 @@ after-step (suc k) b s h = by-byte (eqb b 10)
     by-byte true = let e : k ≡ suc k - 1 = omega arith in ap (λ (n : ℕ). afterLines n s) e
     by-byte false = let e : suc k ≡ suc k - 0 = omega arith in ap (λ (n : ℕ). afterLines n s) e
 
--- the items of a query's line
-behind : List Item
-behind = byte 32 ∷ field name 1 ∷ byte 10 ∷ []
-
-pub placed-number : (x : NumberRead) (at v a : ℕ) → Number v a ≡ numberPlaced at x → (w : ℕ) × (x ≡ Number v w) × (a ≡ at + w)
-unfolding numberPlaced
-placed-number (Number v′ w) at v a e = let p : v ≡ v′ = cc in let q : a ≡ at + w = cc in (w, ap (λ (z : ℕ). Number z w) (sym p), q)
-placed-number NoNumber at v a e = absurd (let z : _≡_ {A = ℕ} 0 1 = cc in omega arith)
-
-pub unplaced-number : (x : NumberRead) (at : ℕ) → NoNumber ≡ numberPlaced at x → x ≡ NoNumber
-unfolding numberPlaced
-unplaced-number (Number v w) at e = absurd (let z : _≡_ {A = ℕ} 0 1 = cc in omega arith)
-unplaced-number NoNumber at e = refl
-
 pub placed-name : (x : NameRead) (at h l a : ℕ) → Name h l a ≡ namePlaced at x → (w : ℕ) × (x ≡ Name h l w) × (a ≡ at + w)
 unfolding namePlaced
 placed-name (Name h′ l′ w) at h l a e =
@@ -91,62 +77,9 @@ unfolding namePlaced
 unplaced-name (Name h l w) at e = absurd (let z : _≡_ {A = ℕ} 0 1 = cc in omega arith)
 unplaced-name NoName at e = refl
 
--- behind the number: nothing, another byte than the space, or the space and what comes after it
-empty-behind : fromName behind [] ≡ []
-unfolding behind fromName isNameField valuesOf restOf readItem startsWith
-empty-behind = refl
-
-other-behind : (b : ℕ) (u : List ℕ) → (b ≡ 32 → ⊥) → fromName behind (b ∷ u) ≡ []
-unfolding behind fromName isNameField valuesOf restOf readItem startsWith
-other-behind b u h = by-byte (eqb b 32) (ne-eqb b 32 h)
-  where
-    by-byte : (t : Bool) → t ≡ false
-        → restOf (elim t as (λ _. Outcome Reading) [ true ↦ done (record { values = []; rest = u }) | false ↦ refused 2 ]) ≡ []
-    by-byte true e = absurd (mathlib.Core.Bool.true≢false e)
-    by-byte false e = refl
-
-space-behind : (u : List ℕ) → fromName behind (32 ∷ u) ≡ u
-unfolding behind fromName isNameField valuesOf restOf readItem startsWith
-space-behind u = refl
-
--- the whole line: the number first
-taken-none : (t : List ℕ) (x : NumberRead) → x ≡ NoNumber → fromName behind (restOf (numberTaken x t)) ≡ []
-unfolding restOf numberTaken numberMeaning andThen
-taken-none t x e = rw e empty-behind
-
-taken-some : (t : List ℕ) (x : NumberRead) (v w : ℕ) → x ≡ Number v w → fromName behind (restOf (numberTaken x t)) ≡ fromName behind (drop w t)
-unfolding restOf numberTaken numberMeaning andThen
-taken-some t x v w e = rw e refl
-
-first-is : (form : ℕ) (t : List ℕ) → fromName (shapeAt form querySection .row) t ≡ fromName behind (restOf (numberTaken (numberHere t) t))
-unfolding fromName isNameField valuesOf readItem readField shapeAt shapesOf behind
-first-is form t = refl
-
 -- an empty last part stands at the end
 at-end : (s x : List ℕ) → x ≡ [] → length s ≡ length s - length x
 at-end s x e = let z : length x ≡ 0 = ap length e in omega (arith, z)
-
-pub no-number : (form : ℕ) (s : List ℕ) (at : ℕ) → NoNumber ≡ numberPlaced at (numberHere (drop at s)) → length s ≡ length s - length (fromName (shapeAt form querySection .row) (drop at s))
-no-number form s at e = at-end s _ (first-is form (drop at s) ∙ taken-none (drop at s) (numberHere (drop at s)) (unplaced-number _ at e))
-
--- a line at a place of the text, whose number ends before a
-module _ (form : ℕ) (s : List ℕ) (at v a : ℕ) (e : Number v a ≡ numberPlaced at (numberHere (drop at s))) where
-  line : fromName (shapeAt form querySection .row) (drop at s) ≡ fromName behind (drop a s)
-  line =
-      let k = placed-number (numberHere (drop at s)) at v a e in
-      first-is form (drop at s) ∙ taken-some (drop at s) (numberHere (drop at s)) v (k .0) (k .1) ∙ ap (fromName behind) (drop-drop (k .0) at s ∙ ap (λ (n : ℕ). drop n s) (sym (k .2)))
-
-  pub ends-there : length s ≤ a → length s ≡ length s - length (fromName (shapeAt form querySection .row) (drop at s))
-  ends-there h = at-end s _ (line ∙ ap (fromName behind) (drop-of-length-le s {i = a} h) ∙ empty-behind)
-
-  pub no-space : a < length s → (getD s a 0 ≡ 32 → ⊥) → length s ≡ length s - length (fromName (shapeAt form querySection .row) (drop at s))
-  no-space h k = at-end s _ (line ∙ ap (fromName behind) (drop-cons s a 0 h) ∙ other-behind (getD s a 0) (drop (suc a) s) k)
-
-  pub spaced : a < length s → getD s a 0 ≡ 32 → a + 1 ≡ length s - length (fromName (shapeAt form querySection .row) (drop at s))
-  spaced h k =
-      let l : fromName (shapeAt form querySection .row) (drop at s) ≡ drop (suc a) s = line ∙ ap (fromName behind) (drop-cons s a 0 h ∙ ap (λ (b : ℕ). b ∷ drop (suc a) s) k) ∙ space-behind (drop (suc a) s)
-      in let z : length (fromName (shapeAt form querySection .row) (drop at s)) ≡ length s - suc a = ap length l ∙ length-drop (suc a) s
-      in omega (arith, z)
 
 -- the name at a place
 pub no-name-there : (s : List ℕ) (at : ℕ) → NoName ≡ namePlaced at (nameHere (drop at s)) → at ≡ at + length (nameFront (drop at s))
@@ -194,7 +127,8 @@ after-next k l t i x h z e w =
     ∙ sym (after-step k (getD t i 0) (drop (suc i) t) z)
     ∙ ap (afterLines k) (sym (drop-cons t i 0 h)) ∙ w
 
--- What is left after an item, after lines, from a name on, is a last part of the text: the text from some place on.
+-- What is left after an item, after lines, from a name on, is a last part of the text: the text
+-- from some place on.
 abbrev LastOf : List ℕ → List ℕ → Type 0
 LastOf x s = (w : ℕ) × (x ≡ drop w s)
 
@@ -242,6 +176,8 @@ item-last (field letter c) t = byte-last (isCapital (getD t 0 0)) (getD t 0 0) t
 item-last (field label c) t = byte-last (isCapital (getD t 0 0)) (place (getD t 0 0) []) t
 item-last (field end c) t = end-last [] (getD t 0 0) t
 item-last (field name c) t = name-last (nameHere t) t
+item-last (field kind c) t = byte-last (isLower (getD t 0 0)) (getD t 0 0) t
+item-last (field plain c) t = (0, refl)
 
 from-last : (items : List Item) (t : List ℕ) → LastOf (fromName items t) t
 unfolding fromName
@@ -276,7 +212,7 @@ query-last form n text q = by-test (ltb q n)
 within-last : (o : Outcome Stage) (text : List ℕ) (q : ℕ) → LastOf (fromWithin o text q) text
 unfolding fromWithin
 within-last (refused n) text q = none-last text
-within-last (done g) text q = query-last oldForm (g .sofar .rows) text q
+within-last (done g) text q = query-last (formOf text) (g .sofar .rows) text q
 
 sought-last : (text : List ℕ) (q : ℕ) → LastOf (fromSought text q) text
 unfolding fromSought
@@ -350,12 +286,12 @@ module _ (r : Part) (table text : List ℕ) (q : ℕ) (e : partOutcome r table t
       go zero h e = absurd (h refl)
       go (suc k) h e = rw (← e)
 
-  file-read : r .refusal ≡ 0 → fromSought text q ≡ queryFrom oldForm (r .counts .rows) text q
+  file-read : r .refusal ≡ 0 → fromSought text q ≡ queryFrom (formOf text) (r .counts .rows) text q
   unfolding partOutcome refusedOr fromSought fromWithin stageAt sofarAt
   file-read h = go (r .refusal) h e
     where
       go : (k : ℕ) → k ≡ 0 → refusedOr k (stageAt table (r .cells) (r .counts) (drop (r .next) text)) ≡ readStage text
-          → fromWithin (readStage text) text q ≡ queryFrom oldForm (r .counts .rows) text q
+          → fromWithin (readStage text) text q ≡ queryFrom (formOf text) (r .counts .rows) text q
       go zero h e = rw (← e)
       go (suc k) h e = absurd (omega arith)
 
@@ -364,6 +300,6 @@ module _ (r : Part) (table text : List ℕ) (q : ℕ) (e : partOutcome r table t
   query-refused h k = nowhere text (fromSought text q) (file-read h ∙ rw (le-ltb q (r .counts .rows) k, queryFrom))
 
   pub query-read : r .refusal ≡ 0 → q < r .counts .rows → (k : ℕ) → k ≡ lineCount text - r .counts .rows + q
-      → placeFrom text (fromName (shapeAt oldForm querySection .row) (afterLines k text)) ≡ placeSought text q
+      → placeFrom text (fromName (shapeAt (formOf text) querySection .row) (afterLines k text)) ≡ placeSought text q
   unfolding queryFrom placeSought
   query-read h l k z = ap (placeFrom text) (sym (file-read h ∙ rw (lt-ltb q (r .counts .rows) l, queryFrom, z)))

@@ -16,6 +16,7 @@ use Rattle.text_field.proofs.NumberLaws.{number-short, number-long}
 use Rattle.text_field.proofs.NameLaws.{all-tail, name-form, cells-name}
 use Rattle.graph_file.specs.Admission.{Row, value}
 use Rattle.graph_file.specs.NameSought.{afterLines, lineCount}
+use Rattle.graph_file.specs.Sought.{shownKind}
 use Rattle.graph_file.proofs.SoughtLaws.{count-step, count-end, count-other, after-step}
 
 count-none : lineCount [] ≡ 0
@@ -72,6 +73,10 @@ no-name-byte : (b : ℕ) → isNameByte b ≡ true → b ≡ 10 → ⊥
 unfolding isNameByte isLower isDigit within
 no-name-byte b h e = clash (rw e at h) refl
 
+lower-no-end : (b : ℕ) → isLower b ≡ true → b ≡ 10 → ⊥
+unfolding isLower within
+lower-no-end b h e = clash (rw e at h) refl
+
 bytes-plain : (s : List ℕ) → allNameBytes s ≡ true → lineCount s ≡ 0
 bytes-plain [] h = count-none
 bytes-plain (b ∷ s) h =
@@ -81,18 +86,24 @@ bytes-plain (b ∷ s) h =
 name-plain : (high low : ℕ) → isNameCells high low ≡ true → lineCount (nameText high low) ≡ 0
 name-plain high low h = bytes-plain (nameText high low) (name-form (nameText high low) (cells-name high low h .name) .bytes)
 
--- a query row's line
-unfoldable pub rowLine : Row → List ℕ
-rowLine row = numberText (value row 0) ++ (32 ∷ (nameText (value row 1) (value row 2) ++ (10 ∷ [])))
+-- what stands between the scope's number and the name in a query row's line: a space, and the kind
+-- with a space where kinds are shown
+unfoldable pub between : Bool → Row → List ℕ
+between t row = 32 ∷ shownKind t (value row 1)
 
-unfoldable pub rowLines : List Row → List ℕ
-rowLines [] = []
-rowLines (row ∷ rows) = rowLine row ++ rowLines rows
+-- a query row's line, with kinds or without
+unfoldable pub rowLine : Bool → Row → List ℕ
+rowLine t row = numberText (value row 0) ++ (between t row ++ (nameText (value row 2) (value row 3) ++ (10 ∷ [])))
 
--- a row that can be written: a scope's number of five digits at most, and a name
+unfoldable pub rowLines : Bool → List Row → List ℕ
+rowLines t [] = []
+rowLines t (row ∷ rows) = rowLine t row ++ rowLines t rows
+
+-- a row that can be written: a scope's number of five digits at most, a kind and a name
 pub record Named (row : Row) : Type 0 where
   pub scope : value row 0 ≤ 99999
-  pub name : isNameCells (value row 1) (value row 2) ≡ true
+  pub kind : isLower (value row 1) ≡ true
+  pub name : isNameCells (value row 2) (value row 3) ≡ true
 
 abbrev pub AllNamed : List Row → Type 0
 AllNamed [] = Unit {0}
@@ -102,42 +113,55 @@ pub named-apart : (a b : List Row) → AllNamed (a ++ b) → AllNamed a × AllNa
 named-apart [] b h = (tt, h)
 named-apart (row ∷ a) b h = let r = named-apart a b (h .1) in ((h .0, r .0), r .1)
 
-pub lines-append : (a b : List Row) → rowLines (a ++ b) ≡ rowLines a ++ rowLines b
+pub lines-append : (t : Bool) (a b : List Row) → rowLines t (a ++ b) ≡ rowLines t a ++ rowLines t b
 unfolding rowLines
-lines-append [] b = refl
-lines-append (row ∷ a) b = ap (λ (s : List ℕ). rowLine row ++ s) (lines-append a b) ∙ sym (append-assoc (rowLine row) (rowLines a) (rowLines b))
+lines-append t [] b = refl
+lines-append t (row ∷ a) b = ap (λ (s : List ℕ). rowLine t row ++ s) (lines-append t a b) ∙ sym (append-assoc (rowLine t row) (rowLines t a) (rowLines t b))
 
 -- the line before a text
-pub line-then : (row : Row) (s : List ℕ) → rowLine row ++ s ≡ numberText (value row 0) ++ (32 ∷ (nameText (value row 1) (value row 2) ++ (10 ∷ s)))
+pub line-then : (t : Bool) (row : Row) (s : List ℕ) → rowLine t row ++ s ≡ numberText (value row 0) ++ (between t row ++ (nameText (value row 2) (value row 3) ++ (10 ∷ s)))
 unfolding rowLine
-line-then row s =
-    append-assoc (numberText (value row 0)) (32 ∷ (nameText (value row 1) (value row 2) ++ (10 ∷ []))) s
-    ∙ ap (λ (t : List ℕ). numberText (value row 0) ++ (32 ∷ t)) (append-assoc (nameText (value row 1) (value row 2)) (10 ∷ []) s)
+line-then t row s =
+    let name = nameText (value row 2) (value row 3) in
+    append-assoc (numberText (value row 0)) (between t row ++ (name ++ (10 ∷ []))) s
+    ∙ ap (λ (u : List ℕ). numberText (value row 0) ++ u) (append-assoc (between t row) (name ++ (10 ∷ [])) s)
+    ∙ ap (λ (u : List ℕ). numberText (value row 0) ++ (between t row ++ u)) (append-assoc name (10 ∷ []) s)
 
-line-ended : (row : Row) → Ended (rowLine row)
+line-ended : (t : Bool) (row : Row) → Ended (rowLine t row)
 unfolding rowLine
-line-ended row n t =
-    let body : List ℕ = numberText (value row 0) ++ (32 ∷ nameText (value row 1) (value row 2)) in
-    let e : body ++ (10 ∷ []) ≡ rowLine row = append-assoc (numberText (value row 0)) (32 ∷ nameText (value row 1) (value row 2)) (10 ∷ []) in
-    ap (λ (s : List ℕ). afterLines (lineCount s + n) (s ++ t)) (sym e) ∙ ended-line body n t
+line-ended t row n u =
+    let name = nameText (value row 2) (value row 3) in
+    let body : List ℕ = numberText (value row 0) ++ (between t row ++ name) in
+    let e : body ++ (10 ∷ []) ≡ rowLine t row =
+    append-assoc (numberText (value row 0)) (between t row ++ name) (10 ∷ [])
+    ∙ ap (λ (s : List ℕ). numberText (value row 0) ++ s) (append-assoc (between t row) name (10 ∷ [])) in
+    ap (λ (s : List ℕ). afterLines (lineCount s + n) (s ++ u)) (sym e) ∙ ended-line body n u
 
-pub lines-ended : (rows : List Row) → Ended (rowLines rows)
+pub lines-ended : (t : Bool) (rows : List Row) → Ended (rowLines t rows)
 unfolding rowLines
-lines-ended [] = ended-none
-lines-ended (row ∷ rows) = ended-append (rowLine row) (rowLines rows) (line-ended row) (lines-ended rows)
+lines-ended t [] = ended-none
+lines-ended t (row ∷ rows) = ended-append (rowLine t row) (rowLines t rows) (line-ended t row) (lines-ended t rows)
 
-line-one : (row : Row) → Named row → lineCount (rowLine row) ≡ 1
+-- a kind ends no line
+between-plain : (t : Bool) (row : Row) → isLower (value row 1) ≡ true → lineCount (between t row) ≡ 0
+unfolding between shownKind
+between-plain true row h =
+    let k = lower-no-end (value row 1) h in
+    let s = count-other 32 (λ e. omega arith) in
+    omega (arith, count-step 32 (value row 1 ∷ 32 ∷ []), count-step (value row 1) (32 ∷ []), count-other (value row 1) k, s)
+between-plain false row h = sym (count-other 32 (λ e. omega arith))
+
+line-one : (t : Bool) (row : Row) → Named row → lineCount (rowLine t row) ≡ 1
 unfolding rowLine
-line-one row h =
-    let name = nameText (value row 1) (value row 2) in
-    let a = count-append (numberText (value row 0)) (32 ∷ (name ++ (10 ∷ []))) in
-    let b = count-step 32 (name ++ (10 ∷ [])) in
+line-one t row h =
+    let name = nameText (value row 2) (value row 3) in
+    let a = count-append (numberText (value row 0)) (between t row ++ (name ++ (10 ∷ []))) in
+    let b = count-append (between t row) (name ++ (10 ∷ [])) in
     let c = count-append name (10 ∷ []) in
-    let d = count-other 32 (λ e. omega arith) in
-    omega (arith, a, b, c, d, count-end 10 refl, number-plain (value row 0) (value row 0) (omega arith), name-plain (value row 1) (value row 2) (h .name))
+    omega (arith, a, b, c, count-end 10 refl, between-plain t row (h .kind), number-plain (value row 0) (value row 0) (omega arith), name-plain (value row 2) (value row 3) (h .name))
 
 -- as many lines as rows
-pub lines-count : (rows : List Row) → AllNamed rows → lineCount (rowLines rows) ≡ length rows
+pub lines-count : (t : Bool) (rows : List Row) → AllNamed rows → lineCount (rowLines t rows) ≡ length rows
 unfolding rowLines
-lines-count [] h = count-none
-lines-count (row ∷ rows) h = omega (arith, count-append (rowLine row) (rowLines rows), line-one row (h .0), lines-count rows (h .1))
+lines-count t [] h = count-none
+lines-count t (row ∷ rows) h = omega (arith, count-append (rowLine t row) (rowLines t rows), line-one t row (h .0), lines-count t rows (h .1))

@@ -11,7 +11,7 @@ use Rattle.text_field.specs.Number.{numberText}
 use Rattle.text_field.specs.Name.{nameText}
 use Rattle.text_field.specs.Buffer.{Buf, put, puts}
 use Rattle.text_field.proofs.BufferLaws.{puts-one}
-use Rattle.graph_file.specs.Format.{name, Item, byte, everyItem}
+use Rattle.graph_file.specs.Format.{plain, Item, byte, everyItem}
 use Rattle.graph_file.specs.Admission.{Row, value, rowOf}
 use Rattle.graph_file.specs.Line.{endByte, fieldText, itemText, lineText, fieldFormed, sparesPlace, idleZero}
 use Rattle.graph_file.specs.Table.{contentOf, itemOf, formatBytes, itemsAt, rowsAt, lettersAt}
@@ -54,9 +54,17 @@ module _ (letters : List ℕ) (n v w : ℕ) where
   unfolding fieldText contentOf
   text-end e = sym (rw e)
 
-  pub text-name : contentOf n ≡ name → nameText v w ≡ fieldText letters (contentOf n) v w
-  unfolding fieldText
+  pub text-name : n ≡ 7 → nameText v w ≡ fieldText letters (contentOf n) v w
+  unfolding fieldText contentOf
   text-name e = sym (rw e)
+
+  pub text-kind : n ≡ 8 → (v % 256) ∷ [] ≡ fieldText letters (contentOf n) v w
+  unfolding fieldText contentOf
+  text-kind e = sym (rw e)
+
+  pub text-plain : contentOf n ≡ plain → [] ≡ fieldText letters (contentOf n) v w
+  unfolding fieldText
+  text-plain e = sym (rw e)
 
 -- a place that the items fill, and one that they leave alone, where they fill the first u places
 module _ (items : List Item) (row : Row) (d u : ℕ) (e : (d : ℕ) → everyItem (sparesPlace d) items ≡ leb u d) where

@@ -5,14 +5,14 @@ use mathlib.Core.List.{List, [], _∷_}
 use mathlib.Core.Bool.{Bool, true, false}
 use native.Mathlib.Omega.{arith}
 use native.Mathlib.Numerals.{add-one}
-use lib.Dec.{eqb, ltb}
+use lib.Dec.{eqb, ltb, leb}
 use lib.ListN.{length, getD, drop, length-drop, drop-of-length-le}
 use lib.Seq.{drop-drop, drop-cons}
 use borrow.Author.Tests.{lt-ltb, le-ltb}
 use Rattle.text_field.specs.Buffer.{Buf, puts}
 use Rattle.text_field.proofs.ByteLaws.{clash}
 use Rattle.graph_file.specs.declared.rows.Counts.{Counts}
-use Rattle.graph_file.specs.declared.reader.Part.{Part}
+use Rattle.graph_file.specs.declared.rows.Part.{Part}
 use Rattle.graph_file.specs.Format.{sectionAt, shapeAt}
 use Rattle.text_field.specs.Outcome.{Outcome, refused, done, andThen, refuseIf}
 use Rattle.graph_file.specs.Admission.{Row, value, rowOf, nothing, begun, admission}
@@ -38,13 +38,13 @@ pub next-cell : (k p : ℕ) (t : List ℕ) → p < length t → eqb (getD t p 0)
 unfolding cellsFollow
 next-cell k p t h = sym (rw (drop-cons t p 0 h))
 
--- whether the table has this form
+-- whether the table has a form
 pub no-form : (t : List ℕ) → length t ≡ 0 → false ≡ hasForm t
 unfolding hasForm
 no-form [] e = refl
 no-form (x ∷ t) e = absurd (omega arith)
 
-pub form-cell : (t : List ℕ) → (length t ≡ 0 → ⊥) → eqb (getD t 0 1) 0 ≡ hasForm t
+pub form-cell : (t : List ℕ) → (length t ≡ 0 → ⊥) → leb (getD t 0 0) 1 ≡ hasForm t
 unfolding hasForm
 form-cell [] n = absurd (n refl)
 form-cell (x ∷ t) n = refl

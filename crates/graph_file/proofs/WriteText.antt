@@ -9,7 +9,7 @@ use lib.ListN.{length, take, drop}
 use lib.Seq.{take-at}
 use Rattle.text_field.specs.Buffer.{Buf, puts}
 use Rattle.text_field.proofs.BufferLaws.{puts-fits}
-use Rattle.graph_file.specs.declared.reader.Part.{Part}
+use Rattle.graph_file.specs.declared.rows.Part.{Part}
 use Rattle.text_field.specs.Outcome.{Outcome, refused, done, andThen}
 use Rattle.graph_file.specs.File.{Stage, whole, writing, madeOf, hasForm, formIn, writeText}
 use Rattle.text_field.specs.Answer.{answer, leaves}

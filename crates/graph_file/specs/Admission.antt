@@ -6,7 +6,7 @@ use mathlib.Core.List.{List, [], _∷_, _++_}
 use mathlib.Core.Bool.{Bool, true, false, not, _&&_, _||_}
 use lib.Dec.{eqb, ltb, leb}
 use lib.ListN.{length, getD}
-use Rattle.graph_file.specs.Format.{Content, state, scope, mark, count, letter, label, end, name, Item, byte, field, everyItem, Sequence, ascending, once, free, sectionAt, shapeAt, labelSection, pairSection, countSection, stateCount, markCount, mostScopes}
+use Rattle.graph_file.specs.Format.{Content, state, scope, mark, count, letter, label, end, name, kind, plain, Item, byte, field, everyItem, Sequence, ascending, once, free, sectionAt, shapeAt, labelSection, pairSection, countSection, stateCount, markCount, mostScopes}
 
 -- a row's five values
 abbrev pub Row : Type 0
@@ -63,7 +63,7 @@ taken k st row = record {
 
 -- Is the value in its range or list? States are 0 to 15, scopes below their count, marks 0 to
 -- 65,535, the count 1 to 64. A label is its number among those listed; an end is 0 for the end mark
--- and one more than the label's number for a label.
+-- and one more than the label's number for a label. Names and kinds have no range.
 unfoldable pub contentInRange : ℕ → ℕ → Content → ℕ → Bool
 contentInRange labels scopes state v = ltb v stateCount
 contentInRange labels scopes scope v = ltb v scopes
@@ -73,6 +73,8 @@ contentInRange labels scopes letter v = true
 contentInRange labels scopes label v = ltb v labels
 contentInRange labels scopes end v = leb v labels
 contentInRange labels scopes name v = true
+contentInRange labels scopes kind v = true
+contentInRange labels scopes plain v = true
 
 -- of an item of a line, whose value the row holds
 unfoldable pub itemInRange : ℕ → ℕ → Row → Item → Bool

@@ -1,5 +1,6 @@
--- The scope graph that a graph table stands for (document 01, "The gym file"): its rules, edges, declarations, open pairs and queries, each from
--- the rows of its section. Assumes nothing: these are definitions.
+-- The scope graph that a graph table stands for (document 01, "The gym file"): its rules, edges,
+-- declarations, open pairs and queries, each from the rows of its section. Assumes nothing: these
+-- are definitions.
 use Prim.Native.Nat.{ℕ, zero, suc, _+_, _*_}
 use mathlib.Core.Path.{_≡_}
 use mathlib.Core.List.{List, [], _∷_, map}
@@ -19,7 +20,8 @@ unfoldable pub keptIf : Bool → Row → List Row → List Row
 keptIf true row rows = row ∷ rows
 keptIf false row rows = rows
 
--- Of rows of six cells, the ones whose first cell is k, in sequence: each by its five values. Cells too few for a row are none.
+-- Of rows of six cells, the ones whose first cell is k, in sequence: each by its five values. Cells
+-- too few for a row are none.
 unfoldable pub rowsAmong : ℕ → List ℕ → List Row
 rowsAmong k [] = []
 rowsAmong k (s ∷ []) = []
@@ -54,24 +56,24 @@ rulesOf cells = record {
   accept = map (λ (row : Row). value row 0) (rowsIn acceptSection cells);
 }
 
--- a name's two cells
+-- a kind and a name's two cells: the name of the rules (02, K8)
 unfoldable pub nameAt : ℕ → Row → PackedName
-nameAt c row = record { high = value row c; low = value row (c + 1) }
+nameAt c row = record { kind = value row c; high = value row (c + 1); low = value row (c + 2) }
 
 module _ (r : Rules) where
   -- `from label to`
   unfoldable pub edgeOf : Row → Edge (language r)
   edgeOf row = record { from = value row 0; step = value row 1; to = value row 2 }
 
-  -- `at name mark`
+  -- `at kind name mark`
   unfoldable pub declarationOf : Row → Declaration (language r)
-  declarationOf row = record { at = value row 0; name = nameAt 1 row; mark = value row 3 }
+  declarationOf row = record { at = value row 0; name = nameAt 1 row; mark = value row 4 }
 
   -- `at open`
   unfoldable pub openPairOf : Row → OpenPair (language r)
   openPairOf row = record { at = value row 0; end = endOf (value row 1) }
 
-  -- `start seek`
+  -- `start kind seek`
   unfoldable pub queryOf : Row → Query (language r)
   queryOf row = record { start = value row 0; name = nameAt 1 row }
 
@@ -92,11 +94,13 @@ opensOf cells = map (openPairOf (rulesOf cells)) (rowsIn openSection cells)
 unfoldable pub queriesOf : (cells : List ℕ) → List (Query (language (rulesOf cells)))
 queriesOf cells = map (queryOf (rulesOf cells)) (rowsIn querySection cells)
 
--- where section k's rows begin in an accepted table: after the form and the rows of the sections above
+-- where section k's rows begin in an accepted table: after the form and the rows of the sections
+-- above
 unfoldable pub sectionPlace : ℕ → List ℕ → ℕ
 sectionPlace zero cells = 1
 sectionPlace (suc k) cells = sectionPlace k cells + 6 * length (rowsIn k cells)
 
--- some text is read as these cells, so that it was not refused by 1 to 6 (01, "Who can cause a refusal")
+-- some text is read as these cells, so that it was not refused by 1 to 6 (01, "Who can cause a
+-- refusal")
 abbrev pub WasRead : List ℕ → Type 0
 WasRead cells = (text : List ℕ) × (readCells text ≡ done cells)

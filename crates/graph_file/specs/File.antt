@@ -4,10 +4,10 @@
 use Prim.Native.Nat.{ℕ, zero, suc, _+_}
 use mathlib.Core.List.{List, [], _∷_, _++_, map}
 use mathlib.Core.Bool.{Bool, true, false, not}
-use lib.Dec.{eqb, ltb}
+use lib.Dec.{eqb, ltb, leb}
 use lib.ListN.{length, getD, drop}
 use Rattle.text_field.specs.Bytes.{isLower}
-use Rattle.graph_file.specs.Format.{byte, sectionAt, shapeAt, oldForm, textBytes}
+use Rattle.graph_file.specs.Format.{byte, sectionAt, shapeAt, oldForm, kindForm, labelSection, declarationSection, textBytes}
 use Rattle.text_field.specs.Outcome.{Outcome, refused, done, andThen, refuseIf}
 use Rattle.graph_file.specs.Admission.{Row, rowOf, blank, Sofar, nothing, begun, taken, admission}
 use Rattle.graph_file.specs.Line.{Reading, readItems, lineText, formed}
@@ -21,8 +21,8 @@ pub record Piece : Type 0 where
   pub rest : List ℕ
 
 -- A way through a file: the file's form, and what differs between reading and writing, for a
--- section's number: the names line, whether another row of the section comes next, and one row, with
--- the labels' letters given.
+-- section's number: the names line, whether another row of the section comes next, and one row,
+-- with the labels' letters given.
 pub record Way : Type 0 where
   pub form : ℕ
   pub names : ℕ → List ℕ → Outcome Piece
@@ -78,6 +78,11 @@ unfoldable pub throughSections : Way → ℕ → ℕ → Stage → Outcome Stage
 throughSections w zero k g = refuseIf (not (isEmpty (g .rest))) 2 (done g)
 throughSections w (suc left) k g = andThen (throughSection w k g) (throughSections w left (suc k))
 
+-- `left` sections from section k on, whatever is left after them
+unfoldable pub throughSome : Way → ℕ → ℕ → Stage → Outcome Stage
+throughSome w zero k g = done g
+throughSome w (suc left) k g = andThen (throughSection w k g) (throughSome w left (suc k))
+
 -- the order pairs are tested last
 unfoldable pub ordered : Stage → Outcome Stage
 ordered g = refuseIf (orderFault (g .sofar .pairs)) 6 (done g)
@@ -111,10 +116,25 @@ readRow form k letters text =
 unfoldable pub reading : ℕ → Way
 reading form = record { form = form; names = readNames form; more = λ k text. rowFollows text; row = readRow form }
 
+-- The form of a text shows where the names line of declarations is due (02, K8): by its place,
+-- behind the sections above, which are the same in both forms. It is the form with kinds if that
+-- line is the one with kinds. In all other cases it is the old form, also where the sections above
+-- are refused or no names line comes: then the text is refused there in either form.
+unfoldable pub formShown : Outcome Piece → ℕ
+formShown (refused n) = oldForm
+formShown (done p) = kindForm
+
+unfoldable pub formAfter : Outcome Stage → ℕ
+formAfter (refused n) = oldForm
+formAfter (done g) = formShown (readNames kindForm declarationSection (g .rest))
+
+unfoldable pub formOf : List ℕ → ℕ
+formOf text = formAfter (throughSome (reading oldForm) declarationSection labelSection (atStart [] text))
+
 -- The graph table's cells that a text stands for: refused by 1 where it is too long, then line by
--- line, then by 6.
+-- line in its form, then by 6.
 unfoldable pub readStage : List ℕ → Outcome Stage
-readStage text = elim (ltb textBytes (length text)) [ true ↦ refused 1 | false ↦ whole (reading oldForm) (oldForm ∷ []) text ]
+readStage text = elim (ltb textBytes (length text)) [ true ↦ refused 1 | false ↦ whole (reading (formOf text)) (formOf text ∷ []) text ]
 
 unfoldable pub madeOf : Outcome Stage → Outcome (List ℕ)
 madeOf o = andThen o (λ g. done (g .made))
@@ -145,7 +165,7 @@ writing form = record { form = form; names = writeNames form; more = cellsFollow
 -- Is the first cell there, and a form's number?
 unfoldable pub hasForm : List ℕ → Bool
 hasForm [] = false
-hasForm (x ∷ rest) = eqb x oldForm
+hasForm (x ∷ rest) = leb x kindForm
 
 -- the form of a graph table
 unfoldable pub formIn : List ℕ → ℕ

@@ -1,15 +1,20 @@
--- The form of the gym file as one table: nine sections, each with its limits and its key, and by the
--- file's form its names line and the items of a row (document 01, "The gym file"). Assumes nothing:
--- these are definitions.
-use Prim.Native.Nat.{ℕ}
+-- The gym file as one table: nine sections, each with its limits and its key, and by the file's
+-- form its names line and the items of a row (document 01, "The gym file"; 02, K8). Assumes
+-- nothing: these are definitions.
+use Prim.Native.Nat.{ℕ, zero, suc}
 use mathlib.Core.List.{List, [], _∷_}
 use mathlib.Core.Bool.{Bool, true, false, _&&_}
 use lib.ListN.{getD}
 
 -- What a field of a row holds: a state, a scope, a mark, the count of scopes, the letter of a new
--- label, a label, one end of an order pair or of an open pair (the end mark or a label), a name.
+-- label, a label, one end of an order pair or of an open pair (the end mark or a label), a name, a
+-- kind (02, K8), or the kind that a line without kinds leaves out, which is `v`.
 pub data Content : Type 0 where
-  state scope mark count letter label end name : Content
+  state scope mark count letter label end name kind plain : Content
+
+-- `v`, the kind of all that stands in a file without kinds
+abbrev pub plainKind : ℕ
+plainKind = 118
 
 -- A row of the graph table has five values. An item of a line is a byte that stands there as it is,
 -- or a field, whose value is the row's at the place given; a name takes that place and the next.
@@ -27,6 +32,8 @@ valuesOf letter = 1
 valuesOf label = 1
 valuesOf end = 1
 valuesOf name = 2
+valuesOf kind = 1
+valuesOf plain = 1
 
 -- a test of every item of a line
 unfoldable pub everyItem : (Item → Bool) → List Item → Bool
@@ -50,6 +57,20 @@ pub record Section : Type 0 where
 pub record Shape : Type 0 where
   pub names : List ℕ
   pub row : List Item
+
+-- A file's form has a number, which is the graph table's first cell: document 01's form, which 02
+-- calls the old one, and the form with kinds (02, K8).
+abbrev pub oldForm : ℕ
+oldForm = 0
+
+abbrev pub kindForm : ℕ
+kindForm = 1
+
+-- Does a file of this form show kinds? A number that is no form's counts as the old one.
+unfoldable pub hasKinds : ℕ → Bool
+hasKinds zero = false
+hasKinds (suc zero) = true
+hasKinds (suc (suc n)) = false
 
 abbrev space : Item
 space = byte 32
@@ -117,14 +138,19 @@ edgeShape = record {
   row = field scope 0 ∷ space ∷ field label 1 ∷ space ∷ field scope 2 ∷ lineEnd ∷ [];
 }
 
--- `at name mark`: a declaration; its name has the values 1 and 2
+-- `at kind name mark`, or `at name mark` without kinds: a declaration, sorted by scope, kind, name
+-- and mark; its name has the values 2 and 3
 unfoldable pub declarations : Section
-declarations = record { least = 0; most = 512; key = 0 ∷ 1 ∷ 2 ∷ 3 ∷ []; sequence = ascending }
+declarations = record { least = 0; most = 512; key = 0 ∷ 1 ∷ 2 ∷ 3 ∷ 4 ∷ []; sequence = ascending }
 
-abbrev declarationShape : Shape
-declarationShape = record {
+unfoldable pub declarationShape : Bool → Shape
+declarationShape true = record {
+  names = 97 ∷ 116 ∷ 32 ∷ 107 ∷ 105 ∷ 110 ∷ 100 ∷ 32 ∷ 110 ∷ 97 ∷ 109 ∷ 101 ∷ 32 ∷ 109 ∷ 97 ∷ 114 ∷ 107 ∷ 10 ∷ [];
+  row = field scope 0 ∷ space ∷ field kind 1 ∷ space ∷ field name 2 ∷ space ∷ field mark 4 ∷ lineEnd ∷ [];
+}
+declarationShape false = record {
   names = 97 ∷ 116 ∷ 32 ∷ 110 ∷ 97 ∷ 109 ∷ 101 ∷ 32 ∷ 109 ∷ 97 ∷ 114 ∷ 107 ∷ 10 ∷ [];
-  row = field scope 0 ∷ space ∷ field name 1 ∷ space ∷ field mark 3 ∷ lineEnd ∷ [];
+  row = field scope 0 ∷ space ∷ field plain 1 ∷ field name 2 ∷ space ∷ field mark 4 ∷ lineEnd ∷ [];
 }
 
 -- `at open`: an open pair
@@ -137,14 +163,18 @@ openShape = record {
   row = field scope 0 ∷ space ∷ field end 1 ∷ lineEnd ∷ [];
 }
 
--- `start seek`: a query, in any sequence
+-- `start kind seek`, or `start seek` without kinds: a query, in any sequence
 unfoldable pub queries : Section
 queries = record { least = 0; most = 256; key = []; sequence = free }
 
-abbrev queryShape : Shape
-queryShape = record {
+unfoldable pub queryShape : Bool → Shape
+queryShape true = record {
+  names = 115 ∷ 116 ∷ 97 ∷ 114 ∷ 116 ∷ 32 ∷ 107 ∷ 105 ∷ 110 ∷ 100 ∷ 32 ∷ 115 ∷ 101 ∷ 101 ∷ 107 ∷ 10 ∷ [];
+  row = field scope 0 ∷ space ∷ field kind 1 ∷ space ∷ field name 2 ∷ lineEnd ∷ [];
+}
+queryShape false = record {
   names = 115 ∷ 116 ∷ 97 ∷ 114 ∷ 116 ∷ 32 ∷ 115 ∷ 101 ∷ 101 ∷ 107 ∷ 10 ∷ [];
-  row = field scope 0 ∷ space ∷ field name 1 ∷ lineEnd ∷ [];
+  row = field scope 0 ∷ space ∷ field plain 1 ∷ field name 2 ∷ lineEnd ∷ [];
 }
 
 -- the nine sections in the file's sequence; a section's number is its place here
@@ -159,13 +189,10 @@ pastLast = record { least = 0; most = 0; key = []; sequence = free }
 unfoldable pub sectionAt : ℕ → Section
 sectionAt k = getD sections k pastLast
 
--- A file's form has a number, which is the graph table's first cell. There is one form so far.
-abbrev pub oldForm : ℕ
-oldForm = 0
-
--- the nine sections' shapes in a file of a form
+-- The nine sections' shapes in a file of a form: only declarations and queries have kinds, and both
+-- have them or neither.
 unfoldable pub shapesOf : ℕ → List Shape
-shapesOf form = labelShape ∷ pairShape ∷ transitionShape ∷ acceptShape ∷ countShape ∷ edgeShape ∷ declarationShape ∷ openShape ∷ queryShape ∷ []
+shapesOf form = labelShape ∷ pairShape ∷ transitionShape ∷ acceptShape ∷ countShape ∷ edgeShape ∷ declarationShape (hasKinds form) ∷ openShape ∷ queryShape (hasKinds form) ∷ []
 
 abbrev pastShape : Shape
 pastShape = record { names = 10 ∷ []; row = lineEnd ∷ [] }

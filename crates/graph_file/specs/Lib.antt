@@ -5,6 +5,7 @@ pub mod Order
 pub mod File
 pub mod NameSought
 pub mod Inverse
+pub mod Forms
 pub mod Decode
 pub mod Sought
 pub mod NameOrder

@@ -8,10 +8,10 @@ use lib.ListN.{getD, drop}
 use lib.Seq.{sets}
 use Rattle.text_field.specs.declared.NumberRead.{NumberRead}
 use Rattle.text_field.specs.declared.NameRead.{NameRead}
-use Rattle.text_field.specs.Bytes.{isCapital}
+use Rattle.text_field.specs.Bytes.{isCapital, isLower}
 use Rattle.text_field.specs.Number.{NumberFound, numberMeaning, numberText, numberHere}
 use Rattle.text_field.specs.Name.{NameFound, nameMeaning, nameText, nameHere, isNameCells}
-use Rattle.graph_file.specs.Format.{Content, state, scope, mark, count, letter, label, end, name, Item, byte, field, valuesOf, everyItem}
+use Rattle.graph_file.specs.Format.{Content, state, scope, mark, count, letter, label, end, name, kind, plain, plainKind, Item, byte, field, valuesOf, everyItem}
 use Rattle.text_field.specs.Outcome.{Outcome, refused, done, andThen}
 use Rattle.graph_file.specs.Admission.{Row, value}
 
@@ -51,7 +51,8 @@ abbrev pub first : List ℕ → ℕ
 first text = getD text 0 0
 
 -- A field at the front of the text. A label's form is any capital (01, "The gym file"): whether the
--- file lists it is a matter of range, refusal 3.
+-- file lists it is a matter of range, refusal 3. A kind is one letter a to z (02, K8); the plain
+-- one has no text.
 unfoldable pub readField : List ℕ → Content → List ℕ → Outcome Reading
 readField letters state text = numberTaken (numberHere text) text
 readField letters scope text = numberTaken (numberHere text) text
@@ -61,6 +62,8 @@ readField letters letter text = byteTaken (isCapital (first text)) (first text) 
 readField letters label text = byteTaken (isCapital (first text)) (place (first text) letters) text
 readField letters end text = endTaken letters (first text) text
 readField letters name text = nameTaken (nameHere text) text
+readField letters kind text = byteTaken (isLower (first text)) (first text) text
+readField letters plain text = done (record { values = plainKind ∷ []; rest = text })
 
 -- Does this byte come first?
 unfoldable pub startsWith : ℕ → List ℕ → Bool
@@ -85,7 +88,7 @@ readItems letters [] row text = done (record { values = row; rest = text })
 readItems letters (i ∷ items) row text =
     andThen (readItem letters i text) (λ r. readItems letters items (sets row (placeOf i) (r .values)) (r .rest))
 
--- the byte of a letter's cell, which is at most 90 wherever it is written
+-- the byte of a letter's or a kind's cell, which is at most 122 wherever it is written
 abbrev pub asByte : ℕ → ℕ
 asByte v = v % 256
 
@@ -103,6 +106,8 @@ fieldText letters letter v w = asByte v ∷ []
 fieldText letters label v w = asByte (getD letters v 0) ∷ []
 fieldText letters end v w = endByte letters v ∷ []
 fieldText letters name v w = nameText v w
+fieldText letters kind v w = asByte v ∷ []
+fieldText letters plain v w = []
 
 -- an item's text in a row's line
 unfoldable pub itemText : List ℕ → Row → Item → List ℕ
@@ -115,8 +120,9 @@ lineText letters [] row = []
 lineText letters (i ∷ items) row = itemText letters row i ++ lineText letters items row
 
 -- Has the value a text of its form? A number has five digits at most, a letter is A to Z, a name's
--- two cells are a name's. A label's number is no text: without a label it is out of range, refusal
--- 3.
+-- two cells are a name's, a kind is a to z. A label's number is no text: without a label it is out
+-- of range, refusal 3. A line without kinds can hold no kind but `v` (02, K8: a row of another kind
+-- in a graph of the old form is 2).
 unfoldable pub fieldFormed : Content → ℕ → ℕ → Bool
 fieldFormed state v w = leb v 99999
 fieldFormed scope v w = leb v 99999
@@ -126,6 +132,8 @@ fieldFormed letter v w = isCapital v
 fieldFormed label v w = true
 fieldFormed end v w = true
 fieldFormed name v w = isNameCells v w
+fieldFormed kind v w = isLower v
+fieldFormed plain v w = eqb v plainKind
 
 unfoldable pub itemFormed : Row → Item → Bool
 itemFormed row (byte b) = true

@@ -11,7 +11,7 @@ use Rattle.graph_file.specs.declared.line.Took.{Took}
 use Rattle.graph_file.specs.declared.line.Took.the-variants.{Nothing, Bare, One, Two}
 use Rattle.graph_file.specs.declared.line.Line.{Line}
 use Rattle.graph_file.specs.declared.rows.Counts.{Counts}
-use Rattle.graph_file.specs.declared.reader.Part.{Part}
+use Rattle.graph_file.specs.declared.rows.Part.{Part}
 use Rattle.text_field.specs.declared.answer.Answer.{Answer}
 use Rattle.text_field.specs.declared.answer.Answer.the-variants.{Refused, Written}
 use lib.Dec.{eqb}
@@ -119,3 +119,11 @@ tableRead (Written n) table = done (take n table)
 -- the cells that were written are in the table
 abbrev pub WrittenIn : Answer → List ℕ → Type 0
 WrittenIn a table = (n : ℕ) → a ≡ Written n → n ≤ length table
+
+-- The sections above section k were taken: the place after them lies in the text, the cells are no
+-- more than these sections admit, the counts fit, and each row has taken a line.
+pub record SomeTaken (k : ℕ) (text : List ℕ) (r : Part) : Type 0 where
+  pub inside : r .next ≤ length text
+  pub room : r .cells ≤ roomBefore k
+  pub placed : Placed k (r .cells) (r .counts)
+  pub lines : r .cells + 6 * lineCount (drop (r .next) text) ≤ 1 + 6 * lineCount text

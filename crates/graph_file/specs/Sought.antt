@@ -3,18 +3,23 @@
 -- These are the statements; their proofs are in proofs/. Assumes nothing: these are definitions.
 use Prim.Native.Nat.{ℕ, suc, _+_, _-_, _≤_, _<_}
 use mathlib.Core.Path.{_≡_}
-use mathlib.Core.Bool.{true}
+use mathlib.Core.Bool.{Bool, true, false}
 use mathlib.Core.List.{List, [], _∷_, _++_}
 use lib.ListN.{length, getD, take, drop}
 use Rattle.text_field.specs.Number.{numberText}
 use Rattle.text_field.specs.Name.{isName, nameText}
 use Rattle.scope_graph.specs.Rows.{language}
 use Rattle.scope_graph.specs.Graph.{Query}
-use Rattle.graph_file.specs.Format.{shapeAt, querySection}
+use Rattle.graph_file.specs.Format.{shapeAt, hasKinds, querySection}
 use Rattle.text_field.specs.Outcome.{refused, done}
 use Rattle.graph_file.specs.File.{formIn, readCells}
 use Rattle.graph_file.specs.Decode.{rulesOf, queriesOf}
 use Rattle.graph_file.specs.NameSought.{nameSought, placeSought}
+
+-- a kind and the space behind it, where kinds are shown
+unfoldable pub shownKind : Bool → ℕ → List ℕ
+shownKind true k = k ∷ 32 ∷ []
+shownKind false k = []
 
 module _ (cells : List ℕ) where
   -- a query of the table
@@ -25,25 +30,29 @@ module _ (cells : List ℕ) where
   unfoldable pub seekText : TableQuery → List ℕ
   seekText query = nameText (query .name .high) (query .name .low)
 
-  -- the lines of queries: each one's scope, a space, the name, LF
+  -- in a table with kinds, the kind and a space before the name
+  unfoldable pub kindText : TableQuery → List ℕ
+  kindText query = shownKind (hasKinds (formIn cells)) (query .name .kind)
+
+  -- the lines of queries: each one's scope, a space, the kind if it is shown, the name, LF
   unfoldable pub queryLines : List TableQuery → List ℕ
   queryLines [] = []
-  queryLines (query ∷ rest) = numberText (query .start) ++ (32 ∷ (seekText query ++ (10 ∷ queryLines rest)))
+  queryLines (query ∷ rest) = numberText (query .start) ++ (32 ∷ (kindText query ++ (seekText query ++ (10 ∷ queryLines rest))))
 
   -- All before query q's line, where the sections above the queries have the text given: then come
   -- the names line and the lines of the queries before q.
   unfoldable pub beforeLine : List ℕ → ℕ → List ℕ
   beforeLine above q = above ++ (shapeAt (formIn cells) querySection .names ++ queryLines (take q (queriesOf cells)))
 
-  -- Query q is the one given: its line stands behind those of the queries before it, the later ones'
-  -- lines end the text, and what is sought is the name in it, behind the scope's number and a space.
-  -- It is a name by the file's rules, so never the empty part.
+  -- Query q is the one given: its line stands behind those of the queries before it, the later
+  -- ones' lines end the text, and what is sought is the name in it, behind the scope's number, a
+  -- space and the kind if it is shown. It is a name by the file's rules, so never the empty part.
   pub record SoughtIn (text : List ℕ) (q : ℕ) (query : TableQuery) : Type 0 where
     pub above : List ℕ
     pub lines : text ≡ beforeLine above q ++ queryLines (query ∷ drop (suc q) (queriesOf cells))
     pub name : nameSought text q ≡ seekText query
     pub is-name : isName (seekText query) ≡ true
-    pub from : placeSought text q .from ≡ length (beforeLine above q) + length (numberText (query .start)) + 1
+    pub from : placeSought text q .from ≡ length (beforeLine above q) + length (numberText (query .start)) + 1 + length (kindText query)
     pub to : placeSought text q .to ≡ placeSought text q .from + length (seekText query)
 
 -- For a text that is read as a table, and q below the number of the table's queries, the name

@@ -9,7 +9,7 @@ use lib.ListN.{length, getD, drop}
 use Rattle.graph_file.specs.declared.rows.Counts.{Counts}
 use Rattle.graph_file.specs.declared.format.Sequence as told
 use Rattle.graph_file.specs.declared.format.Sequence.the-variants.{Ascending, Once, Free}
-use Rattle.graph_file.specs.Format.{Content, state, scope, mark, count, letter, label, end, name, Item, byte, field, Sequence, ascending, once, free, Section, sections, Shape, shapesOf, oldForm}
+use Rattle.graph_file.specs.Format.{Content, state, scope, mark, count, letter, label, end, name, kind, plain, Item, byte, field, Sequence, ascending, once, free, Section, sections, Shape, declarationShape, queryShape, shapesOf, oldForm, hasKinds}
 use Rattle.graph_file.specs.Admission.{Row, value, rowOf, blank, Sofar}
 
 -- the contents by number
@@ -22,13 +22,15 @@ contentNumber letter = 4
 contentNumber label = 5
 contentNumber end = 6
 contentNumber name = 7
+contentNumber kind = 8
+contentNumber plain = 9
 
 -- An item's code: a byte stands for itself, a field from 128 on has its content and place.
 unfoldable pub code : Item → ℕ
 code (byte b) = b
 code (field k c) = 128 + 8 * contentNumber k + c
 
--- the content of a number; a larger one is read as a name
+-- the content of a number; a larger one is read as the plain kind
 unfoldable pub contentOf : ℕ → Content
 contentOf zero = state
 contentOf (suc zero) = scope
@@ -37,24 +39,54 @@ contentOf (suc (suc (suc zero))) = count
 contentOf (suc (suc (suc (suc zero)))) = letter
 contentOf (suc (suc (suc (suc (suc zero))))) = label
 contentOf (suc (suc (suc (suc (suc (suc zero)))))) = end
-contentOf (suc (suc (suc (suc (suc (suc (suc n))))))) = name
+contentOf (suc (suc (suc (suc (suc (suc (suc zero))))))) = name
+contentOf (suc (suc (suc (suc (suc (suc (suc (suc zero)))))))) = kind
+contentOf (suc (suc (suc (suc (suc (suc (suc (suc (suc n))))))))) = plain
 
 -- the item of a code
 unfoldable pub itemOf : ℕ → Item
 itemOf x = elim (ltb x 128) [ true ↦ byte x | false ↦ field (contentOf ((x - 128) / 8)) (x % 8) ]
 
--- a section in the fixed string: its names line, the codes of a row's items, and the places of its
--- key as digits, each ended by LF
+-- a section's lines in the fixed string: its names line and the codes of a row's items
+unfoldable pub shapeBytes : Shape → List ℕ
+shapeBytes h = h .names ++ map code (h .row)
+
+-- Has a field of this content a range? Any other value is always in range (specs/Admission).
+unfoldable pub hasRange : Content → Bool
+hasRange state = true
+hasRange scope = true
+hasRange mark = true
+hasRange count = true
+hasRange letter = false
+hasRange label = true
+hasRange end = true
+hasRange name = false
+hasRange kind = false
+hasRange plain = false
+
+-- of a row's items only the fields that have a range, since every row asks for them
+unfoldable pub keptRanged : Bool → Item → List Item → List Item
+keptRanged true i items = i ∷ items
+keptRanged false i items = items
+
+unfoldable pub ranged : List Item → List Item
+ranged [] = byte 10 ∷ []
+ranged (byte b ∷ items) = ranged items
+ranged (field k c ∷ items) = keptRanged (hasRange k) (field k c) (ranged items)
+
+-- a section in the fixed string: its lines, the codes of its fields that have a range, and the
+-- places of its key as digits, each ended by LF
 unfoldable pub layout : Shape → Section → List ℕ
-layout h s = h .names ++ (map code (h .row) ++ (map (λ (c : ℕ). 48 + c) (s .key) ++ (10 ∷ [])))
+layout h s = shapeBytes h ++ (map code (ranged (h .row)) ++ (map (λ (c : ℕ). 48 + c) (s .key) ++ (10 ∷ [])))
 
 unfoldable pub layouts : List Shape → List Section → List ℕ
 layouts [] ss = []
 layouts (h ∷ hs) [] = []
 layouts (h ∷ hs) (s ∷ ss) = layout h s ++ layouts hs ss
 
+-- the sections of the old form, and then the two that have kinds in the other
 unfoldable pub formatBytes : List ℕ
-formatBytes = layouts (shapesOf oldForm) sections
+formatBytes = layouts (shapesOf oldForm) sections ++ (shapeBytes (declarationShape true) ++ shapeBytes (queryShape true))
 
 -- an item, and the items after it unless it ends the line
 unfoldable pub lineStep : ℕ → List Item → List Item
@@ -80,24 +112,35 @@ keyOf (x ∷ rest) = keyStep x (keyOf rest)
 unfoldable pub keyAt : ℕ → List ℕ
 keyAt o = keyOf (drop o formatBytes)
 
--- where each section's names line and row start, by the form of the file, and its key
-abbrev pub namesPlaces : List ℕ
-namesPlaces = 0 ∷ 9 ∷ 26 ∷ 52 ∷ 63 ∷ 73 ∷ 97 ∷ 121 ∷ 136 ∷ []
+-- of two places the one by the file's form: without kinds, with kinds
+unfoldable pub placeBy : ℕ → ℕ → ℕ → ℕ
+placeBy form old new = elim (hasKinds form) [ true ↦ new | false ↦ old ]
+
+-- where each section's names line and row start, by the form of the file
+abbrev pub namesPlaces : ℕ → List ℕ
+namesPlaces form = 0 ∷ 10 ∷ 30 ∷ 60 ∷ 73 ∷ 85 ∷ placeBy form 113 179 ∷ 142 ∷ placeBy form 160 205 ∷ []
 
 unfoldable pub namesPlace : ℕ → ℕ → ℕ
-namesPlace form k = getD namesPlaces k 152
+namesPlace form k = getD (namesPlaces form) k 227
 
-abbrev pub rowPlaces : List ℕ
-rowPlaces = 6 ∷ 19 ∷ 43 ∷ 59 ∷ 70 ∷ 87 ∷ 110 ∷ 129 ∷ 147 ∷ []
+abbrev pub rowPlaces : ℕ → List ℕ
+rowPlaces form = 6 ∷ 20 ∷ 47 ∷ 67 ∷ 80 ∷ 99 ∷ placeBy form 126 197 ∷ 150 ∷ placeBy form 171 221 ∷ []
 
 unfoldable pub rowPlace : ℕ → ℕ → ℕ
-rowPlace form k = getD rowPlaces k 152
+rowPlace form k = getD (rowPlaces form) k 227
+
+-- where its fields with a range start, and its key: these are the same in both forms
+abbrev pub rangePlaces : List ℕ
+rangePlaces = 8 ∷ 24 ∷ 53 ∷ 69 ∷ 82 ∷ 105 ∷ 133 ∷ 154 ∷ 176 ∷ []
+
+unfoldable pub rangePlace : ℕ → ℕ
+rangePlace k = getD rangePlaces k 227
 
 abbrev pub keyPlaces : List ℕ
-keyPlaces = 8 ∷ 23 ∷ 49 ∷ 61 ∷ 72 ∷ 93 ∷ 116 ∷ 133 ∷ 151 ∷ []
+keyPlaces = 9 ∷ 27 ∷ 57 ∷ 71 ∷ 84 ∷ 109 ∷ 136 ∷ 157 ∷ 178 ∷ []
 
 unfoldable pub keyPlace : ℕ → ℕ
-keyPlace k = getD keyPlaces k 152
+keyPlace k = getD keyPlaces k 227
 
 -- what the code's enum says of how rows follow one another
 unfoldable pub sequenceMeaning : told.Sequence → Sequence

@@ -7,7 +7,7 @@ use lib.Dec.{ltb}
 use lib.ListN.{length, drop}
 use Rattle.text_field.specs.Buffer.{Buf, puts}
 use Rattle.graph_file.specs.declared.rows.Counts.{Counts}
-use Rattle.graph_file.specs.declared.reader.Part.{Part}
+use Rattle.graph_file.specs.declared.rows.Part.{Part}
 use Rattle.text_field.specs.Outcome.{Outcome, refused, done}
 use Rattle.graph_file.specs.Format.{Item}
 use Rattle.graph_file.specs.Admission.{rowOf, Sofar}

@@ -5,7 +5,7 @@ use crate::format::STATES;
 use crate::format::Sequence;
 use crate::format::item;
 use crate::format::key_place;
-use crate::format::row_place;
+use crate::format::range_place;
 use crate::format::sequence_of;
 use crate::rows::Counts;
 use crate::rows::label_place;
@@ -133,29 +133,21 @@ fn row_follows(format: &[u8], k: usize, table: &[u64], p: usize, labels: u32, ro
     }
 }
 
-// The row at place p as a row of section k in a file of a form, after the rows above: 5, 3 or 4
-// where it is refused, 0 where it is admitted. The section's limit comes from its reader or writer.
-pub fn admitted(
-    format: &[u8],
-    form: u64,
-    k: usize,
-    limit: usize,
-    table: &[u64],
-    p: usize,
-    c: Counts,
-) -> u64
+// The row at place p as a row of section k after the rows above, whatever the form: 5, 3 or 4 where
+// it is refused, 0 where it is admitted. The section's limit comes from its reader or writer.
+pub fn admitted(format: &[u8], k: usize, limit: usize, table: &[u64], p: usize, c: Counts) -> u64
     requires format { ⌜ now format ≡ formatBytes ⌝ }
     requires room { ⌜ p + 6 ≤ length (now table) ⌝ }
     requires limit { ⌜ limit ≡ sectionAt k .most ⌝ }
-    ensures answer { λ r. ⌜ r ≡ admission form k (sofarAt (now (table .entry)) p c)
-        (rowOf (drop p (now (table .entry)))) ⌝ }
+    ensures answer { λ r. ⌜ ((form : ℕ) → r ≡ admission form k (sofarAt (now (table .entry)) p c)
+        (rowOf (drop p (now (table .entry))))) ⌝ }
 {
     let labels = c.labels;
     let rows = c.rows;
     if limit <= rows as usize {
         return 5;
     }
-    if !in_range(format, row_place(form, k), labels, c.scopes, table, p) {
+    if !in_range(format, range_place(k), labels, c.scopes, table, p) {
         return 3;
     }
     if !row_follows(format, k, table, p, labels, rows) {

@@ -7,7 +7,7 @@ ghost use lib.Dec.{leb};
 ghost use lib.ListN.{getD};
 ghost use Rattle.graph_file.specs.Format.{sectionAt, shapeAt, everyItem};
 ghost use Rattle.graph_file.specs.Line.{sparesPlace};
-ghost use Rattle.graph_file.specs.Table.{formatBytes, namesPlace, rowPlace, keyPlace, sequenceMeaning};
+ghost use Rattle.graph_file.specs.Table.{formatBytes, placeBy, namesPlace, rowPlace, rangePlace, keyPlace, sequenceMeaning};
 
 // The bytes of a file at most (document 01, "The gym file").
 pub const TEXT_BYTES: usize = 32768;
@@ -19,16 +19,29 @@ pub const MARKS: u64 = 65536;
 
 pub const MOST_SCOPES: u64 = 64;
 
-// The form of a file, which is its table's first cell. There is one so far.
+// The forms of a file, by the number that is its table's first cell: without kinds, as document 01
+// has it, and with kinds (document 02, K8).
 pub const OLD_FORM: u64 = 0;
 
-// For each section its names line, the items of its row and the places of its key. A byte from 128
-// on is a field: 128, eight times what it holds (0 state, 1 scope, 2 mark, 3 count, 4 letter, 5
-// label, 6 end, 7 name), and the place of its value. A constant array is made anew at each read of it: so
-// the reader and the writer lend this one to what looks at it, and the numbers of a section that
-// every row asks for are matches.
-pub const FORMAT: [u8; 152] =
-    *b"label\n\xa0\n\nless more\n\xb0 \xb1\n01\nstate label next\n\x80 \xa9 \x82\n01\naccept\n\x80\n0\nscopes\n\x98\n\nfrom label to\n\x88 \xa9 \x8a\n012\nat name mark\n\x88 \xb9 \x93\n0123\nat open\n\x88 \xb1\n01\nstart seek\n\x88 \xb9\n\n";
+pub const KIND_FORM: u64 = 1;
+
+// How many sections there are, and the number of the one whose names line shows the form.
+pub const SECTIONS: usize = 9;
+
+pub const DECLARATIONS: usize = 6;
+
+// The kind of all that stands in a file without kinds, `v`.
+pub const PLAIN_KIND: u64 = 118;
+
+// For each section its names line, the items of its row, those of its fields that have a range, and
+// the places of its key, in a file without kinds; then the names lines and rows of declarations and
+// queries with kinds. A byte from 128 on is a field: 128, eight times what it holds (0 state, 1
+// scope, 2 mark, 3 count, 4 letter, 5 label, 6 end, 7 name, 8 kind, 9 the plain kind, which has no
+// text), and the place of its value. A constant array is made anew at each read of it: so the
+// reader and the writer lend this one to what looks at it, and the numbers of a section that every
+// row asks for are matches.
+pub const FORMAT: [u8; 227] =
+    *b"label\n\xa0\n\n\nless more\n\xb0 \xb1\n\xb0\xb1\n01\nstate label next\n\x80 \xa9 \x82\n\x80\xa9\x82\n01\naccept\n\x80\n\x80\n0\nscopes\n\x98\n\x98\n\nfrom label to\n\x88 \xa9 \x8a\n\x88\xa9\x8a\n012\nat name mark\n\x88 \xc9\xba \x94\n\x88\x94\n01234\nat open\n\x88 \xb1\n\x88\xb1\n01\nstart seek\n\x88 \xc9\xba\n\x88\n\nat kind name mark\n\x88 \xc1 \xba \x94\nstart kind seek\n\x88 \xc1 \xba\n";
 
 // How many rows each section may have, by its number: document 01 asks for this table.
 const LIMITS: [usize; 9] = [8, 36, 128, 16, 1, 512, 512, 576, 256];
@@ -44,21 +57,28 @@ pub fn item(format: &[u8], o: usize) -> u8
     byte_at(format, o, b'\n')
 }
 
+// Of two places of the format the one for a file of this form: without kinds, with kinds.
+fn place_by(form: u64, old: usize, new: usize) -> usize
+    ensures answer { λ r. ⌜ r ≡ placeBy form old new ⌝ }
+{
+    if form == KIND_FORM { new } else { old }
+}
+
 // Where section k's names line starts in the format, for a file of a form.
 pub fn names_place(form: u64, k: usize) -> usize
     ensures answer { λ r. ⌜ r ≡ namesPlace form k ⌝ }
 {
     match k {
         0 => 0,
-        1 => 9,
-        2 => 26,
-        3 => 52,
-        4 => 63,
-        5 => 73,
-        6 => 97,
-        7 => 121,
-        8 => 136,
-        _ => 152,
+        1 => 10,
+        2 => 30,
+        3 => 60,
+        4 => 73,
+        5 => 85,
+        6 => place_by(form, 113, 179),
+        7 => 142,
+        8 => place_by(form, 160, 205),
+        _ => 227,
     }
 }
 
@@ -68,15 +88,33 @@ pub fn row_place(form: u64, k: usize) -> usize
 {
     match k {
         0 => 6,
-        1 => 19,
-        2 => 43,
-        3 => 59,
-        4 => 70,
-        5 => 87,
-        6 => 110,
-        7 => 129,
-        8 => 147,
-        _ => 152,
+        1 => 20,
+        2 => 47,
+        3 => 67,
+        4 => 80,
+        5 => 99,
+        6 => place_by(form, 126, 197),
+        7 => 150,
+        8 => place_by(form, 171, 221),
+        _ => 227,
+    }
+}
+
+// Where those of its row's fields start that have a range, whatever the form.
+pub fn range_place(k: usize) -> usize
+    ensures answer { λ r. ⌜ r ≡ rangePlace k ⌝ }
+{
+    match k {
+        0 => 8,
+        1 => 24,
+        2 => 53,
+        3 => 69,
+        4 => 82,
+        5 => 105,
+        6 => 133,
+        7 => 154,
+        8 => 176,
+        _ => 227,
     }
 }
 
@@ -85,16 +123,16 @@ pub fn key_place(k: usize) -> usize
     ensures answer { λ r. ⌜ r ≡ keyPlace k ⌝ }
 {
     match k {
-        0 => 8,
-        1 => 23,
-        2 => 49,
-        3 => 61,
-        4 => 72,
-        5 => 93,
-        6 => 116,
-        7 => 133,
-        8 => 151,
-        _ => 152,
+        0 => 9,
+        1 => 27,
+        2 => 57,
+        3 => 71,
+        4 => 84,
+        5 => 109,
+        6 => 136,
+        7 => 157,
+        8 => 178,
+        _ => 227,
     }
 }
 
@@ -148,9 +186,9 @@ pub fn used(k: usize) -> usize
         3 => 1,
         4 => 1,
         5 => 3,
-        6 => 4,
+        6 => 5,
         7 => 2,
-        8 => 3,
+        8 => 4,
         _ => 0,
     }
 }

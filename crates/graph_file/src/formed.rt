@@ -1,4 +1,5 @@
 // Whether a row of the table can be written as a line of its section.
+use crate::format::PLAIN_KIND;
 use crate::format::item;
 use crate::format::row_place;
 use crate::format::used;
@@ -24,7 +25,9 @@ fn field_formed(content: u8, v: u64, w: u64) -> bool
         4 => 65 <= v && v <= 90,
         5 => true,
         6 => true,
-        _ => is_name(v, w),
+        7 => is_name(v, w),
+        8 => 97 <= v && v <= 122,
+        _ => v == PLAIN_KIND,
     }
 }
 

@@ -12,6 +12,7 @@ mod sought;
 mod tables;
 mod writer;
 
+pub use format::KIND_FORM;
 pub use rows::OWN_CELLS;
 pub use rows::SHORT_CELLS;
 pub use sought::NamePlace;

@@ -1,10 +1,16 @@
 // One line of the file, read against the items at a place of the format.
+use crate::format::DECLARATIONS;
+use crate::format::KIND_FORM;
+use crate::format::OLD_FORM;
+use crate::format::PLAIN_KIND;
 use crate::format::item;
+use crate::format::names_place;
 use crate::rows::label_place;
 use text_field::NameRead;
 use text_field::NumberRead;
 use text_field::byte_at;
 use text_field::is_capital;
+use text_field::is_lower;
 use text_field::read_name;
 use text_field::read_number;
 ghost use mathlib.Core.Path.{_≡_};
@@ -14,10 +20,11 @@ ghost use mathlib.Core.List.{List, []};
 ghost use lib.ListN.{drop, set};
 ghost use Rattle.text_field.specs.Number.{numberHere};
 ghost use Rattle.text_field.specs.Name.{nameHere};
-ghost use Rattle.graph_file.specs.Format.{byte};
+ghost use Rattle.graph_file.specs.Format.{byte, kindForm, declarationSection};
 ghost use Rattle.graph_file.specs.Admission.{blank};
 ghost use Rattle.graph_file.specs.Line.{numberTaken, nameTaken, byteTaken, endTaken, readField, readItem, placeOf, readItems};
 ghost use Rattle.graph_file.specs.Table.{contentOf, itemOf, formatBytes, itemsAt, lettersAt};
+ghost use Rattle.graph_file.specs.File.{readNames, formShown};
 ghost use Rattle.graph_file.specs.Reader.{took, lineOutcome, itemLine};
 
 // What an item at the front of a text gives: the place after it and its values, or nothing where it
@@ -110,7 +117,9 @@ fn take_field(table: &[u64], labels: u32, content: u8, text: &[u8], at: usize) -
             at,
         ),
         6 => take_end(table, labels, x, text, at),
-        _ => take_name(text, at),
+        7 => take_name(text, at),
+        8 => take_byte(is_lower(x), x as u64, text, at),
+        _ => Took::One(at, PLAIN_KIND),
     }
 }
 
@@ -160,7 +169,6 @@ fn line_item(table: &[u64], labels: u32, x: u8, row: &mut [u64], text: &[u8], at
         ≡ itemLine (lettersAt labels (drop 1 (now (table .entry)))) (itemOf x) (now (row .entry))
         (drop at (now (text .entry))) ⌝ }
 {
-    let c = place_of(x);
     let t = take_item(table, labels, x, text, at);
     match t {
         Took::Nothing => Step { ok: false, next: 0 },
@@ -169,6 +177,7 @@ fn line_item(table: &[u64], labels: u32, x: u8, row: &mut [u64], text: &[u8], at
             next: next,
         },
         Took::One(next, v) => {
+            let c = place_of(x);
             put_value(row, c, v);
             Step {
                 ok: true,
@@ -176,6 +185,7 @@ fn line_item(table: &[u64], labels: u32, x: u8, row: &mut [u64], text: &[u8], at
             }
         },
         Took::Two(next, v, w) => {
+            let c = place_of(x);
             put_value(row, c, v);
             put_value(row, c + 1, w);
             Step {
@@ -244,4 +254,20 @@ pub fn read_line(
         x = item(format, i);
     }
     end_line(row, text, place)
+}
+
+// The form that a text shows at a place where the names line of declarations is due.
+pub fn form_at(format: &[u8], table: &[u64], text: &[u8], at: usize) -> u64
+    requires format { ⌜ now format ≡ formatBytes ⌝ }
+    ensures answer { λ r. ⌜ r ≡ formShown (readNames kindForm declarationSection (drop at (now (text .entry)))) ⌝ }
+{
+    let l = read_line(
+        format,
+        table,
+        0,
+        names_place(KIND_FORM, DECLARATIONS),
+        text,
+        at,
+    );
+    if l.ok { KIND_FORM } else { OLD_FORM }
 }

@@ -59,7 +59,9 @@ fn put_field(
         4 => put_byte(out, n, byte_of(v)),
         5 => put_byte(out, n, byte_of(letter_of(table, labels, v))),
         6 => put_byte(out, n, end_byte(table, labels, v)),
-        _ => put_name(out, n, v, w),
+        7 => put_name(out, n, v, w),
+        8 => put_byte(out, n, byte_of(v)),
+        _ => n,
     }
 }
 

@@ -1,73 +1,31 @@
 // The file's text read into a table, section by section.
 use crate::admission::admitted;
 use crate::cells::put_row;
+use crate::format::DECLARATIONS;
 use crate::format::FORMAT;
 use crate::format::OLD_FORM;
+use crate::format::SECTIONS;
 use crate::format::TEXT_BYTES;
 use crate::format::least;
 use crate::format::most;
 use crate::format::names_place;
 use crate::format::row_place;
+use crate::line::form_at;
 use crate::line::read_line;
 use crate::order::order_fault;
 use crate::rows::Counts;
+use crate::rows::Part;
+use crate::rows::counts_after;
 use text_field::byte_at;
 use text_field::is_lower;
 ghost use mathlib.Core.Path.{_≡_};
 ghost use mathlib.Core.List.{List, [], _∷_};
-ghost use Prim.Native.Nat.{ℕ, suc, _+_, _*_, _<_, _≤_};
+ghost use Prim.Native.Nat.{ℕ, suc, _+_, _-_, _*_, _≤_};
 ghost use lib.ListN.{length, drop};
-ghost use Rattle.graph_file.specs.Format.{sectionAt, oldForm, tableCells};
+ghost use Rattle.graph_file.specs.Format.{sectionAt, tableCells};
 ghost use Rattle.graph_file.specs.Table.{formatBytes};
-ghost use Rattle.graph_file.specs.File.{oneRow, throughRows, throughSection, throughSections, atStart, rowFollows, reading, readStage};
-ghost use Rattle.graph_file.specs.Reader.{stageAt, partOutcome, Placed, RowTaken, RowsTaken, SectionTaken, countsAfter, RowsRoom, TextRoom};
-
-// What a part of the way answers: a refusal or 0, the place after it in the text (read, or
-// written), the place after it in the table, and what the rows count.
-pub struct Part {
-    pub refusal: u64,
-    pub next: usize,
-    pub cells: usize,
-    pub counts: Counts,
-}
-
-// The counts after a row of section k whose first value is v.
-pub fn counts_after(k: usize, c: Counts, v: u64) -> Counts
-    requires few { ⌜ (c .labels < 4096) × (c .pairs < 4096) × (c .rows < 4096) ⌝ }
-    ensures answer { λ r. ⌜ r ≡ countsAfter k c v ⌝ }
-{
-    let rows = c.rows + 1;
-    if k == 0 {
-        return Counts {
-            labels: c.labels + 1,
-            pairs: c.pairs,
-            scopes: c.scopes,
-            rows: rows,
-        };
-    }
-    if k == 1 {
-        return Counts {
-            labels: c.labels,
-            pairs: c.pairs + 1,
-            scopes: c.scopes,
-            rows: rows,
-        };
-    }
-    if k == 4 {
-        return Counts {
-            labels: c.labels,
-            pairs: c.pairs,
-            scopes: v,
-            rows: rows,
-        };
-    }
-    Counts {
-        labels: c.labels,
-        pairs: c.pairs,
-        scopes: c.scopes,
-        rows: rows,
-    }
-}
+ghost use Rattle.graph_file.specs.File.{oneRow, throughRows, throughSection, throughSections, throughSome, atStart, rowFollows, reading, formOf, readStage, formIn};
+ghost use Rattle.graph_file.specs.Reader.{stageAt, partOutcome, Placed, RowTaken, RowsTaken, SectionTaken, SomeTaken, RowsRoom, TextRoom};
 
 // One row of section k, in a file of a form, at a place of the section's part of the text, written
 // after the table's first n cells.
@@ -101,7 +59,7 @@ fn read_row(
     let row = l.row;
     let next = l.next;
     put_row(table, n, k as u64, row);
-    let a = admitted(format, form, k, limit, table, n, c);
+    let a = admitted(format, k, limit, table, n, c);
     if a != 0 {
         return Part {
             refusal: a,
@@ -234,26 +192,31 @@ fn read_section(
     }
 }
 
-// The nine sections, each handed the rest of the text from its start.
-fn read_sections(format: &[u8], text: &[u8], table: &mut [u64]) -> Part
+// The sections from section `first` up to section `last`, each handed the rest of the text from its
+// start, behind what is read above.
+fn read_some(
+    format: &[u8],
+    form: u64,
+    first: usize,
+    last: usize,
+    text: &[u8],
+    table: &mut [u64],
+    above: Part,
+) -> Part
     requires format { ⌜ now format ≡ formatBytes ⌝ }
-    requires room { ⌜ TextRoom (now text) (length (now table)) ⌝ }
+    requires room { ⌜ TextRoom (now text) (length (now table)) × (first ≤ last) × (last ≤ 9)
+        × SomeTaken first (now text) above ⌝ }
     ensures answer { λ r. ⌜ partOutcome r (now (table .exit)) (now (text .entry))
-        ≡ throughSections (reading oldForm) 9 0 (atStart (oldForm ∷ []) (now (text .entry))) ⌝ }
-    ensures size { λ r. ⌜ (r .refusal ≡ 0 → r .cells ≤ length (now (table .entry))) ⌝ }
+        ≡ throughSome (reading form) (last - first) first
+        (stageAt (now (table .entry)) (above .cells) (above .counts) (drop (above .next) (now (text .entry)))) ⌝ }
+    ensures taken { λ r. ⌜ (r .refusal ≡ 0 → SomeTaken last (now (text .entry)) r) ⌝ }
 {
-    table[0] = OLD_FORM;
-    let mut k: usize = 0;
-    let mut at: usize = 0;
-    let mut n: usize = 1;
-    let mut c = Counts {
-        labels: 0,
-        pairs: 0,
-        scopes: 0,
-        rows: 0,
-    };
-    while k < 9 {
-        let r = read_section(format, OLD_FORM, k, &text[at..], table, n, c);
+    let mut k = first;
+    let mut at = above.next;
+    let mut n = above.cells;
+    let mut c = above.counts;
+    while k < last {
+        let r = read_section(format, form, k, &text[at..], table, n, c);
         if r.refusal != 0 {
             return r;
         }
@@ -261,14 +224,6 @@ fn read_sections(format: &[u8], text: &[u8], table: &mut [u64]) -> Part
         n = r.cells;
         c = r.counts;
         k += 1;
-    }
-    if at < text.len() {
-        return Part {
-            refusal: 2,
-            next: at,
-            cells: n,
-            counts: c,
-        };
     }
     Part {
         refusal: 0,
@@ -278,12 +233,58 @@ fn read_sections(format: &[u8], text: &[u8], table: &mut [u64]) -> Part
     }
 }
 
+// The nine sections: those above the declarations are the same in both forms, and the names line
+// that comes next shows the form.
+fn read_sections(format: &[u8], text: &[u8], table: &mut [u64]) -> Part
+    requires format { ⌜ now format ≡ formatBytes ⌝ }
+    requires room { ⌜ TextRoom (now text) (length (now table)) ⌝ }
+    ensures answer { λ r. ⌜ partOutcome r (now (table .exit)) (now (text .entry))
+        ≡ throughSections (reading (formOf (now (text .entry)))) 9 0
+        (atStart (formOf (now (text .entry)) ∷ []) (now (text .entry))) ⌝ }
+    ensures size { λ r. ⌜ (r .refusal ≡ 0 → r .cells ≤ length (now (table .entry))) ⌝ }
+    ensures form { λ r. ⌜ (r .refusal ≡ 0 → formIn (now (table .exit)) ≡ formOf (now (text .entry))) ⌝ }
+{
+    table[0] = OLD_FORM;
+    let begin = Part {
+        refusal: 0,
+        next: 0,
+        cells: 1,
+        counts: Counts {
+            labels: 0,
+            pairs: 0,
+            scopes: 0,
+            rows: 0,
+        },
+    };
+    let above = read_some(format, OLD_FORM, 0, DECLARATIONS, text, table, begin);
+    if above.refusal != 0 {
+        return above;
+    }
+    let form = form_at(format, table, text, above.next);
+    table[0] = form;
+    let r = read_some(format, form, DECLARATIONS, SECTIONS, text, table, above);
+    if r.refusal != 0 {
+        return r;
+    }
+    let counts = r.counts;
+    if r.next < text.len() {
+        return Part {
+            refusal: 2,
+            next: r.next,
+            cells: r.cells,
+            counts: counts,
+        };
+    }
+    r
+}
+
 // The whole file: its length, its sections, its order.
 pub fn read_whole(text: &[u8], table: &mut [u64]) -> Part
     requires room { ⌜ TextRoom (now text) (length (now table)) ⌝ }
     ensures answer { λ r. ⌜ partOutcome r (now (table .exit)) (now (text .entry))
         ≡ readStage (now (text .entry)) ⌝ }
     ensures size { λ r. ⌜ (r .refusal ≡ 0 → r .cells ≤ length (now (table .entry))) ⌝ }
+    ensures form { λ r. ⌜ (r .refusal ≡ 0 → formIn (now (table .exit)) ≡ formOf (now (text .entry))) ⌝ }
 {
     let none = Counts {
         labels: 0,

@@ -1,11 +1,12 @@
 // The rows of a graph table.
 use text_field::cell;
 ghost use mathlib.Core.Path.{_≡_};
-ghost use Prim.Native.Nat.{ℕ, _+_, _≤_};
+ghost use Prim.Native.Nat.{ℕ, _+_, _<_, _≤_};
 ghost use lib.ListN.{length, drop};
 ghost use Rattle.graph_file.specs.Admission.{rowOf, value};
 ghost use Rattle.graph_file.specs.Line.{place};
 ghost use Rattle.graph_file.specs.Table.{lettersAt};
+ghost use Rattle.graph_file.specs.Reader.{countsAfter};
 
 // A table to read any text in: the form, six cells for each of the 2,045 rows that the sections
 // admit, and six more for a row past a limit while it is tested.
@@ -24,6 +25,53 @@ pub struct Counts {
     pub pairs: u32,
     pub scopes: u64,
     pub rows: u32,
+}
+
+// What a part of the way answers: a refusal or 0, the place after it in the text (read, or
+// written), the place after it in the table, and what the rows count.
+pub struct Part {
+    pub refusal: u64,
+    pub next: usize,
+    pub cells: usize,
+    pub counts: Counts,
+}
+
+// The counts after a row of section k whose first value is v.
+pub fn counts_after(k: usize, c: Counts, v: u64) -> Counts
+    requires few { ⌜ (c .labels < 4096) × (c .pairs < 4096) × (c .rows < 4096) ⌝ }
+    ensures answer { λ r. ⌜ r ≡ countsAfter k c v ⌝ }
+{
+    let rows = c.rows + 1;
+    if k == 0 {
+        return Counts {
+            labels: c.labels + 1,
+            pairs: c.pairs,
+            scopes: c.scopes,
+            rows: rows,
+        };
+    }
+    if k == 1 {
+        return Counts {
+            labels: c.labels,
+            pairs: c.pairs + 1,
+            scopes: c.scopes,
+            rows: rows,
+        };
+    }
+    if k == 4 {
+        return Counts {
+            labels: c.labels,
+            pairs: c.pairs,
+            scopes: v,
+            rows: rows,
+        };
+    }
+    Counts {
+        labels: c.labels,
+        pairs: c.pairs,
+        scopes: c.scopes,
+        rows: rows,
+    }
 }
 
 // The value at a place of the row whose section number stands at place p of the table, which holds

@@ -1,18 +1,21 @@
 // The name that a query seeks, handed back as the part of the lent text that holds it.
-use crate::format::OLD_FORM;
+use crate::format::KIND_FORM;
 use crate::reader::read_whole;
 use crate::rows::OWN_CELLS;
 use text_field::NameRead;
 use text_field::NumberRead;
 use text_field::byte_at;
+use text_field::is_lower;
 use text_field::read_name;
 use text_field::read_number;
 ghost use mathlib.Core.Path.{_≡_};
 ghost use mathlib.Core.List.{List, [], _∷_};
-ghost use Prim.Native.Nat.{ℕ, _+_, _-_};
+ghost use Prim.Native.Nat.{ℕ, _+_, _-_, _≤_};
 ghost use lib.ListN.{length, drop};
-ghost use Rattle.graph_file.specs.Format.{shapeAt, querySection};
-ghost use Rattle.graph_file.specs.NameSought.{afterLines, lineCount, fromName, nameFront, placeFrom, nameSought, placeSought};
+ghost use Rattle.graph_file.specs.Format.{byte, field, kind, shapeAt, querySection};
+ghost use Rattle.text_field.specs.Number.{numberHere};
+ghost use Rattle.graph_file.specs.Line.{numberTaken, readItem};
+ghost use Rattle.graph_file.specs.NameSought.{afterLines, lineCount, restOf, fromName, nameFront, placeFrom, nameSought, placeSought};
 
 // The place of a name's first byte in the text, and the place after its last.
 pub struct NamePlace {
@@ -64,22 +67,58 @@ fn after_lines(text: &[u8], lines: usize) -> usize
     i
 }
 
+// The place after the number that stands at a place; the text's end where none does.
+fn past_number(text: &[u8], at: usize) -> usize
+    ensures place { λ r. ⌜ (drop r (now (text .entry))
+        ≡ restOf (numberTaken (numberHere (drop at (now (text .entry)))) (drop at (now (text .entry)))))
+        × (r ≤ length (now (text .entry))) ⌝ }
+{
+    let NumberRead::Number(_, next) = read_number(text, at) else {
+        return text.len();
+    };
+    if next < text.len() { next } else { text.len() }
+}
+
+// The place after the space that stands at a place; the text's end where none does.
+fn past_space(text: &[u8], at: usize) -> usize
+    ensures place { λ r. ⌜ (drop r (now (text .entry)) ≡ restOf (readItem [] (byte 32) (drop at (now (text .entry)))))
+        × (r ≤ length (now (text .entry))) ⌝ }
+{
+    if text.len() <= at {
+        return text.len();
+    }
+    if byte_at(text, at, 0) != b' ' {
+        return text.len();
+    }
+    at + 1
+}
+
+// The place after the kind that stands at a place; the text's end where none does.
+fn past_kind(text: &[u8], at: usize) -> usize
+    ensures place { λ r. ⌜ (drop r (now (text .entry)) ≡ restOf (readItem [] (field kind 1) (drop at (now (text .entry)))))
+        × (r ≤ length (now (text .entry))) ⌝ }
+{
+    if text.len() <= at {
+        return text.len();
+    }
+    if !is_lower(byte_at(text, at, 0)) {
+        return text.len();
+    }
+    at + 1
+}
+
 // Where the name stands in the query's line at a place, in a file of a form: behind the start and a
-// space. The text's end where the line is another one.
+// space, and behind a kind and a space where there are kinds. The text's end where the line is
+// another one.
 fn name_start(text: &[u8], form: u64, at: usize) -> usize
     ensures answer { λ r. ⌜ r ≡ length (now (text .entry))
         - length (fromName (shapeAt form querySection .row) (drop at (now (text .entry)))) ⌝ }
 {
-    let NumberRead::Number(_, a) = read_number(text, at) else {
-        return text.len();
-    };
-    if text.len() <= a {
-        return text.len();
+    let a = past_space(text, past_number(text, at));
+    if form != KIND_FORM {
+        return a;
     }
-    if byte_at(text, a, 0) != 32 {
-        return text.len();
-    }
-    a + 1
+    past_space(text, past_kind(text, a))
 }
 
 // The place after the name that stands at a place; the same place where none does.
@@ -121,12 +160,13 @@ pub fn name_place(text: &[u8], query: usize) -> NamePlace
     if n <= query {
         return none;
     }
+    let form = own[0];
     let lines = line_count(text);
     // an accepted file has more lines than queries; the definition's difference is 0 here
     if lines < n {
-        return name_after(text, OLD_FORM, query);
+        return name_after(text, form, query);
     }
-    name_after(text, OLD_FORM, lines - n + query)
+    name_after(text, form, lines - n + query)
 }
 
 // The name that a query of the file seeks, as a part of the lent text; an empty part where a

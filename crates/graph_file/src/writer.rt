@@ -2,6 +2,7 @@
 use crate::admission::admitted;
 use crate::cells::copy_bytes;
 use crate::format::FORMAT;
+use crate::format::KIND_FORM;
 use crate::format::OLD_FORM;
 use crate::format::TEXT_BYTES;
 use crate::format::least;
@@ -11,9 +12,9 @@ use crate::format::row_place;
 use crate::formed::is_formed;
 use crate::line_text::put_line;
 use crate::order::order_fault;
-use crate::reader::Part;
-use crate::reader::counts_after;
 use crate::rows::Counts;
+use crate::rows::Part;
+use crate::rows::counts_after;
 use crate::rows::row_at;
 use text_field::Answer;
 use text_field::cell;
@@ -76,7 +77,7 @@ fn write_row(
             counts: c,
         };
     }
-    let a = admitted(format, form, k, limit, table, p, c);
+    let a = admitted(format, k, limit, table, p, c);
     if a != 0 {
         return Part {
             refusal: a,
@@ -267,10 +268,11 @@ fn has_form(table: &[u64]) -> bool
     if table.len() == 0 {
         return false;
     }
-    cell(table, 0, 1) == OLD_FORM
+    cell(table, 0, OLD_FORM) <= KIND_FORM
 }
 
-// The text of a graph table made in working memory and then put into the lent buffer, where it has room.
+// The text of a graph table made in working memory and then put into the lent buffer, where it has
+// room.
 fn write_by(table: &[u64], text: &mut [u8], out: &mut [u8]) -> Answer
     requires room { ⌜ length (now text) ≡ textBytes ⌝ }
     ensures answer { λ r. ⌜ answerOf r ≡ answer (writeText (now (table .entry))) (length (now (out .entry))) ⌝ }

@@ -1,19 +1,31 @@
--- Laws of reading a row: does one stand there, and which order pair is it? Assumes nothing.
-use mathlib.Core.Path.{_≡_, refl, sym, _∙_}
-use mathlib.Core.Bool.{Bool, true, false}
+-- Laws of reading a row: does one stand there, which order pair is it, which name has it? Assumes
+-- nothing.
+use mathlib.Core.Path.{_≡_, refl, sym, ap, _∙_}
+use mathlib.Core.Bool.{Bool, true, false, and-false}
 use mathlib.Core.List.{List}
-use Prim.Native.Nat.{ℕ, _+_, _≤_, _<_}
+use Prim.Native.Nat.{ℕ, zero, suc, _+_, _≤_, _<_}
 use native.Mathlib.Omega.{arith}
-use borrow.Author.Tests.{ltb-true, ltb-false}
+use borrow.Author.Tests.{ltb-true, ltb-false, eq-eqb, ne-eqb}
 use lib.Dec.{eqb, ltb}
 use lib.ListN.{length, getD, drop, drop-of-length-le, List·getD-eq-default}
 use lib.Seq.{drop-cons, getD-drop}
 use Rattle.text_field.proofs.ByteLaws.{clash}
+use Rattle.graph_file.specs.Format.{hasKinds}
 use Rattle.graph_file.specs.Admission.{rowOf}
+use Rattle.graph_file.specs.File.{formIn}
 use Rattle.graph_file.specs.Line.{startsWith}
 use Rattle.scope_graph.specs.Order.{endOf, meaning, pairMeaning}
 use Rattle.scope_graph.specs.declared.End.{End as CodeEnd}
+use Rattle.scope_graph.specs.Rows.{PackedName, sameName}
 use Rattle.graph_file.specs.Decode.{orderPairOf}
+use Rattle.graph_file.proofs.RowLaws.{row-cells}
+use Rattle.graph_table.specs.declared.names.Name.{Name}
+use Rattle.graph_table.specs.Values.{packed, declarationRow, queryRow, rowDeclared, rowQuery, declares}
+use Rattle.graph_table.specs.declared.rows.DeclarationRow.{DeclarationRow}
+use Rattle.graph_table.specs.declared.sections.Form.{Form}
+use Rattle.graph_table.specs.declared.sections.Form.the-variants.{Old, Kinds}
+use Rattle.graph_table.specs.Sections.{tableForm}
+use Rattle.graph_table.proofs.Tests.{and-true}
 
 -- does a row stand there?
 module _ (cells : List ℕ) (p k : ℕ) where
@@ -45,3 +57,54 @@ pair-made cells at x y a b e f g h = rw (g, h, getD-drop at cells 1 0, getD-drop
 -- a cell past the end counts as 0
 pub letter-none : (cells : List ℕ) (at : ℕ) → length cells ≤ at → getD cells (at + 1) 0 ≡ 0
 letter-none cells at h = let past : length cells ≤ at + 1 = omega arith in List·getD-eq-default cells 0 {n = at + 1} past
+
+-- a declaration's and a query's row, by cells and by values
+pub declaration-cells : (rows : List ℕ) (p : ℕ) → declarationRow rows p ≡ rowDeclared (rowOf (drop p rows))
+declaration-cells rows p = ap rowDeclared (sym (row-cells rows p))
+
+pub query-cells : (rows : List ℕ) (p : ℕ) → queryRow rows p ≡ rowQuery (rowOf (drop p rows))
+query-cells rows p = ap rowQuery (sym (row-cells rows p))
+
+-- names are told apart by any of their three numbers
+module _ (a b : Name) where
+  pub names-high : (a .high ≡ b .high → ⊥) → sameName (packed a) (packed b) ≡ false
+  unfolding sameName
+  names-high h = rw (ne-eqb (a .high) (b .high) h) (and-false (eqb (a .kind) (b .kind)))
+
+  module _ (e : a .high ≡ b .high) where
+    pub names-low : (a .low ≡ b .low → ⊥) → sameName (packed a) (packed b) ≡ false
+    unfolding sameName
+    names-low h = rw (eq-eqb (a .high) (b .high) e, ne-eqb (a .low) (b .low) h) (and-false (eqb (a .kind) (b .kind)))
+
+    pub names-kind : a .low ≡ b .low → sameName (packed a) (packed b) ≡ eqb (a .kind) (b .kind)
+    unfolding sameName
+    names-kind h = rw (eq-eqb (a .high) (b .high) e, eq-eqb (a .low) (b .low) h) (and-true (eqb (a .kind) (b .kind)) true refl)
+
+-- a row declares the name at a scope: by the scope, then by the name
+module _ (x : PackedName) (s : ℕ) (d : DeclarationRow) where
+  pub declares-there : d .at ≡ s → declares x s d ≡ sameName (packed (d .name)) x
+  unfolding declares
+  declares-there h = rw (eq-eqb (d .at) s h)
+
+  pub declares-apart : (d .at ≡ s → ⊥) → declares x s d ≡ false
+  unfolding declares
+  declares-apart h = rw (ne-eqb (d .at) s h)
+
+-- a table's form, by its first cell
+module _ (cells : List ℕ) where
+  pub form-none : length cells ≡ 0 → Old ≡ tableForm cells
+  unfolding tableForm formIn hasKinds
+  form-none h = rw (List·getD-eq-default cells 0 {n = 0} (omega arith), tableForm)
+
+  pub form-kinds : getD cells 0 0 ≡ 1 → Kinds ≡ tableForm cells
+  unfolding tableForm formIn hasKinds
+  form-kinds h = rw (h, tableForm)
+
+  pub form-old : (getD cells 0 0 ≡ 1 → ⊥) → Old ≡ tableForm cells
+  unfolding tableForm formIn hasKinds
+  form-old h = at (getD cells 0 0) h
+    where
+      at : (cell : ℕ) → (cell ≡ 1 → ⊥) → Old ≡ (elim (hasKinds cell) as (λ _. Form) [ true ↦ Kinds | false ↦ Old ])
+      at zero k = refl
+      at (suc zero) k = absurd (k refl)
+      at (suc (suc n)) k = refl

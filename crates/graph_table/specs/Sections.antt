@@ -1,12 +1,20 @@
--- Where the rows of a section stand in a graph table: its first cell is the form, then each row has
--- six cells, the section's number and five values (document 01, "The gym file": the sections stand
--- in a sequence). Assumes nothing: these are definitions.
+-- The form of a graph table, and where the rows of a section stand in it: its first cell is the
+-- form, then each row has six cells, the section's number and five values (document 01, "The gym
+-- file": the sections stand in a sequence). Assumes nothing: these are definitions.
 use Prim.Native.Nat.{ℕ, suc, _+_, _-_, _≤_}
 use mathlib.Core.List.{List, [], _∷_}
 use mathlib.Core.Bool.{true, false}
 use lib.Dec.{ltb}
 use lib.ListN.{getD, take, drop}
+use Rattle.graph_file.specs.Format.{hasKinds}
 use Rattle.graph_file.specs.Admission.{Row}
+use Rattle.graph_file.specs.File.{formIn}
+use Rattle.graph_table.specs.declared.sections.Form.{Form}
+use Rattle.graph_table.specs.declared.sections.Form.the-variants.{Old, Kinds}
+
+-- the form of the file that a table stands for: with kinds (02, K8), or the old one
+unfoldable pub tableForm : List ℕ → Form
+tableForm cells = elim (hasKinds (formIn cells)) [ true ↦ Kinds | false ↦ Old ]
 
 -- how many cells the rows have that stand before the first one whose cell c is k or more
 unfoldable pub leading : ℕ → ℕ → List ℕ → ℕ

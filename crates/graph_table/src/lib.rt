@@ -1,9 +1,12 @@
 // The graph table is read here and nowhere else: where rows stand, and what a row says.
 mod edges;
+mod names;
 mod rows;
 mod sections;
 
 pub use edges::next_row;
+pub use names::Name;
+pub use names::same_name;
 pub use rows::DeclarationRow;
 pub use rows::EdgeRow;
 pub use rows::OpenRow;
@@ -11,6 +14,7 @@ pub use rows::PairRow;
 pub use rows::QueryRow;
 pub use rows::TransitionRow;
 pub use rows::declaration_row;
+pub use rows::declares;
 pub use rows::edge_row;
 pub use rows::first_value;
 pub use rows::in_section;
@@ -24,6 +28,7 @@ pub use sections::ACCEPTS;
 pub use sections::COUNT;
 pub use sections::DECLARATIONS;
 pub use sections::EDGES;
+pub use sections::Form;
 pub use sections::LABELS;
 pub use sections::OPENS;
 pub use sections::PAIRS;
@@ -33,5 +38,6 @@ pub use sections::SCOPE;
 pub use sections::SECTION;
 pub use sections::TRANSITIONS;
 pub use sections::first_row;
+pub use sections::form_of;
 pub use sections::row_count;
 pub use sections::rows_from;

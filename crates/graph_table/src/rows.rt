@@ -1,5 +1,7 @@
 // The rows of a graph table by their values. Every read of a row's cell is here: the first cell is
 // the section's number, then come the values.
+use crate::names::Name;
+use crate::names::same_name;
 use scope_graph::Pair;
 use scope_graph::end_of;
 use text_field::cell;
@@ -10,7 +12,7 @@ ghost use Rattle.scope_graph.specs.Order.{pairMeaning};
 ghost use Rattle.graph_file.specs.Admission.{rowOf};
 ghost use Rattle.graph_file.specs.Decode.{orderPairOf};
 ghost use Rattle.graph_file.specs.Line.{startsWith};
-ghost use Rattle.graph_table.specs.Values.{pairRow, transitionRow, edgeRow, declarationRow, openRow, queryRow};
+ghost use Rattle.graph_table.specs.Values.{packed, pairRow, transitionRow, edgeRow, declarationRow, openRow, queryRow, declares};
 
 // `less more`: ends by their numbers
 pub struct PairRow {
@@ -32,11 +34,10 @@ pub struct EdgeRow {
     pub to: u64,
 }
 
-// `at name mark`: the name's two numbers
+// `at name mark`, or with its kind `at kind name mark`
 pub struct DeclarationRow {
     pub at: u64,
-    pub high: u64,
-    pub low: u64,
+    pub name: Name,
     pub mark: u64,
 }
 
@@ -46,11 +47,10 @@ pub struct OpenRow {
     pub end: u64,
 }
 
-// `start seek`
+// `start seek`, or with its kind `start kind seek`
 pub struct QueryRow {
     pub start: u64,
-    pub high: u64,
-    pub low: u64,
+    pub name: Name,
 }
 
 // The first value of the row at place p: all that a row `label`, `accept` or `scopes` has.
@@ -99,10 +99,20 @@ pub fn declaration_row(rows: &[u64], p: usize) -> DeclarationRow
 {
     DeclarationRow {
         at: rows[p + 1],
-        high: rows[p + 2],
-        low: rows[p + 3],
-        mark: rows[p + 4],
+        name: Name {
+            kind: rows[p + 2],
+            high: rows[p + 3],
+            low: rows[p + 4],
+        },
+        mark: rows[p + 5],
     }
+}
+
+// Does the row declare the name at the scope?
+pub fn declares(row: DeclarationRow, s: u64, name: Name) -> bool
+    ensures answer { λ r. ⌜ r ≡ declares (packed name) s row ⌝ }
+{
+    row.at == s && same_name(row.name, name)
 }
 
 pub fn open_row(rows: &[u64], p: usize) -> OpenRow
@@ -121,8 +131,11 @@ pub fn query_row(rows: &[u64], p: usize) -> QueryRow
 {
     QueryRow {
         start: rows[p + 1],
-        high: rows[p + 2],
-        low: rows[p + 3],
+        name: Name {
+            kind: rows[p + 2],
+            high: rows[p + 3],
+            low: rows[p + 4],
+        },
     }
 }
 

@@ -1,8 +1,9 @@
-// Where the sections' rows stand in a graph table.
+// A graph table's form, and where the sections' rows stand in it.
+use graph_file::KIND_FORM;
 ghost use mathlib.Core.Path.{_≡_};
 ghost use Prim.Native.Nat.{_+_, _≤_, _<_};
 ghost use lib.ListN.{length, drop};
-ghost use Rattle.graph_table.specs.Sections.{leading, firstRow, rowsOf};
+ghost use Rattle.graph_table.specs.Sections.{tableForm, leading, firstRow, rowsOf};
 
 // The nine sections by their numbers (01, "The gym file").
 pub const LABELS: usize = 0;
@@ -31,6 +32,25 @@ pub const ROW: usize = 6;
 pub const SECTION: usize = 0;
 
 pub const SCOPE: usize = 1;
+
+// The form of a file: the old one, or the one with kinds.
+pub enum Form {
+    Old,
+    Kinds,
+}
+
+// The form of the file that the table stands for, by its first cell.
+pub fn form_of(table: &[u64]) -> Form
+    ensures answer { λ r. ⌜ r ≡ tableForm (now (table .entry)) ⌝ }
+{
+    if table.len() == 0 {
+        return Form::Old;
+    }
+    if table[0] == KIND_FORM {
+        return Form::Kinds;
+    }
+    Form::Old
+}
 
 // From place p on, the place of the first row whose cell c is k or more; where the whole rows end,
 // if there is none.

@@ -16,12 +16,12 @@ use Rattle.text_field.specs.declared.NameRead.the-variants.{Name, NoName}
 use Rattle.text_field.specs.Bytes.{isCapital}
 use Rattle.text_field.specs.Number.{numberHere, numberPlaced, numberMeaning}
 use Rattle.text_field.specs.Name.{nameHere, nameMeaning}
-use Rattle.graph_file.specs.Format.{Item, byte, field, state, scope, mark, count, letter, label, end, name, sectionAt, shapeAt, oldForm}
+use Rattle.graph_file.specs.Format.{Item, byte, field, state, scope, mark, count, letter, label, end, name, kind, plain, sectionAt, shapeAt}
 use Rattle.text_field.specs.Outcome.{Outcome, refused, done, andThen, refuseIf}
 use Rattle.graph_file.specs.Admission.{Row, Sofar, blank, rowOf, unless, inRange, follows, admission}
 use Rattle.graph_file.specs.Line.{Reading, numberTaken, nameTaken, byteTaken, place, endTaken, readField, startsWith, readItem, placeOf, readItems, lineText, formed}
 use Rattle.graph_file.specs.Order.{orderFault}
-use Rattle.graph_file.specs.File.{Piece, Way, Stage, ifAdmitted, afterRow, oneRow, throughRows, afterNames, enough, throughSection, isEmpty, throughSections, ordered, atStart, whole, readNames, readRow, reading, readStage, madeOf, readCells, writeNames, writeRow, writing, hasForm, formIn, writeText}
+use Rattle.graph_file.specs.File.{Piece, Way, Stage, ifAdmitted, afterRow, oneRow, throughRows, afterNames, enough, throughSection, isEmpty, throughSections, ordered, atStart, whole, readNames, readRow, reading, formOf, readStage, madeOf, readCells, writeNames, writeRow, writing, hasForm, formIn, writeText}
 use Rattle.text_field.specs.Answer.{answer}
 use Rattle.path_row.specs.Form.{PathRow, mostMark, mostScope, numberUpTo, Front, startBy, spaceBy, markBy, headHere, rowBy, rowHere}
 use Rattle.path_row.specs.Compare.{Comparison, compareRows, compareAnswer}
@@ -83,6 +83,8 @@ item-listed ls (field letter c) t = byte-listed _ _ t
 item-listed ls (field label c) t = byte-listed _ _ t
 item-listed ls (field end c) t = end-listed ls _ t
 item-listed ls (field name c) t = name-listed (nameHere t) t
+item-listed ls (field kind c) t = byte-listed _ _ t
+item-listed ls (field plain c) t = carried _
 
 items-listed : (ls : List ℕ) (items : List Item) (row : Row) (t : List ℕ) → Listed (readItems ls items row t)
 unfolding readItems
@@ -157,9 +159,9 @@ stage-listed : (text : List ℕ) → Listed (readStage text)
 unfolding readStage
 stage-listed text = by-length (ltb 32768 (length text))
   where
-    by-length : (b : Bool) → Listed {A = Stage} (elim b as (λ _. Outcome Stage) [ true ↦ refused 1 | false ↦ whole (reading oldForm) (oldForm ∷ []) text ])
+    by-length : (b : Bool) → Listed {A = Stage} (elim b as (λ _. Outcome Stage) [ true ↦ refused 1 | false ↦ whole (reading (formOf text)) (formOf text ∷ []) text ])
     by-length true = listed 1 (omega arith) (omega arith)
-    by-length false = whole-listed (reading oldForm) (read-names oldForm) (read-row oldForm) (oldForm ∷ []) text
+    by-length false = whole-listed (reading (formOf text)) (read-names (formOf text)) (read-row (formOf text)) (formOf text ∷ []) text
 
 read-listed : (text : List ℕ) → Listed (readCells text)
 unfolding readCells

@@ -3,38 +3,27 @@ use mathlib.Core.Path.{_≡_, sym, ap, _∙_}
 use mathlib.Core.Bool.{Bool, true, false}
 use mathlib.Core.List.{List}
 use Prim.Native.Nat.{ℕ, _+_, _-_, _≤_, _<_}
-use borrow.Author.Tests.{eq-eqb, ne-eqb}
 use lib.Dec.{eqb}
 use lib.ListN.{length, drop}
-use Rattle.graph_file.specs.Admission.{Row, rowOf}
-use Rattle.graph_file.proofs.RowLaws.{row-cells}
+use Rattle.graph_file.specs.Admission.{rowOf}
 use Rattle.graph_table.specs.declared.rows.DeclarationRow.{DeclarationRow}
 use Rattle.graph_table.specs.declared.rows.QueryRow.{QueryRow}
 use Rattle.graph_table.specs.Sections.{rowsOf}
-use Rattle.graph_table.specs.Values.{declarationRow}
+use Rattle.graph_table.specs.Values.{packed, declarationRow, rowDeclared, declares}
+use Rattle.graph_table.proofs.RowLaws.{declaration-cells}
 use Rattle.graph_table.proofs.Parts.{any-hit, any-miss, any-end}
-use Rattle.judge.specs.Steps.{rowDeclared, isMarked, hasMark}
+use Rattle.judge.specs.Steps.{isMarked, hasMark}
 
 module _ (x : QueryRow) (mark s : ℕ) where
-  -- a declaration's values one by one
+  -- by whether the declaration is one of the name there
   module _ (d : DeclarationRow) where
-    pub at-apart : (d .at ≡ s → ⊥) → false ≡ isMarked x mark s d
+    pub mark-apart : declares (packed (x .name)) s d ≡ false → false ≡ isMarked x mark s d
     unfolding isMarked
-    at-apart h = rw (ne-eqb (d .at) s h)
+    mark-apart h = rw h
 
-    module _ (h : d .at ≡ s) where
-      pub high-apart : (d .high ≡ x .high → ⊥) → false ≡ isMarked x mark s d
-      unfolding isMarked
-      high-apart k = rw (eq-eqb (d .at) s h, ne-eqb (d .high) (x .high) k)
-
-      module _ (k : d .high ≡ x .high) where
-        pub low-apart : (d .low ≡ x .low → ⊥) → false ≡ isMarked x mark s d
-        unfolding isMarked
-        low-apart m = rw (eq-eqb (d .at) s h, eq-eqb (d .high) (x .high) k, ne-eqb (d .low) (x .low) m)
-
-        pub mark-left : d .low ≡ x .low → eqb mark (d .mark) ≡ isMarked x mark s d
-        unfolding isMarked
-        mark-left m = rw (eq-eqb (d .at) s h, eq-eqb (d .high) (x .high) k, eq-eqb (d .low) (x .low) m)
+    pub mark-left : declares (packed (x .name)) s d ≡ true → eqb mark (d .mark) ≡ isMarked x mark s d
+    unfolding isMarked
+    mark-left h = rw h
 
   -- the rows from place p on
   module _ (decls : List ℕ) where
@@ -49,7 +38,7 @@ module _ (x : QueryRow) (mark s : ℕ) where
       module _ (h : 6 ≤ length decls - p) (d : DeclarationRow) (is : d ≡ declarationRow decls p) (u : Bool)
           (e : u ≡ isMarked x mark s d) where
         row-is : isMarked x mark s (rowDeclared (rowOf (drop p decls))) ≡ u
-        row-is = ap (λ (row : Row). isMarked x mark s (rowDeclared row)) (row-cells decls p) ∙ ap (isMarked x mark s) (sym is) ∙ sym e
+        row-is = ap (isMarked x mark s) (sym (is ∙ declaration-cells decls p)) ∙ sym e
 
         pub marks-here : u ≡ true → marksLeft p ≡ true
         unfolding hasMark

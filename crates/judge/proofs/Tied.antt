@@ -27,9 +27,10 @@ use Rattle.search.specs.Conditions.{freeAt}
 use Rattle.search.proofs.Rules.{standing-is}
 use Rattle.graph_table.specs.declared.rows.QueryRow.{QueryRow}
 use Rattle.graph_table.specs.Sections.{partOf, rowsOf}
+use Rattle.graph_table.specs.Values.{packed, rowDeclared, declares}
 use Rattle.board.specs.Marks.{DeclaringIs}
 use Rattle.board.specs.Made.{Made}
-use Rattle.board.specs.Queries.{Asked, queryFrom}
+use Rattle.board.specs.Queries.{queryOn, Asked}
 use Rattle.board.proofs.Queries.{accepted, sound, rows-are}
 use Rattle.board.proofs.Board.{scopes-are, board-is, order-is}
 use Rattle.path_row.specs.declared.form.Step.{Step}
@@ -44,7 +45,7 @@ use Rattle.judge.specs.Steps.{isMarked, hasMark, hopsBy, stepHops, Begin
 -- The marks of a name at a scope, row by row.
 module _ (r : Rules) (x : QueryRow) (mark s : ℕ) where
   abbrev name : PackedName
-  name = record { high = x .high; low = x .low }
+  name = packed (x .name)
 
   abbrev declared : Declaration (language r) → Bool
   declared d = eqb (d .at) s && sameName (d .name) name
@@ -53,21 +54,19 @@ module _ (r : Rules) (x : QueryRow) (mark s : ℕ) where
   markOf d = d .mark
 
   marked : (rows : List Row) → hasMark x mark s rows ≡ anyOf (eqb mark) (marksAt (language r) (map (declarationOf r) rows) s name)
-  unfolding hasMark isMarked anyOf marksAt keep declarationOf nameAt sameName
+  unfolding hasMark isMarked declares anyOf marksAt keep declarationOf nameAt
   marked [] = refl
-  marked (row ∷ rows) = at (eqb (value row 0) s) (eqb (value row 1) (x .high)) (eqb (value row 2) (x .low)) (marked rows)
+  marked (row ∷ rows) = at (declares name s (rowDeclared row)) (marked rows)
     where
       rest : List (Declaration (language r))
       rest = keep declared (map (declarationOf r) rows)
 
-      at : (u v w : Bool) → hasMark x mark s rows ≡ anyOf (eqb mark) (map markOf rest)
-          → (elim (u && (v && (w && eqb mark (value row 3)))) as (λ _. Bool) [ true ↦ true | false ↦ hasMark x mark s rows ])
+      at : (u : Bool) → hasMark x mark s rows ≡ anyOf (eqb mark) (map markOf rest)
+          → (elim (u && eqb mark (rowDeclared row .mark)) as (λ _. Bool) [ true ↦ true | false ↦ hasMark x mark s rows ])
           ≡ anyOf (eqb mark)
-          (map markOf (elim (u && (v && w)) as (λ _. List (Declaration (language r))) [ true ↦ declarationOf r row ∷ rest | false ↦ rest ]))
-      at false v w e = e
-      at true false w e = e
-      at true true false e = e
-      at true true true e = ap (λ (z : Bool). elim (eqb mark (value row 3)) as (λ _. Bool) [ true ↦ true | false ↦ z ]) e
+          (map markOf (elim u as (λ _. List (Declaration (language r))) [ true ↦ declarationOf r row ∷ rest | false ↦ rest ]))
+      at false e = e
+      at true e = ap (λ (z : Bool). elim (eqb mark (rowDeclared row .mark)) as (λ _. Bool) [ true ↦ true | false ↦ z ]) e
 
 last-is : (r : Rules) (s : ℕ) (hs : List (HopOf ℕ)) → lastOf s hs ≡ lastFrom (language r) s hs
 unfolding lastOf
@@ -85,7 +84,7 @@ abbrev byTests : Bool → Bool → Bool → Standing
 byTests same reached cut =
     elim (same && reached) as (λ _. Standing) [ false ↦ is-unreached | true ↦ elim cut as (λ _. Standing) [ true ↦ is-shadowed | false ↦ is-visible ] ]
 
-module _ (cells : List ℕ) (x : QueryRow) (mark from : ℕ) (row : List ℕ) (a : Asked cells (x .start)) where
+module _ (cells : List ℕ) (x : QueryRow) (mark from : ℕ) (row : List ℕ) (a : Asked cells (queryOn cells x)) where
   abbrev L : Language
   L = language (rulesOf cells)
 
@@ -93,7 +92,7 @@ module _ (cells : List ℕ) (x : QueryRow) (mark from : ℕ) (row : List ℕ) (a
   g = graphOf cells
 
   abbrev q : Query L
-  q = queryFrom cells (x .start) (x .high) (x .low)
+  q = queryOn cells x
 
   abbrev theRow : RulesRow L
   theRow = ruled cells (record { mark = mark; start = from; steps = stepsIn row })
@@ -163,7 +162,7 @@ module _ (cells : List ℕ) (x : QueryRow) (mark from : ℕ) (row : List ℕ) (a
 
   module _ (same : from ≡ x .start) (block : List ℕ) (made : Made cells block) (decls : List ℕ)
       (decls-is : decls ≡ partOf declarationSection cells) (goal : ℕ)
-      (goal-is : DeclaringIs decls (record { high = x .high; low = x .low }) goal)
+      (goal-is : DeclaringIs decls (packed (x .name)) goal)
       (n : Node) (begins : Begins block (x .start) n) (at : ℕ) (at-is : stepsOf mostSteps (drop at row) ≡ stepsIn row) where
     free-start : hasScope (n .free) ≡ freeAt (x .start)
     free-start = fun-ext (begins .free)

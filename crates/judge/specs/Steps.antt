@@ -11,7 +11,7 @@ use Rattle.scope_graph.specs.Language.{End, stop}
 use Rattle.scope_graph.specs.Path.{HopOf}
 use Rattle.scope_graph.specs.Rows.{anyOf, language}
 use Rattle.scope_graph.specs.Computed.{Standing, judged}
-use Rattle.graph_file.specs.Admission.{Row, value}
+use Rattle.graph_file.specs.Admission.{Row}
 use Rattle.graph_file.specs.Decode.{rulesOf, graphOf}
 use Rattle.block.specs.Layout.{IsBlock}
 use Rattle.block.specs.Sets.{hasScope}
@@ -23,7 +23,8 @@ use Rattle.search.specs.Tables.{tableBoard, tableOrder}
 use Rattle.graph_table.specs.declared.rows.DeclarationRow.{DeclarationRow}
 use Rattle.graph_table.specs.declared.rows.QueryRow.{QueryRow}
 use Rattle.graph_table.specs.Sections.{rowsOf}
-use Rattle.board.specs.Queries.{queryFrom}
+use Rattle.graph_table.specs.Values.{packed, rowDeclared, declares}
+use Rattle.board.specs.Queries.{queryOn}
 use Rattle.path_row.specs.declared.form.Step.{Step}
 use Rattle.path_row.specs.Form.{stepsOf, stepsIn}
 use Rattle.path_row.specs.Compare.{labelNumber}
@@ -43,12 +44,9 @@ unfoldable pub firstFault : ℕ → ℕ → ℕ
 firstFault zero later = later
 firstFault (suc n) later = suc n
 
--- a row by the values of a declaration; is it one of what is sought at the scope, with the mark?
-abbrev pub rowDeclared : Row → DeclarationRow
-rowDeclared row = record { at = value row 0; high = value row 1; low = value row 2; mark = value row 3 }
-
+-- is the declaration one of what is sought at the scope, with the mark?
 unfoldable pub isMarked : QueryRow → ℕ → ℕ → DeclarationRow → Bool
-isMarked x mark s d = eqb (d .at) s && (eqb (d .high) (x .high) && (eqb (d .low) (x .low) && eqb mark (d .mark)))
+isMarked x mark s d = declares (packed (x .name)) s d && eqb mark (d .mark)
 
 unfoldable pub hasMark : QueryRow → ℕ → ℕ → List Row → Bool
 hasMark x mark s rows = anyOf (isMarked x mark s) (map rowDeclared rows)
@@ -128,5 +126,5 @@ rowCut block goal n hs =
 -- the standing of a row with this mark, this start and these steps in its text, for a query
 abbrev pub judgedRow : List ℕ → QueryRow → ℕ → ℕ → List ℕ → Standing
 judgedRow cells x mark from row =
-    judged (language (rulesOf cells)) (graphOf cells) (queryFrom cells (x .start) (x .high) (x .low))
+    judged (language (rulesOf cells)) (graphOf cells) (queryOn cells x)
     (ruled cells (record { mark = mark; start = from; steps = stepsIn row }))

@@ -6,6 +6,7 @@ use graph_table::DeclarationRow;
 use graph_table::QueryRow;
 use graph_table::ROW;
 use graph_table::declaration_row;
+use graph_table::declares;
 use path_row::compare::label_number;
 use path_row::form::MOST_STEPS;
 use path_row::form::StepRead;
@@ -24,13 +25,7 @@ ghost use Rattle.judge.specs.Steps.{isMarked, hasMark, stepHops, rowReac
 fn is_marked(d: DeclarationRow, sought: QueryRow, mark: u64, s: u64) -> bool
     ensures answer { λ r. ⌜ r ≡ isMarked sought mark s d ⌝ }
 {
-    if d.at != s {
-        return false;
-    }
-    if d.high != sought.high {
-        return false;
-    }
-    if d.low != sought.low {
+    if !declares(d, s, sought.name) {
         return false;
     }
     mark == d.mark

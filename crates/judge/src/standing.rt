@@ -17,7 +17,7 @@ ghost use Rattle.text_field.specs.Outcome.{done};
 ghost use Rattle.block.specs.Layout.{IsBlock};
 ghost use Rattle.block.specs.Block.{scopesCell};
 ghost use Rattle.board.specs.Made.{Made};
-ghost use Rattle.board.specs.Queries.{Asked};
+ghost use Rattle.board.specs.Queries.{queryOn, Asked};
 ghost use Rattle.judge.specs.Judge.{meaning};
 ghost use Rattle.judge.specs.Steps.{Begins, judgedRow};
 
@@ -54,7 +54,7 @@ pub fn standing(
     from: u64,
     row: &[u8],
 ) -> Judged
-    requires asked { ⌜ Asked (now table) (sought .start) ⌝ }
+    requires asked { ⌜ Asked (now table) (queryOn (now table) sought) ⌝ }
     requires made { ⌜ Made (now table) (now block) ⌝ }
     ensures answer { λ r. ⌜ meaning r ≡ done (judgedRow (now (table .entry)) sought mark from (now (row .entry))) ⌝ }
 {
@@ -63,7 +63,7 @@ pub fn standing(
         return Judged::Unreached;
     }
     let decls = part(table, block, DECLARATIONS);
-    let goal = declaring(decls, sought.high, sought.low);
+    let goal = declaring(decls, sought.name);
     let n = begin(block, start);
     let at = first_step(row);
     if !is_reached(table, block, decls, goal, sought, mark, n, row, at) {

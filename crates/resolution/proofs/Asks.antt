@@ -10,16 +10,19 @@ use borrow.Author.Tests.{ltb-true, ltb-false, lt-ltb}
 use lib.Dec.{eqb, ltb}
 use lib.ListN.{length, getD, set, length-set}
 use lib.Seq.{getD-set-same, getD-set-other}
-use Rattle.graph_file.specs.Decode.{scopesOf}
+use Rattle.scope_graph.specs.Graph.{Query}
+use Rattle.scope_graph.specs.Rows.{PackedName, language}
+use Rattle.graph_file.specs.Decode.{rulesOf, scopesOf}
 use Rattle.block.specs.Sets.{hasScope, hasState, placesOf}
 use Rattle.block.specs.Block.{acceptSet}
-use Rattle.block.specs.Ask.{FROM, HIGH, LOW, GOAL, IsAsk, askStart, askHigh, askLow, askGoal}
+use Rattle.block.specs.Ask.{FROM, KIND, HIGH, LOW, GOAL, IsAsk, askStart, askName, askGoal}
 use Rattle.block.proofs.SetLaws.{scopes-all, scope-past}
 use Rattle.search.specs.Live.{Closed, any-way}
 use Rattle.search.specs.Board.{without}
 use Rattle.search.specs.Tables.{placeFlag, tableBoard}
 use Rattle.search.specs.Conditions.{freeAt, LiveAt, WorthAt}
 use Rattle.graph_table.specs.declared.rows.QueryRow.{QueryRow}
+use Rattle.graph_table.specs.Values.{packed}
 use Rattle.board.specs.Made.{Made}
 use Rattle.graph_file.specs.Format.{declarationSection}
 use Rattle.graph_table.specs.Sections.{partOf}
@@ -27,8 +30,8 @@ use Rattle.board.specs.Marks.{DeclaringIs}
 use Rattle.graph_table.proofs.Tests.{below-or}
 use Rattle.follow.specs.declared.Task.{Task}
 use Rattle.follow.specs.declared.Task.the-variants.{Entries, Place}
-use Rattle.resolution.specs.Asked.{queryOn, queryIn, Ready, Asking, AwayFrom}
-use Rattle.board.specs.Queries.{Asked}
+use Rattle.resolution.specs.Asked.{queryIn, Ready, Asking, AwayFrom}
+use Rattle.board.specs.Queries.{queryOn, Asked}
 use Rattle.board.proofs.Queries.{accepted}
 
 -- one cell more is copied
@@ -41,46 +44,64 @@ copy-turn tables ask i h same j k =
     rw e (getD-set-same ask i (getD tables i 0) 0 h))
     (below-or j i)
 
--- the query's four cells behind its tables
-module _ (tables ask : List ℕ) (start high low goal : ℕ) (size : length ask ≡ 196) (same : (j : ℕ) → j < 192 → getD ask j 0 ≡ getD tables j 0) where
-  abbrev whole : List ℕ
-  whole = set (set (set (set ask FROM start) HIGH high) LOW low) GOAL goal
+-- the query's five cells behind its tables
+module _ (tables ask : List ℕ) (q : QueryRow) (goal : ℕ) (size : length ask ≡ 197) (same : (j : ℕ) → j < 192 → getD ask j 0 ≡ getD tables j 0) where
+  abbrev x : PackedName
+  x = packed (q .name)
 
-  whole-size : length whole ≡ 196
+  -- the ask as one cell after the other is set
+  abbrev started : List ℕ
+  started = set ask FROM (q .start)
+
+  abbrev kinded : List ℕ
+  kinded = set started KIND (x .kind)
+
+  abbrev highed : List ℕ
+  highed = set kinded HIGH (x .high)
+
+  abbrev named : List ℕ
+  named = set highed LOW (x .low)
+
+  abbrev whole : List ℕ
+  whole = set named GOAL goal
+
+  whole-size : length whole ≡ 197
   whole-size = simp length-set size
 
-  -- a cell of the ask, where it is not one of the last three that were set
-  before-goal : (j : ℕ) → j < GOAL → getD whole j 0 ≡ getD (set (set (set ask FROM start) HIGH high) LOW low) j 0
-  before-goal j h = getD-set-other (set (set (set ask FROM start) HIGH high) LOW low) GOAL j goal 0 (λ e. absurd (omega arith))
+  -- a cell of the ask, where it is not one of the last four that were set
+  before-goal : (j : ℕ) → j < GOAL → getD whole j 0 ≡ getD named j 0
+  before-goal j h = getD-set-other named GOAL j goal 0 (λ e. absurd (omega arith))
 
-  before-low : (j : ℕ) → j < LOW → getD whole j 0 ≡ getD (set (set ask FROM start) HIGH high) j 0
-  before-low j h = before-goal j (omega arith) ∙ getD-set-other (set (set ask FROM start) HIGH high) LOW j low 0 (λ e. absurd (omega arith))
+  before-low : (j : ℕ) → j < LOW → getD whole j 0 ≡ getD highed j 0
+  before-low j h = before-goal j (omega arith) ∙ getD-set-other highed LOW j (x .low) 0 (λ e. absurd (omega arith))
 
-  before-high : (j : ℕ) → j < HIGH → getD whole j 0 ≡ getD (set ask FROM start) j 0
-  before-high j h = before-low j (omega arith) ∙ getD-set-other (set ask FROM start) HIGH j high 0 (λ e. absurd (omega arith))
+  before-high : (j : ℕ) → j < HIGH → getD whole j 0 ≡ getD kinded j 0
+  before-high j h = before-low j (omega arith) ∙ getD-set-other kinded HIGH j (x .high) 0 (λ e. absurd (omega arith))
 
-  whole-start : askStart whole ≡ start
+  before-kind : (j : ℕ) → j < KIND → getD whole j 0 ≡ getD started j 0
+  before-kind j h = before-high j (omega arith) ∙ getD-set-other started KIND j (x .kind) 0 (λ e. absurd (omega arith))
+
+  whole-start : askStart whole ≡ q .start
   unfolding askStart
-  whole-start = before-high FROM (omega arith) ∙ getD-set-same ask FROM start 0 (omega arith)
+  whole-start = before-kind FROM (omega arith) ∙ getD-set-same ask FROM (q .start) 0 (omega arith)
 
-  whole-high : askHigh whole ≡ high
-  unfolding askHigh
-  whole-high = before-low HIGH (omega arith) ∙ getD-set-same (set ask FROM start) HIGH high 0 (rw (length-set ask FROM start) (omega arith))
-
-  whole-low : askLow whole ≡ low
-  unfolding askLow
-  whole-low =
-      before-goal LOW (omega arith)
-      ∙ getD-set-same (set (set ask FROM start) HIGH high) LOW low 0 (rw (length-set (set ask FROM start) HIGH high, length-set ask FROM start) (omega arith))
+  whole-name : askName whole ≡ x
+  unfolding askName
+  whole-name =
+      let k : getD whole KIND 0 ≡ x .kind =
+      before-high KIND (omega arith) ∙ getD-set-same started KIND (x .kind) 0 (simp length-set (omega arith)) in
+      let h : getD whole HIGH 0 ≡ x .high =
+      before-low HIGH (omega arith) ∙ getD-set-same kinded HIGH (x .high) 0 (simp length-set (omega arith)) in
+      let l : getD whole LOW 0 ≡ x .low =
+      before-goal LOW (omega arith) ∙ getD-set-same highed LOW (x .low) 0 (simp length-set (omega arith)) in
+      λ i. record { kind = k i; high = h i; low = l i }
 
   whole-goal : askGoal whole ≡ goal
   unfolding askGoal
-  whole-goal =
-      getD-set-same (set (set (set ask FROM start) HIGH high) LOW low) GOAL goal 0
-      (rw (length-set (set (set ask FROM start) HIGH high) LOW low, length-set (set ask FROM start) HIGH high, length-set ask FROM start) (omega arith))
+  whole-goal = getD-set-same named GOAL goal 0 (simp length-set (omega arith))
 
   whole-cells : (j : ℕ) → j < 192 → getD whole j 0 ≡ getD tables j 0
-  whole-cells j h = before-high j (omega arith) ∙ getD-set-other ask FROM j start 0 (λ e. absurd (omega arith)) ∙ same j h
+  whole-cells j h = before-kind j (omega arith) ∙ getD-set-other ask FROM j (q .start) 0 (λ e. absurd (omega arith)) ∙ same j h
 
   whole-places : _≡_ {A = ℕ → ℕ → Bool} (placeFlag whole) (placeFlag tables)
   unfolding placeFlag
@@ -92,31 +113,31 @@ module _ (tables ask : List ℕ) (start high low goal : ℕ) (size : length ask 
       one s q false t = refl
 
   -- all scopes but the start are free
-  free-is : (free : ℕ) → ((u : ℕ) → hasScope free u ≡ (hasScope 18446744073709551615 u && not (eqb u start))) → hasScope free ≡ freeAt start
+  free-is : (free : ℕ) → ((u : ℕ) → hasScope free u ≡ (hasScope 18446744073709551615 u && not (eqb u (q .start)))) → hasScope free ≡ freeAt (q .start)
   unfolding freeAt without
-  free-is free e = fun-ext (λ u. e u ∙ ap (λ (x : Bool). x && not (eqb u start)) (every u (ltb u 64) refl))
+  free-is free e = fun-ext (λ u. e u ∙ ap (λ (b : Bool). b && not (eqb u (q .start))) (every u (ltb u 64) refl))
     where
       every : (u : ℕ) (t : Bool) → ltb u 64 ≡ t → hasScope 18446744073709551615 u ≡ ltb u 64
       every u true t = scopes-all u (ltb-true u 64 t) ∙ sym t
       every u false t = scope-past 18446744073709551615 u (ltb-false u 64 t) ∙ sym t
 
-  module _ (cells block : List ℕ) (made : Made cells block) (asked : Asked cells start) (goal-is : DeclaringIs (partOf declarationSection cells) (record { high = high; low = low }) goal) (free : ℕ)
-      (taken : (u : ℕ) → hasScope free u ≡ (hasScope 18446744073709551615 u && not (eqb u start))) (live : LiveAt block goal (hasScope free) tables) where
+  module _ (cells block : List ℕ) (made : Made cells block) (asked : Asked cells (queryOn cells q)) (goal-is : DeclaringIs (partOf declarationSection cells) x goal) (free : ℕ)
+      (taken : (u : ℕ) → hasScope free u ≡ (hasScope 18446744073709551615 u && not (eqb u (q .start)))) (live : LiveAt block goal (hasScope free) tables) where
     ready : Ready cells block whole
     ready = record {
-      asked = rw whole-start asked;
+      asked = rw (whole-start, whole-name) asked;
       made = made;
       size = whole-size;
-      goal = rw (whole-goal, whole-high, whole-low) goal-is;
+      goal = rw (whole-goal, whole-name) goal-is;
       live = rw (whole-goal, whole-start, whole-places, ← free-is free taken) live;
     }
 
-    pub ask-made : Asking cells block (record { start = start; high = high; low = low }) whole
-    ask-made = record { ready = ready; query = rw (whole-start, whole-high, whole-low) }
+    pub ask-made : Asking cells block q whole
+    ask-made = record { ready = ready; query = rw (whole-start, whole-name) }
 
 -- a query of a table that was read starts below 64
-pub asked-small : (cells : List ℕ) (start : ℕ) → Asked cells start → start < 64
-asked-small cells start asked =
+pub asked-small : (cells : List ℕ) (q : Query (language (rulesOf cells))) → Asked cells q → q .start < 64
+asked-small cells q asked =
     let m = accepted cells (asked .read) .scopes-most in
     let s = asked .starts in
     omega arith
@@ -129,7 +150,7 @@ away-asked block ask goal start away g s from = rw (← g, ← s) from
 -- what a ready ask gives the walk
 module _ (cells block ask : List ℕ) (ready : Ready cells block ask) where
   pub start-small : askStart ask < 64
-  start-small = asked-small cells (askStart ask) (ready .asked)
+  start-small = asked-small cells (queryIn cells ask) (ready .asked)
 
   -- a table that is closed for any step is closed for steps that are not cut
   pub entries-worth : WorthAt block (askGoal ask) (askGoal ask) (acceptSet block) (freeAt (askStart ask)) ask

@@ -10,7 +10,7 @@ use lib.Dec.{eqb}
 use borrow.Author.Tests.{eqb-true, eqb-false}
 use Rattle.scope_graph.specs.Language.{stop, Language, Laws}
 use Rattle.scope_graph.specs.Graph.{Graph, InRange, Query}
-use Rattle.scope_graph.specs.Rows.{language}
+use Rattle.scope_graph.specs.Rows.{PackedName, language}
 use Rattle.scope_graph.specs.Order.{endOf}
 use Rattle.scope_graph.specs.Computed.{Found, found-none, found-one, found-several, declaresAny}
 use Rattle.scope_graph.specs.Listing.{Accepted}
@@ -23,7 +23,7 @@ use Rattle.graph_file.specs.Decode.{rulesOf, graphOf, opensOf, scopesOf}
 use Rattle.graph_file.specs.Accepted.{AcceptedTable}
 use Rattle.block.specs.Sets.{hasScope}
 use Rattle.block.specs.Block.{usableSet}
-use Rattle.block.specs.Ask.{askHigh, askLow, askGoal}
+use Rattle.block.specs.Ask.{askName, askGoal}
 use Rattle.graph_table.specs.Sections.{partOf}
 use Rattle.graph_table.proofs.Tests.{below-or}
 use Rattle.board.specs.Marks.{marksIn}
@@ -115,14 +115,13 @@ module _ (cells block ask : List ℕ) (ready : Ready cells block ask) where
   found-by f a = sym ((found-among L (so .laws) g q (so .in-range) (so .starts) (so .declarations-ascend) 64 few f) .1 a)
 
   -- what the code sees of a scope's marks
-  pub second-seen : (s : ℕ) (rows : List ℕ) (high low : ℕ) → rows ≡ partOf declarationSection cells → high ≡ askHigh ask → low ≡ askLow ask
-      → (r : Bool) → r ≡ hasSecond (marksIn rows s high low) → severalMarks L g q s ≡ r
+  pub second-seen : (s : ℕ) (rows : List ℕ) (x : PackedName) → rows ≡ partOf declarationSection cells → x ≡ askName ask
+      → (r : Bool) → r ≡ hasSecond (marksIn rows s x) → severalMarks L g q s ≡ r
   unfolding severalMarks
-  second-seen s rows high low part h l r e =
+  second-seen s rows x part n r e =
       sym (e
-      ∙ ap (λ (x : List ℕ). hasSecond (marksIn x s high low)) part
-      ∙ ap (λ (x : ℕ). hasSecond (marksIn (partOf declarationSection cells) s x low)) h
-      ∙ ap (λ (x : ℕ). hasSecond (marksIn (partOf declarationSection cells) s (askHigh ask) x)) l
+      ∙ ap (λ (y : List ℕ). hasSecond (marksIn y s x)) part
+      ∙ ap (λ (y : PackedName). hasSecond (marksIn (partOf declarationSection cells) s y)) n
       ∙ ap hasSecond (marks-part cells block ask ready s))
 
   module _ (first : ℕ) (is : FirstEnd cells q 0 first) where

@@ -110,5 +110,5 @@ module _ (cells : List ℕ) (was : WasRead cells) where
         ≡ (λ s st. eqb s at && usable (language (rulesOf cells)) st (openEnd (language (rulesOf cells)) (graphOf cells) q (endOf end)))
     open-same q at end h k = open-is cells block (sound cells was) made q at end h k
 
-    pub declared-same : (s high low : ℕ) → s < 64 → marksIn (declaredPart block cells s) s high low ≡ marksIn (partOf declarationSection cells) s high low
-    declared-same s high low h = declared-is cells block (sound cells was) made s high low h
+    pub declared-same : (s : ℕ) (x : PackedName) → s < 64 → marksIn (declaredPart block cells s) s x ≡ marksIn (partOf declarationSection cells) s x
+    declared-same s x h = declared-is cells block (sound cells was) made s x h

@@ -11,13 +11,12 @@ use lib.ListN.{length, take, drop, length-append}
 use lib.Seq.{take-at}
 use Rattle.scope_graph.specs.Language.{_∈_, Language}
 use Rattle.scope_graph.specs.Graph.{Query, OpenPair}
-use Rattle.scope_graph.specs.Rows.{language}
+use Rattle.scope_graph.specs.Rows.{PackedName, language}
 use Rattle.scope_graph.specs.Order.{endOf}
 use Rattle.scope_graph.specs.Completion.{PairBefore}
 use Rattle.scope_graph.specs.Computed.{Found, found-none, found-one, found-several, followedAt, awaits}
 use Rattle.scope_graph.proofs.Lists.{firstOf-some}
 use Rattle.text_field.specs.Number.{numberText}
-use Rattle.text_field.specs.Name.{nameText}
 use Rattle.text_field.specs.Buffer.{Buf, puts}
 use Rattle.text_field.specs.Outcome.{Outcome, refused, done, andThen, refuseIf}
 use Rattle.text_field.specs.Answer.{answer, leaves}
@@ -25,12 +24,15 @@ use Rattle.text_field.proofs.NumberLaws.{length-below}
 use Rattle.text_field.proofs.CellLaws.{name-length}
 use Rattle.text_field.proofs.BufferLaws.{puts-then, puts-fits, puts-append, puts-length}
 use Rattle.graph_file.specs.Decode.{rulesOf, graphOf, lettersOf, opensOf, queriesOf, WasRead}
-use Rattle.block.specs.Ask.{askStart, askHigh, askLow}
+use Rattle.block.specs.Ask.{askStart, askName}
+use Rattle.graph_table.specs.declared.sections.Form.{Form}
+use Rattle.graph_table.specs.declared.sections.Form.the-variants.{Old, Kinds}
+use Rattle.graph_table.specs.Sections.{tableForm}
 use Rattle.board.specs.Made.{Made}
 use Rattle.board.specs.Queries.{queryAt}
 use Rattle.follow.specs.declared.Bounds.{Bounds}
 use Rattle.follow.specs.declared.Seen.the-variants.{None}
-use Rattle.follow.specs.Text.{headLine, rowsLine, foundText, letterOf, endText}
+use Rattle.follow.specs.Text.{headLine, seekColumns, rowsLine, foundText, letterOf, endText}
 use Rattle.follow.specs.Tally as tally
 use Rattle.follow.specs.Tally.{Taken, State, fits, takeRows, joined}
 use Rattle.follow.specs.Walk.{letterBytes}
@@ -60,12 +62,12 @@ module _ (cells block : List ℕ) (was : WasRead cells) (made : Made cells block
 
   pub head-is : (ask : List ℕ) (f : told.Found) (a : Awaits) (b c : Buf) → foundMeaning f ≡ foundFor cells (queryIn cells ask)
       → awaitsMeaning cells a ≡ awaits (language (rulesOf cells)) (graphOf cells) (queryIn cells ask) (opensOf cells)
-      → c ≡ puts b (headText block ask f a) → c ≡ puts b (queryHead cells ask)
+      → c ≡ puts b (headText (tableForm cells) block ask f a) → c ≡ puts b (queryHead cells ask)
   unfolding headText queryHead
   head-is ask f a b c g m e =
       e
-      ∙ ap (λ (x : Found). puts b (queryText ask ++ (foundText x ++ (32 ∷ (awaitsBytes block a ++ (10 ∷ rowsLine)))))) g
-      ∙ ap (λ (x : List ℕ). puts b (queryText ask ++ (foundText (foundFor cells (queryIn cells ask)) ++ (32 ∷ (x ++ (10 ∷ rowsLine)))))) (awaits-same a ∙ ap (awaitsText cells) m)
+      ∙ ap (λ (x : Found). puts b (queryText (tableForm cells) ask ++ (foundText x ++ (32 ∷ (awaitsBytes block a ++ (10 ∷ rowsLine)))))) g
+      ∙ ap (λ (x : List ℕ). puts b (queryText (tableForm cells) ask ++ (foundText (foundFor cells (queryIn cells ask)) ++ (32 ∷ (x ++ (10 ∷ rowsLine)))))) (awaits-same a ∙ ap (awaitsText cells) m)
 
 -- a listing is its head and its rows
 parts : (n m f w r e : List ℕ) → n ++ (32 ∷ (m ++ (32 ∷ (f ++ (32 ∷ (w ++ (10 ∷ (r ++ e)))))))) ≡ ((n ++ (32 ∷ (m ++ (32 ∷ [])))) ++ (f ++ (32 ∷ (w ++ (10 ∷ r))))) ++ e
@@ -75,6 +77,14 @@ parts n m f w r e =
     ∙ ap (λ (l : List ℕ). n ++ (32 ∷ l)) (append-assoc m (32 ∷ []) ((f ++ (32 ∷ (w ++ (10 ∷ r)))) ++ e))
     ∙ ap (λ (l : List ℕ). n ++ (32 ∷ (m ++ (32 ∷ l)))) (append-assoc f (32 ∷ (w ++ (10 ∷ r))) e)
     ∙ ap (λ (l : List ℕ). n ++ (32 ∷ (m ++ (32 ∷ (f ++ (32 ∷ l)))))) (append-assoc w (10 ∷ r) e))
+
+-- and with its first line, l
+line-parts : (l n m f w r e : List ℕ) → l ++ (n ++ (32 ∷ (m ++ (32 ∷ (f ++ (32 ∷ (w ++ (10 ∷ (r ++ e)))))))))
+    ≡ ((l ++ (n ++ (32 ∷ (m ++ (32 ∷ []))))) ++ (f ++ (32 ∷ (w ++ (10 ∷ r))))) ++ e
+line-parts l n m f w r e =
+    let q : List ℕ = n ++ (32 ∷ (m ++ (32 ∷ []))) in
+    let b : List ℕ = f ++ (32 ∷ (w ++ (10 ∷ r))) in
+    ap (λ (x : List ℕ). l ++ x) (parts n m f w r e) ∙ sym (append-assoc l (q ++ b) e) ∙ ap (λ (x : List ℕ). x ++ e) (sym (append-assoc l q b))
 
 -- a query of a table that was read starts at one of its scopes; what stands above its rows is short
 module _ (cells block ask : List ℕ) (ready : Ready cells block ask) where
@@ -96,8 +106,7 @@ module _ (cells block ask : List ℕ) (ready : Ready cells block ask) where
   listing-parts : T ≡ head ++ joined rows
   unfolding listingText queryHead queryText
   listing-parts =
-      ap (λ (l : List ℕ). headLine ++ l)
-      (parts (numberText (askStart ask)) (nameText (askHigh ask) (askLow ask)) (foundText (foundFor cells q)) (awaitsText cells (awaits L (graphOf cells) q (opensOf cells))) rowsLine (entriesText cells q))
+      line-parts (headLine (tableForm cells)) (numberText (askStart ask)) (seekColumns (tableForm cells) (askName ask)) (foundText (foundFor cells q)) (awaitsText cells (awaits L (graphOf cells) q (opensOf cells))) rowsLine (entriesText cells q)
       ∙ ap (λ (l : List ℕ). head ++ l) (sym (texts-joined cells q))
 
   two-digits : (v : ℕ) → v < 64 → length (numberText v) ≤ 2
@@ -121,21 +130,33 @@ module _ (cells block ask : List ℕ) (ready : Ready cells block ask) where
   found-short found-one = omega arith
   found-short found-several = omega arith
 
+  line-short : (form : Form) → length (headLine form) ≤ 29
+  line-short Old = omega arith
+  line-short Kinds = omega arith
+
+  seek-short : (form : Form) (x : PackedName) → length (seekColumns form x) ≤ 18
+  seek-short Old x = let n = name-length (x .high) (x .low) in omega arith
+  seek-short Kinds x = let n = name-length (x .high) (x .low) in omega arith
+
   head-short : length head ≤ 128
   unfolding queryHead queryText
   head-short =
       let w : List ℕ = awaitsText cells (awaits L (graphOf cells) q (opensOf cells)) in
       let r : List ℕ = foundText (foundFor cells q) ++ (32 ∷ (w ++ (10 ∷ rowsLine))) in
-      let s : List ℕ = numberText (askStart ask) ++ (32 ∷ (nameText (askHigh ask) (askLow ask) ++ (32 ∷ []))) in
+      let h : List ℕ = headLine (tableForm cells) in
+      let k : List ℕ = seekColumns (tableForm cells) (askName ask) in
+      let s : List ℕ = numberText (askStart ask) ++ (32 ∷ (k ++ (32 ∷ []))) in
       let m = accepted cells (ready .asked .read) .scopes-most in
       let b = ready .asked .starts in
       let d = two-digits (askStart ask) (omega arith) in
-      let n = name-length (askHigh ask) (askLow ask) in
+      let n = seek-short (tableForm cells) (askName ask) in
+      let o = line-short (tableForm cells) in
       let f = found-short (foundFor cells q) in
       let v = awaited-short (awaits L (graphOf cells) q (opensOf cells)) refl in
-      let l1 = length-append (headLine ++ s) r in
-      let l2 = length-append (numberText (askStart ask)) (32 ∷ (nameText (askHigh ask) (askLow ask) ++ (32 ∷ []))) in
-      let l3 = length-append (nameText (askHigh ask) (askLow ask)) (32 ∷ []) in
+      let l0 = length-append h s in
+      let l1 = length-append (h ++ s) r in
+      let l2 = length-append (numberText (askStart ask)) (32 ∷ (k ++ (32 ∷ []))) in
+      let l3 = length-append k (32 ∷ []) in
       let l4 = length-append (foundText (foundFor cells q)) (32 ∷ (w ++ (10 ∷ rowsLine))) in
       let l5 = length-append w (10 ∷ rowsLine) in
       omega arith

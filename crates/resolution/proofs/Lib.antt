@@ -5,6 +5,7 @@ pub mod Demand
 pub mod Totals
 pub mod Nearest
 pub mod Marked
+pub mod Examples
 pub mod Given
 pub mod Walked
 pub mod Answers
@@ -13,7 +14,6 @@ pub mod Noted
 pub mod Ends
 pub mod Seconds
 pub mod First
-pub mod Numbered
 pub mod Buffers
 pub mod Reading
 pub mod Asks

@@ -20,7 +20,8 @@ use Rattle.scope_graph.proofs.Promises.{promises}
 use Rattle.text_field.specs.Number.{digitsOf, numberText}
 use Rattle.text_field.specs.Name.{packed, packHigh, packLow, bytesOf, beforeZero, nameText}
 use Rattle.text_field.specs.Outcome.{Outcome, done}
-use Rattle.graph_file.specs.File.{readCells}
+use Rattle.graph_file.specs.Format.{hasKinds}
+use Rattle.graph_file.specs.File.{readCells, formIn}
 use Rattle.graph_file.specs.Decode.{keptIf, rowsAmong, rowsIn, lettersOf, orderPairOf, transitionOf, rulesOf, nameAt, edgeOf, declarationOf, openPairOf, queryOf, scopesOf, graphOf, opensOf, queriesOf}
 use Rattle.graph_file.specs.Accepted.{AcceptedTable}
 use Rattle.graph_file.proofs.DecodeAccepted.{read-accepted}
@@ -28,6 +29,7 @@ use Rattle.follow.specs.Text.{foundText, letterOf, hopsText, rowText, endText}
 use Rattle.resolution.specs.Listing.{awaitsText, foundFor, entriesText, listingText}
 use Rattle.board.specs.Queries.{queryAt}
 use Rattle.board.specs.Example.{hours, service, exampleText}
+use Rattle.graph_table.specs.Sections.{tableForm}
 use Rattle.resolution.specs.Demand.{shownText}
 use Rattle.resolution.specs.Marked.{serviceAt2, serviceAt3Awaits3, hoursAt2, serviceAt3, serviceAt3Awaits1, hoursAt2AwaitsI, hoursTwice, serviceAt0, closedText, open1Text, open2PText, open2IText, twoMarksText, turnedText, I, P, Shown, pathRow, openPair, queryFor, Dash, Lists, Judges, Marked}
 use Rattle.resolution.proofs.Demand.{listing-is}
@@ -37,7 +39,7 @@ use Rattle.board.proofs.Example.{reads, exampleCells, example-read}
 -- what a query's answers and their text compute with: each trial names it alone on its `unfolding`
 -- line
 unfoldable pub answers : Unit {0}
-unfolding flatMap sameEnd sameName anyOf preferredBy nextBy keep firstOf anyBelow sameDeclaration foundOf hopsAt marksAt declaresAny behind hopOn nodesFrom leadsOn usable sameHop sameHops preferredTo nodes reachedNodes cut rowsAt entries found isReached standing judged openEnd followedAt awaits endOf keptIf rowsAmong rowsIn lettersOf orderPairOf transitionOf rulesOf nameAt edgeOf declarationOf openPairOf queryOf scopesOf graphOf opensOf queriesOf queryAt packed packHigh packLow shownText awaitsText foundText letterOf hopsText rowText endText digitsOf numberText bytesOf beforeZero nameText
+unfolding flatMap sameEnd sameName anyOf preferredBy nextBy keep firstOf anyBelow sameDeclaration foundOf hopsAt marksAt declaresAny behind hopOn nodesFrom leadsOn usable sameHop sameHops preferredTo nodes reachedNodes cut rowsAt entries found isReached standing judged openEnd followedAt awaits endOf keptIf rowsAmong rowsIn lettersOf orderPairOf transitionOf rulesOf nameAt edgeOf declarationOf openPairOf queryOf scopesOf graphOf opensOf queriesOf queryAt packed packHigh packLow shownText awaitsText foundText letterOf hopsText rowText endText digitsOf numberText bytesOf beforeZero nameText hasKinds formIn tableForm
 answers = tt
 
 module _ (text cells : List ℕ) (e : readCells text ≡ done cells) (i : ℕ) (h : i < length (queriesOf cells)) where
@@ -83,42 +85,42 @@ module _ (text cells : List ℕ) (e : readCells text ≡ done cells) (i : ℕ) (
   }
 
 abbrev closedCells : List ℕ
-closedCells = 0 ∷ 0 ∷ 73 ∷ 0 ∷ 0 ∷ 0 ∷ 0 ∷ 0 ∷ 80 ∷ 0 ∷ 0 ∷ 0 ∷ 0 ∷ 1 ∷ 0 ∷ 1 ∷ 0 ∷ 0 ∷ 0 ∷ 1 ∷ 0 ∷ 2 ∷ 0 ∷ 0 ∷ 0 ∷ 1 ∷ 1 ∷ 2 ∷ 0 ∷ 0 ∷ 0 ∷ 2 ∷ 0 ∷ 0 ∷ 1 ∷ 0 ∷ 0 ∷ 2 ∷ 0 ∷ 1 ∷ 0 ∷ 0 ∷ 0 ∷ 2 ∷ 1 ∷ 0 ∷ 1 ∷ 0 ∷ 0 ∷ 3 ∷ 0 ∷ 0 ∷ 0 ∷ 0 ∷ 0 ∷ 3 ∷ 1 ∷ 0 ∷ 0 ∷ 0 ∷ 0 ∷ 4 ∷ 5 ∷ 0 ∷ 0 ∷ 0 ∷ 0 ∷ 5 ∷ 1 ∷ 1 ∷ 0 ∷ 0 ∷ 0 ∷ 5 ∷ 2 ∷ 0 ∷ 4 ∷ 0 ∷ 0 ∷ 5 ∷ 2 ∷ 1 ∷ 1 ∷ 0 ∷ 0 ∷ 5 ∷ 3 ∷ 1 ∷ 1 ∷ 0 ∷ 0 ∷ 6 ∷ 0 ∷ 7525362636775489536 ∷ 0 ∷ 5 ∷ 0 ∷ 6 ∷ 1 ∷ 8315178139909317888 ∷ 0 ∷ 10 ∷ 0 ∷ 6 ∷ 2 ∷ 8315178139909317888 ∷ 0 ∷ 21 ∷ 0 ∷ 6 ∷ 4 ∷ 7525362636775489536 ∷ 0 ∷ 40 ∷ 0 ∷ 8 ∷ 2 ∷ 8315178139909317888 ∷ 0 ∷ 0 ∷ 0 ∷ 8 ∷ 3 ∷ 8315178139909317888 ∷ 0 ∷ 0 ∷ 0 ∷ 8 ∷ 2 ∷ 7525362636775489536 ∷ 0 ∷ 0 ∷ 0 ∷ []
+closedCells = 0 ∷ 0 ∷ 73 ∷ 0 ∷ 0 ∷ 0 ∷ 0 ∷ 0 ∷ 80 ∷ 0 ∷ 0 ∷ 0 ∷ 0 ∷ 1 ∷ 0 ∷ 1 ∷ 0 ∷ 0 ∷ 0 ∷ 1 ∷ 0 ∷ 2 ∷ 0 ∷ 0 ∷ 0 ∷ 1 ∷ 1 ∷ 2 ∷ 0 ∷ 0 ∷ 0 ∷ 2 ∷ 0 ∷ 0 ∷ 1 ∷ 0 ∷ 0 ∷ 2 ∷ 0 ∷ 1 ∷ 0 ∷ 0 ∷ 0 ∷ 2 ∷ 1 ∷ 0 ∷ 1 ∷ 0 ∷ 0 ∷ 3 ∷ 0 ∷ 0 ∷ 0 ∷ 0 ∷ 0 ∷ 3 ∷ 1 ∷ 0 ∷ 0 ∷ 0 ∷ 0 ∷ 4 ∷ 5 ∷ 0 ∷ 0 ∷ 0 ∷ 0 ∷ 5 ∷ 1 ∷ 1 ∷ 0 ∷ 0 ∷ 0 ∷ 5 ∷ 2 ∷ 0 ∷ 4 ∷ 0 ∷ 0 ∷ 5 ∷ 2 ∷ 1 ∷ 1 ∷ 0 ∷ 0 ∷ 5 ∷ 3 ∷ 1 ∷ 1 ∷ 0 ∷ 0 ∷ 6 ∷ 0 ∷ 118 ∷ 7525362636775489536 ∷ 0 ∷ 5 ∷ 6 ∷ 1 ∷ 118 ∷ 8315178139909317888 ∷ 0 ∷ 10 ∷ 6 ∷ 2 ∷ 118 ∷ 8315178139909317888 ∷ 0 ∷ 21 ∷ 6 ∷ 4 ∷ 118 ∷ 7525362636775489536 ∷ 0 ∷ 40 ∷ 8 ∷ 2 ∷ 118 ∷ 8315178139909317888 ∷ 0 ∷ 0 ∷ 8 ∷ 3 ∷ 118 ∷ 8315178139909317888 ∷ 0 ∷ 0 ∷ 8 ∷ 2 ∷ 118 ∷ 7525362636775489536 ∷ 0 ∷ 0 ∷ []
 
 closed-read : readCells closedText ≡ done closedCells
 unfolding reads
 closed-read = refl
 
 abbrev open1Cells : List ℕ
-open1Cells = 0 ∷ 0 ∷ 73 ∷ 0 ∷ 0 ∷ 0 ∷ 0 ∷ 0 ∷ 80 ∷ 0 ∷ 0 ∷ 0 ∷ 0 ∷ 1 ∷ 0 ∷ 1 ∷ 0 ∷ 0 ∷ 0 ∷ 1 ∷ 0 ∷ 2 ∷ 0 ∷ 0 ∷ 0 ∷ 1 ∷ 1 ∷ 2 ∷ 0 ∷ 0 ∷ 0 ∷ 2 ∷ 0 ∷ 0 ∷ 1 ∷ 0 ∷ 0 ∷ 2 ∷ 0 ∷ 1 ∷ 0 ∷ 0 ∷ 0 ∷ 2 ∷ 1 ∷ 0 ∷ 1 ∷ 0 ∷ 0 ∷ 3 ∷ 0 ∷ 0 ∷ 0 ∷ 0 ∷ 0 ∷ 3 ∷ 1 ∷ 0 ∷ 0 ∷ 0 ∷ 0 ∷ 4 ∷ 5 ∷ 0 ∷ 0 ∷ 0 ∷ 0 ∷ 5 ∷ 1 ∷ 1 ∷ 0 ∷ 0 ∷ 0 ∷ 5 ∷ 2 ∷ 0 ∷ 4 ∷ 0 ∷ 0 ∷ 5 ∷ 2 ∷ 1 ∷ 1 ∷ 0 ∷ 0 ∷ 5 ∷ 3 ∷ 1 ∷ 1 ∷ 0 ∷ 0 ∷ 6 ∷ 0 ∷ 7525362636775489536 ∷ 0 ∷ 5 ∷ 0 ∷ 6 ∷ 1 ∷ 8315178139909317888 ∷ 0 ∷ 10 ∷ 0 ∷ 6 ∷ 2 ∷ 8315178139909317888 ∷ 0 ∷ 21 ∷ 0 ∷ 6 ∷ 4 ∷ 7525362636775489536 ∷ 0 ∷ 40 ∷ 0 ∷ 7 ∷ 1 ∷ 0 ∷ 0 ∷ 0 ∷ 0 ∷ 8 ∷ 2 ∷ 8315178139909317888 ∷ 0 ∷ 0 ∷ 0 ∷ 8 ∷ 3 ∷ 8315178139909317888 ∷ 0 ∷ 0 ∷ 0 ∷ 8 ∷ 2 ∷ 7525362636775489536 ∷ 0 ∷ 0 ∷ 0 ∷ []
+open1Cells = 0 ∷ 0 ∷ 73 ∷ 0 ∷ 0 ∷ 0 ∷ 0 ∷ 0 ∷ 80 ∷ 0 ∷ 0 ∷ 0 ∷ 0 ∷ 1 ∷ 0 ∷ 1 ∷ 0 ∷ 0 ∷ 0 ∷ 1 ∷ 0 ∷ 2 ∷ 0 ∷ 0 ∷ 0 ∷ 1 ∷ 1 ∷ 2 ∷ 0 ∷ 0 ∷ 0 ∷ 2 ∷ 0 ∷ 0 ∷ 1 ∷ 0 ∷ 0 ∷ 2 ∷ 0 ∷ 1 ∷ 0 ∷ 0 ∷ 0 ∷ 2 ∷ 1 ∷ 0 ∷ 1 ∷ 0 ∷ 0 ∷ 3 ∷ 0 ∷ 0 ∷ 0 ∷ 0 ∷ 0 ∷ 3 ∷ 1 ∷ 0 ∷ 0 ∷ 0 ∷ 0 ∷ 4 ∷ 5 ∷ 0 ∷ 0 ∷ 0 ∷ 0 ∷ 5 ∷ 1 ∷ 1 ∷ 0 ∷ 0 ∷ 0 ∷ 5 ∷ 2 ∷ 0 ∷ 4 ∷ 0 ∷ 0 ∷ 5 ∷ 2 ∷ 1 ∷ 1 ∷ 0 ∷ 0 ∷ 5 ∷ 3 ∷ 1 ∷ 1 ∷ 0 ∷ 0 ∷ 6 ∷ 0 ∷ 118 ∷ 7525362636775489536 ∷ 0 ∷ 5 ∷ 6 ∷ 1 ∷ 118 ∷ 8315178139909317888 ∷ 0 ∷ 10 ∷ 6 ∷ 2 ∷ 118 ∷ 8315178139909317888 ∷ 0 ∷ 21 ∷ 6 ∷ 4 ∷ 118 ∷ 7525362636775489536 ∷ 0 ∷ 40 ∷ 7 ∷ 1 ∷ 0 ∷ 0 ∷ 0 ∷ 0 ∷ 8 ∷ 2 ∷ 118 ∷ 8315178139909317888 ∷ 0 ∷ 0 ∷ 8 ∷ 3 ∷ 118 ∷ 8315178139909317888 ∷ 0 ∷ 0 ∷ 8 ∷ 2 ∷ 118 ∷ 7525362636775489536 ∷ 0 ∷ 0 ∷ []
 
 open1-read : readCells open1Text ≡ done open1Cells
 unfolding reads
 open1-read = refl
 
 abbrev open2PCells : List ℕ
-open2PCells = 0 ∷ 0 ∷ 73 ∷ 0 ∷ 0 ∷ 0 ∷ 0 ∷ 0 ∷ 80 ∷ 0 ∷ 0 ∷ 0 ∷ 0 ∷ 1 ∷ 0 ∷ 1 ∷ 0 ∷ 0 ∷ 0 ∷ 1 ∷ 0 ∷ 2 ∷ 0 ∷ 0 ∷ 0 ∷ 1 ∷ 1 ∷ 2 ∷ 0 ∷ 0 ∷ 0 ∷ 2 ∷ 0 ∷ 0 ∷ 1 ∷ 0 ∷ 0 ∷ 2 ∷ 0 ∷ 1 ∷ 0 ∷ 0 ∷ 0 ∷ 2 ∷ 1 ∷ 0 ∷ 1 ∷ 0 ∷ 0 ∷ 3 ∷ 0 ∷ 0 ∷ 0 ∷ 0 ∷ 0 ∷ 3 ∷ 1 ∷ 0 ∷ 0 ∷ 0 ∷ 0 ∷ 4 ∷ 5 ∷ 0 ∷ 0 ∷ 0 ∷ 0 ∷ 5 ∷ 1 ∷ 1 ∷ 0 ∷ 0 ∷ 0 ∷ 5 ∷ 2 ∷ 0 ∷ 4 ∷ 0 ∷ 0 ∷ 5 ∷ 2 ∷ 1 ∷ 1 ∷ 0 ∷ 0 ∷ 5 ∷ 3 ∷ 1 ∷ 1 ∷ 0 ∷ 0 ∷ 6 ∷ 0 ∷ 7525362636775489536 ∷ 0 ∷ 5 ∷ 0 ∷ 6 ∷ 1 ∷ 8315178139909317888 ∷ 0 ∷ 10 ∷ 0 ∷ 6 ∷ 2 ∷ 8315178139909317888 ∷ 0 ∷ 21 ∷ 0 ∷ 6 ∷ 4 ∷ 7525362636775489536 ∷ 0 ∷ 40 ∷ 0 ∷ 7 ∷ 2 ∷ 2 ∷ 0 ∷ 0 ∷ 0 ∷ 8 ∷ 2 ∷ 8315178139909317888 ∷ 0 ∷ 0 ∷ 0 ∷ 8 ∷ 3 ∷ 8315178139909317888 ∷ 0 ∷ 0 ∷ 0 ∷ 8 ∷ 2 ∷ 7525362636775489536 ∷ 0 ∷ 0 ∷ 0 ∷ []
+open2PCells = 0 ∷ 0 ∷ 73 ∷ 0 ∷ 0 ∷ 0 ∷ 0 ∷ 0 ∷ 80 ∷ 0 ∷ 0 ∷ 0 ∷ 0 ∷ 1 ∷ 0 ∷ 1 ∷ 0 ∷ 0 ∷ 0 ∷ 1 ∷ 0 ∷ 2 ∷ 0 ∷ 0 ∷ 0 ∷ 1 ∷ 1 ∷ 2 ∷ 0 ∷ 0 ∷ 0 ∷ 2 ∷ 0 ∷ 0 ∷ 1 ∷ 0 ∷ 0 ∷ 2 ∷ 0 ∷ 1 ∷ 0 ∷ 0 ∷ 0 ∷ 2 ∷ 1 ∷ 0 ∷ 1 ∷ 0 ∷ 0 ∷ 3 ∷ 0 ∷ 0 ∷ 0 ∷ 0 ∷ 0 ∷ 3 ∷ 1 ∷ 0 ∷ 0 ∷ 0 ∷ 0 ∷ 4 ∷ 5 ∷ 0 ∷ 0 ∷ 0 ∷ 0 ∷ 5 ∷ 1 ∷ 1 ∷ 0 ∷ 0 ∷ 0 ∷ 5 ∷ 2 ∷ 0 ∷ 4 ∷ 0 ∷ 0 ∷ 5 ∷ 2 ∷ 1 ∷ 1 ∷ 0 ∷ 0 ∷ 5 ∷ 3 ∷ 1 ∷ 1 ∷ 0 ∷ 0 ∷ 6 ∷ 0 ∷ 118 ∷ 7525362636775489536 ∷ 0 ∷ 5 ∷ 6 ∷ 1 ∷ 118 ∷ 8315178139909317888 ∷ 0 ∷ 10 ∷ 6 ∷ 2 ∷ 118 ∷ 8315178139909317888 ∷ 0 ∷ 21 ∷ 6 ∷ 4 ∷ 118 ∷ 7525362636775489536 ∷ 0 ∷ 40 ∷ 7 ∷ 2 ∷ 2 ∷ 0 ∷ 0 ∷ 0 ∷ 8 ∷ 2 ∷ 118 ∷ 8315178139909317888 ∷ 0 ∷ 0 ∷ 8 ∷ 3 ∷ 118 ∷ 8315178139909317888 ∷ 0 ∷ 0 ∷ 8 ∷ 2 ∷ 118 ∷ 7525362636775489536 ∷ 0 ∷ 0 ∷ []
 
 open2P-read : readCells open2PText ≡ done open2PCells
 unfolding reads
 open2P-read = refl
 
 abbrev open2ICells : List ℕ
-open2ICells = 0 ∷ 0 ∷ 73 ∷ 0 ∷ 0 ∷ 0 ∷ 0 ∷ 0 ∷ 80 ∷ 0 ∷ 0 ∷ 0 ∷ 0 ∷ 1 ∷ 0 ∷ 1 ∷ 0 ∷ 0 ∷ 0 ∷ 1 ∷ 0 ∷ 2 ∷ 0 ∷ 0 ∷ 0 ∷ 1 ∷ 1 ∷ 2 ∷ 0 ∷ 0 ∷ 0 ∷ 2 ∷ 0 ∷ 0 ∷ 1 ∷ 0 ∷ 0 ∷ 2 ∷ 0 ∷ 1 ∷ 0 ∷ 0 ∷ 0 ∷ 2 ∷ 1 ∷ 0 ∷ 1 ∷ 0 ∷ 0 ∷ 3 ∷ 0 ∷ 0 ∷ 0 ∷ 0 ∷ 0 ∷ 3 ∷ 1 ∷ 0 ∷ 0 ∷ 0 ∷ 0 ∷ 4 ∷ 5 ∷ 0 ∷ 0 ∷ 0 ∷ 0 ∷ 5 ∷ 1 ∷ 1 ∷ 0 ∷ 0 ∷ 0 ∷ 5 ∷ 2 ∷ 0 ∷ 4 ∷ 0 ∷ 0 ∷ 5 ∷ 2 ∷ 1 ∷ 1 ∷ 0 ∷ 0 ∷ 5 ∷ 3 ∷ 1 ∷ 1 ∷ 0 ∷ 0 ∷ 6 ∷ 0 ∷ 7525362636775489536 ∷ 0 ∷ 5 ∷ 0 ∷ 6 ∷ 1 ∷ 8315178139909317888 ∷ 0 ∷ 10 ∷ 0 ∷ 6 ∷ 2 ∷ 8315178139909317888 ∷ 0 ∷ 21 ∷ 0 ∷ 6 ∷ 4 ∷ 7525362636775489536 ∷ 0 ∷ 40 ∷ 0 ∷ 7 ∷ 2 ∷ 1 ∷ 0 ∷ 0 ∷ 0 ∷ 8 ∷ 2 ∷ 8315178139909317888 ∷ 0 ∷ 0 ∷ 0 ∷ 8 ∷ 3 ∷ 8315178139909317888 ∷ 0 ∷ 0 ∷ 0 ∷ 8 ∷ 2 ∷ 7525362636775489536 ∷ 0 ∷ 0 ∷ 0 ∷ []
+open2ICells = 0 ∷ 0 ∷ 73 ∷ 0 ∷ 0 ∷ 0 ∷ 0 ∷ 0 ∷ 80 ∷ 0 ∷ 0 ∷ 0 ∷ 0 ∷ 1 ∷ 0 ∷ 1 ∷ 0 ∷ 0 ∷ 0 ∷ 1 ∷ 0 ∷ 2 ∷ 0 ∷ 0 ∷ 0 ∷ 1 ∷ 1 ∷ 2 ∷ 0 ∷ 0 ∷ 0 ∷ 2 ∷ 0 ∷ 0 ∷ 1 ∷ 0 ∷ 0 ∷ 2 ∷ 0 ∷ 1 ∷ 0 ∷ 0 ∷ 0 ∷ 2 ∷ 1 ∷ 0 ∷ 1 ∷ 0 ∷ 0 ∷ 3 ∷ 0 ∷ 0 ∷ 0 ∷ 0 ∷ 0 ∷ 3 ∷ 1 ∷ 0 ∷ 0 ∷ 0 ∷ 0 ∷ 4 ∷ 5 ∷ 0 ∷ 0 ∷ 0 ∷ 0 ∷ 5 ∷ 1 ∷ 1 ∷ 0 ∷ 0 ∷ 0 ∷ 5 ∷ 2 ∷ 0 ∷ 4 ∷ 0 ∷ 0 ∷ 5 ∷ 2 ∷ 1 ∷ 1 ∷ 0 ∷ 0 ∷ 5 ∷ 3 ∷ 1 ∷ 1 ∷ 0 ∷ 0 ∷ 6 ∷ 0 ∷ 118 ∷ 7525362636775489536 ∷ 0 ∷ 5 ∷ 6 ∷ 1 ∷ 118 ∷ 8315178139909317888 ∷ 0 ∷ 10 ∷ 6 ∷ 2 ∷ 118 ∷ 8315178139909317888 ∷ 0 ∷ 21 ∷ 6 ∷ 4 ∷ 118 ∷ 7525362636775489536 ∷ 0 ∷ 40 ∷ 7 ∷ 2 ∷ 1 ∷ 0 ∷ 0 ∷ 0 ∷ 8 ∷ 2 ∷ 118 ∷ 8315178139909317888 ∷ 0 ∷ 0 ∷ 8 ∷ 3 ∷ 118 ∷ 8315178139909317888 ∷ 0 ∷ 0 ∷ 8 ∷ 2 ∷ 118 ∷ 7525362636775489536 ∷ 0 ∷ 0 ∷ []
 
 open2I-read : readCells open2IText ≡ done open2ICells
 unfolding reads
 open2I-read = refl
 
 abbrev twoMarksCells : List ℕ
-twoMarksCells = 0 ∷ 0 ∷ 73 ∷ 0 ∷ 0 ∷ 0 ∷ 0 ∷ 0 ∷ 80 ∷ 0 ∷ 0 ∷ 0 ∷ 0 ∷ 1 ∷ 0 ∷ 1 ∷ 0 ∷ 0 ∷ 0 ∷ 1 ∷ 0 ∷ 2 ∷ 0 ∷ 0 ∷ 0 ∷ 1 ∷ 1 ∷ 2 ∷ 0 ∷ 0 ∷ 0 ∷ 2 ∷ 0 ∷ 0 ∷ 1 ∷ 0 ∷ 0 ∷ 2 ∷ 0 ∷ 1 ∷ 0 ∷ 0 ∷ 0 ∷ 2 ∷ 1 ∷ 0 ∷ 1 ∷ 0 ∷ 0 ∷ 3 ∷ 0 ∷ 0 ∷ 0 ∷ 0 ∷ 0 ∷ 3 ∷ 1 ∷ 0 ∷ 0 ∷ 0 ∷ 0 ∷ 4 ∷ 5 ∷ 0 ∷ 0 ∷ 0 ∷ 0 ∷ 5 ∷ 1 ∷ 1 ∷ 0 ∷ 0 ∷ 0 ∷ 5 ∷ 2 ∷ 0 ∷ 4 ∷ 0 ∷ 0 ∷ 5 ∷ 2 ∷ 1 ∷ 1 ∷ 0 ∷ 0 ∷ 5 ∷ 3 ∷ 1 ∷ 1 ∷ 0 ∷ 0 ∷ 6 ∷ 0 ∷ 7525362636775489536 ∷ 0 ∷ 5 ∷ 0 ∷ 6 ∷ 1 ∷ 8315178139909317888 ∷ 0 ∷ 10 ∷ 0 ∷ 6 ∷ 2 ∷ 8315178139909317888 ∷ 0 ∷ 21 ∷ 0 ∷ 6 ∷ 4 ∷ 7525362636775489536 ∷ 0 ∷ 40 ∷ 0 ∷ 6 ∷ 4 ∷ 7525362636775489536 ∷ 0 ∷ 41 ∷ 0 ∷ 7 ∷ 3 ∷ 0 ∷ 0 ∷ 0 ∷ 0 ∷ 8 ∷ 2 ∷ 8315178139909317888 ∷ 0 ∷ 0 ∷ 0 ∷ 8 ∷ 3 ∷ 8315178139909317888 ∷ 0 ∷ 0 ∷ 0 ∷ 8 ∷ 2 ∷ 7525362636775489536 ∷ 0 ∷ 0 ∷ 0 ∷ []
+twoMarksCells = 0 ∷ 0 ∷ 73 ∷ 0 ∷ 0 ∷ 0 ∷ 0 ∷ 0 ∷ 80 ∷ 0 ∷ 0 ∷ 0 ∷ 0 ∷ 1 ∷ 0 ∷ 1 ∷ 0 ∷ 0 ∷ 0 ∷ 1 ∷ 0 ∷ 2 ∷ 0 ∷ 0 ∷ 0 ∷ 1 ∷ 1 ∷ 2 ∷ 0 ∷ 0 ∷ 0 ∷ 2 ∷ 0 ∷ 0 ∷ 1 ∷ 0 ∷ 0 ∷ 2 ∷ 0 ∷ 1 ∷ 0 ∷ 0 ∷ 0 ∷ 2 ∷ 1 ∷ 0 ∷ 1 ∷ 0 ∷ 0 ∷ 3 ∷ 0 ∷ 0 ∷ 0 ∷ 0 ∷ 0 ∷ 3 ∷ 1 ∷ 0 ∷ 0 ∷ 0 ∷ 0 ∷ 4 ∷ 5 ∷ 0 ∷ 0 ∷ 0 ∷ 0 ∷ 5 ∷ 1 ∷ 1 ∷ 0 ∷ 0 ∷ 0 ∷ 5 ∷ 2 ∷ 0 ∷ 4 ∷ 0 ∷ 0 ∷ 5 ∷ 2 ∷ 1 ∷ 1 ∷ 0 ∷ 0 ∷ 5 ∷ 3 ∷ 1 ∷ 1 ∷ 0 ∷ 0 ∷ 6 ∷ 0 ∷ 118 ∷ 7525362636775489536 ∷ 0 ∷ 5 ∷ 6 ∷ 1 ∷ 118 ∷ 8315178139909317888 ∷ 0 ∷ 10 ∷ 6 ∷ 2 ∷ 118 ∷ 8315178139909317888 ∷ 0 ∷ 21 ∷ 6 ∷ 4 ∷ 118 ∷ 7525362636775489536 ∷ 0 ∷ 40 ∷ 6 ∷ 4 ∷ 118 ∷ 7525362636775489536 ∷ 0 ∷ 41 ∷ 7 ∷ 3 ∷ 0 ∷ 0 ∷ 0 ∷ 0 ∷ 8 ∷ 2 ∷ 118 ∷ 8315178139909317888 ∷ 0 ∷ 0 ∷ 8 ∷ 3 ∷ 118 ∷ 8315178139909317888 ∷ 0 ∷ 0 ∷ 8 ∷ 2 ∷ 118 ∷ 7525362636775489536 ∷ 0 ∷ 0 ∷ []
 
 twoMarks-read : readCells twoMarksText ≡ done twoMarksCells
 unfolding reads
 twoMarks-read = refl
 
 abbrev turnedCells : List ℕ
-turnedCells = 0 ∷ 0 ∷ 73 ∷ 0 ∷ 0 ∷ 0 ∷ 0 ∷ 0 ∷ 80 ∷ 0 ∷ 0 ∷ 0 ∷ 0 ∷ 1 ∷ 0 ∷ 1 ∷ 0 ∷ 0 ∷ 0 ∷ 1 ∷ 0 ∷ 2 ∷ 0 ∷ 0 ∷ 0 ∷ 1 ∷ 1 ∷ 2 ∷ 0 ∷ 0 ∷ 0 ∷ 2 ∷ 0 ∷ 0 ∷ 1 ∷ 0 ∷ 0 ∷ 2 ∷ 0 ∷ 1 ∷ 0 ∷ 0 ∷ 0 ∷ 2 ∷ 1 ∷ 0 ∷ 1 ∷ 0 ∷ 0 ∷ 3 ∷ 0 ∷ 0 ∷ 0 ∷ 0 ∷ 0 ∷ 3 ∷ 1 ∷ 0 ∷ 0 ∷ 0 ∷ 0 ∷ 4 ∷ 5 ∷ 0 ∷ 0 ∷ 0 ∷ 0 ∷ 5 ∷ 0 ∷ 1 ∷ 2 ∷ 0 ∷ 0 ∷ 5 ∷ 1 ∷ 1 ∷ 0 ∷ 0 ∷ 0 ∷ 5 ∷ 2 ∷ 0 ∷ 4 ∷ 0 ∷ 0 ∷ 5 ∷ 2 ∷ 1 ∷ 1 ∷ 0 ∷ 0 ∷ 5 ∷ 3 ∷ 1 ∷ 1 ∷ 0 ∷ 0 ∷ 6 ∷ 0 ∷ 7525362636775489536 ∷ 0 ∷ 5 ∷ 0 ∷ 6 ∷ 1 ∷ 8315178139909317888 ∷ 0 ∷ 10 ∷ 0 ∷ 6 ∷ 2 ∷ 8315178139909317888 ∷ 0 ∷ 21 ∷ 0 ∷ 6 ∷ 4 ∷ 7525362636775489536 ∷ 0 ∷ 40 ∷ 0 ∷ 7 ∷ 3 ∷ 0 ∷ 0 ∷ 0 ∷ 0 ∷ 8 ∷ 0 ∷ 8315178139909317888 ∷ 0 ∷ 0 ∷ 0 ∷ []
+turnedCells = 0 ∷ 0 ∷ 73 ∷ 0 ∷ 0 ∷ 0 ∷ 0 ∷ 0 ∷ 80 ∷ 0 ∷ 0 ∷ 0 ∷ 0 ∷ 1 ∷ 0 ∷ 1 ∷ 0 ∷ 0 ∷ 0 ∷ 1 ∷ 0 ∷ 2 ∷ 0 ∷ 0 ∷ 0 ∷ 1 ∷ 1 ∷ 2 ∷ 0 ∷ 0 ∷ 0 ∷ 2 ∷ 0 ∷ 0 ∷ 1 ∷ 0 ∷ 0 ∷ 2 ∷ 0 ∷ 1 ∷ 0 ∷ 0 ∷ 0 ∷ 2 ∷ 1 ∷ 0 ∷ 1 ∷ 0 ∷ 0 ∷ 3 ∷ 0 ∷ 0 ∷ 0 ∷ 0 ∷ 0 ∷ 3 ∷ 1 ∷ 0 ∷ 0 ∷ 0 ∷ 0 ∷ 4 ∷ 5 ∷ 0 ∷ 0 ∷ 0 ∷ 0 ∷ 5 ∷ 0 ∷ 1 ∷ 2 ∷ 0 ∷ 0 ∷ 5 ∷ 1 ∷ 1 ∷ 0 ∷ 0 ∷ 0 ∷ 5 ∷ 2 ∷ 0 ∷ 4 ∷ 0 ∷ 0 ∷ 5 ∷ 2 ∷ 1 ∷ 1 ∷ 0 ∷ 0 ∷ 5 ∷ 3 ∷ 1 ∷ 1 ∷ 0 ∷ 0 ∷ 6 ∷ 0 ∷ 118 ∷ 7525362636775489536 ∷ 0 ∷ 5 ∷ 6 ∷ 1 ∷ 118 ∷ 8315178139909317888 ∷ 0 ∷ 10 ∷ 6 ∷ 2 ∷ 118 ∷ 8315178139909317888 ∷ 0 ∷ 21 ∷ 6 ∷ 4 ∷ 118 ∷ 7525362636775489536 ∷ 0 ∷ 40 ∷ 7 ∷ 3 ∷ 0 ∷ 0 ∷ 0 ∷ 0 ∷ 8 ∷ 0 ∷ 118 ∷ 8315178139909317888 ∷ 0 ∷ 0 ∷ []
 
 turned-read : readCells turnedText ≡ done turnedCells
 unfolding reads

@@ -16,13 +16,13 @@ use Rattle.scope_graph.specs.Order.{endOf}
 use Rattle.scope_graph.specs.Computed.{NodeOf, keep, marksAt, usable, openEnd, nodes, cut, rowsAt, entries, followedAt}
 use Rattle.scope_graph.proofs.Lists.{keep-elim, and-left}
 use Rattle.scope_graph.proofs.Nodes.{nodes-sound}
-use Rattle.graph_file.specs.Admission.{Row, value}
+use Rattle.graph_file.specs.Admission.{Row}
 use Rattle.graph_file.specs.Format.{declarationSection}
 use Rattle.graph_file.specs.Decode.{rowsIn, lettersOf, rulesOf, nameAt, declarationOf, graphOf, scopesOf}
 use Rattle.graph_file.specs.Accepted.{AcceptedTable}
 use Rattle.block.specs.Sets.{placesOf}
 use Rattle.block.specs.Block.{acceptSet, usableSet, scopesCell, declaredPart}
-use Rattle.block.specs.Ask.{askStart, askHigh, askLow, askGoal}
+use Rattle.block.specs.Ask.{askStart, askName, askGoal}
 use Rattle.block.proofs.SetLaws.{scope-below, places-scope}
 use Rattle.search.specs.Board.{Board, boardOf, without, hitsFrom}
 use Rattle.search.specs.Tables.{tableOrder, tableBoard}
@@ -30,7 +30,8 @@ use Rattle.search.specs.Conditions.{freeAt}
 use Rattle.search.proofs.Rules.{hits-kept, entries-are-hits, followed-is-hit}
 use Rattle.search.proofs.RulesLists.{flatMap-same}
 use Rattle.graph_table.specs.Sections.{partOf, rowsOf}
-use Rattle.board.specs.Marks.{declaredHere, matches, marksIn}
+use Rattle.graph_table.specs.Values.{rowDeclared, declares}
+use Rattle.board.specs.Marks.{declaredHere, marksOf, marksIn}
 use Rattle.follow.specs.declared.Task.the-variants.{Entries}
 use Rattle.follow.specs.declared.Bounds.{Bounds}
 use Rattle.follow.specs.declared.Aim.{Aim}
@@ -43,22 +44,7 @@ use Rattle.resolution.proofs.ListLaws.{map-map, map-flatMap, map-same}
 use Rattle.resolution.proofs.Given.{letters-same, scopes-same, board-same, order-same, open-same, declared-same}
 use Rattle.board.proofs.Queries.{accepted, rows-are}
 
--- The marks that the code finds in cells are those of the declarations in their rows.
-unfoldable marksOf : List Row → ℕ → PackedName → List ℕ
-marksOf [] s x = []
-marksOf (row ∷ rows) s x = declaredHere (eqb (value row 0) s && sameName (nameAt 1 row) x) (value row 3) (marksOf rows s x)
-
-marks-rows : (cells : List ℕ) (s high low : ℕ) → marksIn cells s high low ≡ marksOf (rowsOf cells) s (record { high = high; low = low })
-unfolding marksIn marksOf rowsOf matches sameName nameAt
-marks-rows [] s high low = refl
-marks-rows (a ∷ []) s high low = refl
-marks-rows (a ∷ b ∷ []) s high low = refl
-marks-rows (a ∷ b ∷ c ∷ []) s high low = refl
-marks-rows (a ∷ b ∷ c ∷ d ∷ []) s high low = refl
-marks-rows (a ∷ b ∷ c ∷ d ∷ e ∷ []) s high low = refl
-marks-rows (a ∷ b ∷ c ∷ d ∷ e ∷ f ∷ cells) s high low =
-    ap (declaredHere (eqb b s && (eqb c high && eqb d low)) e) (marks-rows cells s high low)
-
+-- The marks that the code finds in rows are those of their declarations.
 module _ (r : Rules) where
   abbrev declared : ℕ → PackedName → Declaration (language r) → Bool
   declared s x d = eqb (d .at) s && sameName (d .name) x
@@ -67,14 +53,14 @@ module _ (r : Rules) where
   markOf d = d .mark
 
   marks-at : (rows : List Row) (s : ℕ) (x : PackedName) → marksAt (language r) (map (declarationOf r) rows) s x ≡ marksOf rows s x
-  unfolding marksAt keep marksOf declarationOf declaredHere
+  unfolding marksAt keep marksOf declares declarationOf nameAt declaredHere
   marks-at [] s x = refl
-  marks-at (row ∷ rows) s x = one (eqb (value row 0) s && sameName (nameAt 1 row) x) (marks-at rows s x)
+  marks-at (row ∷ rows) s x = one (declares x s (rowDeclared row)) (marks-at rows s x)
     where
       one : (t : Bool) → map markOf (keep (declared s x) (map (declarationOf r) rows)) ≡ marksOf rows s x
           → map markOf (elim t as (λ _. List (Declaration (language r))) [ true ↦ declarationOf r row ∷ keep (declared s x) (map (declarationOf r) rows) | false ↦ keep (declared s x) (map (declarationOf r) rows) ])
-          ≡ declaredHere t (value row 3) (marksOf rows s x)
-      one true e = ap (λ (l : List ℕ). value row 3 ∷ l) e
+          ≡ declaredHere t (rowDeclared row .mark) (marksOf rows s x)
+      one true e = ap (λ (l : List ℕ). rowDeclared row .mark ∷ l) e
       one false e = e
 
 -- A row's text asks for letters only.
@@ -142,16 +128,15 @@ module _ (cells block ask : List ℕ) (ready : Ready cells block ask) where
   here-is = ap (λ (c : Board ℕ). c .here) board-is
 
   -- the marks of the name at a scope, by the declarations' part of the table and by the rules
-  pub marks-part : (s : ℕ) → marksIn (partOf declarationSection cells) s (askHigh ask) (askLow ask) ≡ marksAt L (g .declarations) s (q .name)
-  unfolding graphOf
+  pub marks-part : (s : ℕ) → marksIn (partOf declarationSection cells) s (askName ask) ≡ marksAt L (g .declarations) s (q .name)
+  unfolding marksIn graphOf
   marks-part s =
-      marks-rows (partOf declarationSection cells) s (askHigh ask) (askLow ask)
-      ∙ ap (λ (rows : List Row). marksOf rows s (q .name)) (rows-are cells (ready .asked .read) declarationSection)
+      ap (λ (rows : List Row). marksOf rows s (q .name)) (rows-are cells (ready .asked .read) declarationSection)
       ∙ sym (marks-at (rulesOf cells) (rowsIn declarationSection cells) s (q .name))
 
   marks-are : (s : ℕ) → s < 64 → walk.marksAt block cells ask s ≡ marksAt L (g .declarations) s (q .name)
   unfolding walk.marksAt
-  marks-are s h = declared-same cells (ready .asked .read) block (ready .made) s (askHigh ask) (askLow ask) h ∙ marks-part s
+  marks-are s h = declared-same cells (ready .asked .read) block (ready .made) s (askName ask) h ∙ marks-part s
 
   -- an entry's row
   abbrev rowOf : PathRow L → Taken

@@ -13,25 +13,25 @@ use Rattle.scope_graph.specs.Order.{endOf}
 use Rattle.scope_graph.specs.Computed.{Found, found-none, found-one, found-several, entries, awaits}
 use Rattle.scope_graph.specs.Ends.{endsAt}
 use Rattle.text_field.specs.Number.{numberText}
-use Rattle.text_field.specs.Name.{nameText}
 use Rattle.graph_file.specs.Admission.{Row, value}
 use Rattle.graph_file.specs.Decode.{lettersOf, rulesOf, scopesOf, graphOf, opensOf, WasRead}
 use Rattle.block.specs.Sets.{hasState, placesOf}
 use Rattle.block.specs.Block.{acceptSet, usableSet, pairFlag}
-use Rattle.block.specs.Ask.{IsAsk, askStart, askHigh, askLow, askGoal}
+use Rattle.block.specs.Ask.{IsAsk, askStart, askName, askGoal}
 use Rattle.search.specs.Tables.{placeFlag}
 use Rattle.search.specs.Conditions.{freeAt, LiveAt, AwayAt}
 use Rattle.graph_table.specs.declared.rows.QueryRow.{QueryRow}
 use Rattle.board.specs.Made.{Made}
 use Rattle.graph_file.specs.Format.{declarationSection}
-use Rattle.graph_table.specs.Sections.{partOf}
+use Rattle.graph_table.specs.Sections.{tableForm, partOf}
 use Rattle.board.specs.Marks.{DeclaringIs}
-use Rattle.board.specs.Queries.{queryFrom, Asked}
+use Rattle.board.specs.Queries.{queryFrom, queryOn, Asked}
+use Rattle.graph_table.specs.declared.sections.Form.{Form}
 use Rattle.follow.specs.declared.Bounds.{Bounds}
 use Rattle.follow.specs.declared.Tally.{Tally}
 use Rattle.follow.specs.Tally as tally
 use Rattle.follow.specs.Tally.{Taken, takeRows}
-use Rattle.follow.specs.Text.{headLine, rowsLine, foundText, rowText, endText}
+use Rattle.follow.specs.Text.{headLine, seekColumns, rowsLine, foundText, rowText, endText}
 use Rattle.follow.specs.Walk.{letterBytes, followedIn}
 use Rattle.resolution.specs.Listing.{awaitsText, foundFor}
 use Rattle.resolution.specs.declared.text.Found as told
@@ -39,20 +39,17 @@ use Rattle.resolution.specs.declared.text.Found.the-variants.{None, One,
 use Rattle.resolution.specs.declared.text.Awaits.{Awaits}
 use Rattle.resolution.specs.declared.text.Awaits.the-variants.{Settled, Pair}
 
--- the query of a row `start seek` as the code holds it, and of a query's own block
-abbrev pub queryOn : (cells : List ℕ) → QueryRow → Query (language (rulesOf cells))
-queryOn cells q = queryFrom cells (q .start) (q .high) (q .low)
-
+-- the query of a query's own block
 abbrev pub queryIn : (cells ask : List ℕ) → Query (language (rulesOf cells))
-queryIn cells ask = queryFrom cells (askStart ask) (askHigh ask) (askLow ask)
+queryIn cells ask = queryFrom cells (askStart ask) (askName ask)
 
 -- The board of a table that was read, and the ask of a query of it: the scopes that declare the
 -- name, and the places worth entering on the way there from where the query starts.
 pub record Ready (cells block ask : List ℕ) : Type 0 where
-  pub asked : Asked cells (askStart ask)
+  pub asked : Asked cells (queryIn cells ask)
   pub made : Made cells block
   pub size : IsAsk ask
-  pub goal : DeclaringIs (partOf declarationSection cells) (record { high = askHigh ask; low = askLow ask }) (askGoal ask)
+  pub goal : DeclaringIs (partOf declarationSection cells) (askName ask) (askGoal ask)
   pub live : LiveAt block (askGoal ask) (freeAt (askStart ask)) ask
 
 -- the ask is that of the query
@@ -124,17 +121,17 @@ unfoldable pub awaitsBytes : List ℕ → Awaits → List ℕ
 awaitsBytes block Settled = 45 ∷ []
 awaitsBytes block (Pair at end) = numberText at ++ (endText (letterBytes block) (endOf end) ∷ [])
 
--- a listing up to its rows: the names line with the query, then `found`, `awaits` and the line
--- above the rows
-unfoldable pub queryText : List ℕ → List ℕ
-queryText ask = headLine ++ (numberText (askStart ask) ++ (32 ∷ (nameText (askHigh ask) (askLow ask) ++ (32 ∷ []))))
+-- a listing up to its rows, by the file's form: the names line with the query, then `found`,
+-- `awaits` and the line above the rows
+unfoldable pub queryText : Form → List ℕ → List ℕ
+queryText form ask = headLine form ++ (numberText (askStart ask) ++ (32 ∷ (seekColumns form (askName ask) ++ (32 ∷ []))))
 
-unfoldable pub headText : (block ask : List ℕ) → told.Found → Awaits → List ℕ
-headText block ask f a = queryText ask ++ (foundText (foundMeaning f) ++ (32 ∷ (awaitsBytes block a ++ (10 ∷ rowsLine))))
+unfoldable pub headText : Form → (block ask : List ℕ) → told.Found → Awaits → List ℕ
+headText form block ask f a = queryText form ask ++ (foundText (foundMeaning f) ++ (32 ∷ (awaitsBytes block a ++ (10 ∷ rowsLine))))
 
 -- the same of a query of a table, with `found` and `awaits` as the rules have them
 unfoldable pub queryHead : (cells ask : List ℕ) → List ℕ
 queryHead cells ask =
-    queryText ask
+    queryText (tableForm cells) ask
     ++ (foundText (foundFor cells (queryIn cells ask))
     ++ (32 ∷ (awaitsText cells (awaits (language (rulesOf cells)) (graphOf cells) (queryIn cells ask) (opensOf cells)) ++ (10 ∷ rowsLine))))

@@ -15,12 +15,12 @@ use Rattle.scope_graph.specs.Rows.{language}
 use Rattle.scope_graph.specs.Computed.{Found}
 use Rattle.scope_graph.specs.Listing.{Pairwise, RowBefore, FoundIs}
 use Rattle.text_field.specs.Number.{numberText}
-use Rattle.text_field.specs.Name.{nameText}
 use Rattle.text_field.specs.Outcome.{refused, done}
 use Rattle.graph_file.specs.File.{readCells}
 use Rattle.text_field.specs.Answer.{answer, leaves}
 use Rattle.graph_file.specs.Decode.{rulesOf, graphOf, opensOf, queriesOf, lettersOf}
-use Rattle.follow.specs.Text.{headLine, rowsLine, foundText, rowText}
+use Rattle.graph_table.specs.Sections.{tableForm}
+use Rattle.follow.specs.Text.{headLine, seekColumns, rowsLine, foundText, rowText}
 use Rattle.resolution.specs.Listing.{awaitsText, listingFor}
 use Rattle.board.specs.Queries.{queryAt}
 
@@ -31,9 +31,9 @@ module _ (cells : List ℕ) where
   -- a listing's text, for what it is to show of a query
   unfoldable pub shownText : Query (language (rulesOf cells)) → Found → Option (OpenPair (language (rulesOf cells))) → List (PathRow (language (rulesOf cells))) → List ℕ
   shownText q f o rows =
-      headLine
+      headLine (tableForm cells)
       ++ (numberText (q .start)
-      ++ (32 ∷ (nameText (q .name .high) (q .name .low)
+      ++ (32 ∷ (seekColumns (tableForm cells) (q .name)
       ++ (32 ∷ (foundText f
       ++ (32 ∷ (awaitsText cells o
       ++ (10 ∷ (rowsLine ++ flatMap (λ r. rowText (lettersOf cells) (r .mark) (r .path .start) (r .path .hops)) rows)))))))))

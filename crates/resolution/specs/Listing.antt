@@ -1,5 +1,5 @@
 -- A query's listing and the summary, for a graph table and for a text (01, "The listing" and "Who
--- can cause a refusal"). Assumes nothing: these are definitions.
+-- can cause a refusal"; by the file's form, 02, K8). Assumes nothing: these are definitions.
 use Prim.Native.Nat.{ℕ, zero, suc, _+_}
 use mathlib.Core.Bool.{Bool, true, false}
 use mathlib.Core.Option.{Option, some, none}
@@ -11,11 +11,11 @@ use Rattle.scope_graph.specs.Path.{PathRow}
 use Rattle.scope_graph.specs.Rows.{language}
 use Rattle.scope_graph.specs.Computed.{Found, found-none, found-one, found-several, entries, found, awaits}
 use Rattle.text_field.specs.Number.{numberText}
-use Rattle.text_field.specs.Name.{nameText}
 use Rattle.text_field.specs.Outcome.{Outcome, refused, done, andThen, refuseIf}
 use Rattle.graph_file.specs.File.{readCells}
 use Rattle.graph_file.specs.Decode.{rulesOf, graphOf, opensOf, queriesOf, lettersOf}
-use Rattle.follow.specs.Text.{headLine, rowsLine, foundText, rowText, endText}
+use Rattle.graph_table.specs.Sections.{tableForm}
+use Rattle.follow.specs.Text.{headLine, seekColumns, rowsLine, foundText, rowText, endText}
 use Rattle.board.specs.Queries.{queryAt}
 use Rattle.resolution.specs.Summary.{summaryText}
 
@@ -36,9 +36,9 @@ module _ (cells : List ℕ) where
   -- the two lines with the query's values, the line above the entries, and a row for each entry
   unfoldable pub listingText : Query (language (rulesOf cells)) → List ℕ
   listingText q =
-      headLine
+      headLine (tableForm cells)
       ++ (numberText (q .start)
-      ++ (32 ∷ (nameText (q .name .high) (q .name .low)
+      ++ (32 ∷ (seekColumns (tableForm cells) (q .name)
       ++ (32 ∷ (foundText (foundFor q)
       ++ (32 ∷ (awaitsText cells (awaits (language (rulesOf cells)) (graphOf cells) q (opensOf cells))
       ++ (10 ∷ (rowsLine ++ entriesText q)))))))))

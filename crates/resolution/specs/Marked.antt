@@ -66,9 +66,9 @@ module _ (r : Rules) where
   openPair none = none
   openPair (some o) = some (record { at = o .0; end = o .1 })
 
-  -- the query of a start and a name
+  -- the query of a start and a name, in a file without kinds: the kind is `v` (02, K8)
   abbrev pub queryFor : ℕ → List ℕ → Query (language r)
-  queryFor s name = record { start = s; name = record { high = packHigh name; low = packLow name } }
+  queryFor s name = record { start = s; name = record { kind = 118; high = packHigh name; low = packLow name } }
 
 -- `-` stands for settled, a pair for not
 abbrev pub Dash : Option (ℕ × End ℕ) → Type 0 → Type 0

@@ -3,6 +3,7 @@ use block::ASKSIZE;
 use block::FROM;
 use block::GOAL;
 use block::HIGH;
+use block::KIND;
 use block::LOW;
 use block::taken;
 use board::declaring;
@@ -16,7 +17,7 @@ ghost use Prim.Native.Nat.{ℕ, _<_};
 ghost use lib.ListN.{getD};
 ghost use Rattle.board.specs.Made.{Made};
 ghost use Rattle.resolution.specs.Asked.{Asking};
-ghost use Rattle.board.specs.Queries.{Asked};
+ghost use Rattle.board.specs.Queries.{queryOn, Asked};
 
 // The cells of the two tables that an ask begins with: places worth entering, and distances.
 const TABLES: usize = 192;
@@ -37,14 +38,16 @@ fn with_room(tables: [u64; TABLES]) -> [u64; ASKSIZE]
 // The ask of a query of a table that was read.
 pub fn ask_of(table: &[u64], block: &[u64], q: QueryRow) -> [u64; ASKSIZE]
     requires made { ⌜ Made (now table) (now block) ⌝ }
-    requires asked { ⌜ Asked (now table) (q .start) ⌝ }
+    requires asked { ⌜ Asked (now table) (queryOn (now table) q) ⌝ }
     ensures asking { λ r. ⌜ Asking (now (table .entry)) (now (block .entry)) q r ⌝ }
 {
-    let goal = declaring(part(table, block, DECLARATIONS), q.high, q.low);
+    let name = q.name;
+    let goal = declaring(part(table, block, DECLARATIONS), name);
     let mut ask = with_room(goal_table(block, goal, taken(ALL, q.start), q.start));
     ask[FROM] = q.start;
-    ask[HIGH] = q.high;
-    ask[LOW] = q.low;
+    ask[KIND] = name.kind;
+    ask[HIGH] = name.high;
+    ask[LOW] = name.low;
     ask[GOAL] = goal;
     ask
 }

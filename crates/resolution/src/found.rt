@@ -3,40 +3,41 @@
 // scopes where they end are looked for one by one.
 use crate::text::Found;
 use block::ask_goal;
-use block::ask_high;
-use block::ask_low;
 use block::has;
 use block::single;
 use block::usable_set;
+use board::name_asked;
 use board::part;
 use follow::Bounds;
 use follow::Seen;
 use follow::Tally;
-use follow::declares;
 use follow::is_broken;
 use follow::is_followed;
 use graph_table::DECLARATIONS;
+use graph_table::Name;
 use graph_table::ROW;
 use graph_table::declaration_row;
+use graph_table::declares;
 ghost use mathlib.Core.Path.{_≡_};
 ghost use Prim.Native.Nat.{_<_};
 ghost use Rattle.scope_graph.specs.Rows.{language};
 ghost use Rattle.scope_graph.specs.Ends.{hasSecond, endsAt};
 ghost use Rattle.graph_file.specs.Decode.{rulesOf, graphOf};
+ghost use Rattle.graph_table.specs.Values.{packed};
 ghost use Rattle.board.specs.Marks.{marksIn};
 ghost use Rattle.resolution.specs.Listing.{foundFor};
 ghost use Rattle.resolution.specs.Asked.{Ready, queryIn, TallyOf, FirstEnd, foundMeaning};
 
 // Has the scope a second mark of the name?
-fn has_second(rows: &[u64], s: u64, high: u64, low: u64) -> bool
-    ensures answer { λ r. ⌜ r ≡ hasSecond (marksIn (now (rows .entry)) s high low) ⌝ }
+fn has_second(rows: &[u64], s: u64, name: Name) -> bool
+    ensures answer { λ r. ⌜ r ≡ hasSecond (marksIn (now (rows .entry)) s (packed name)) ⌝ }
 {
     let mut one = false;
     let mut p: usize = 0;
     while ROW <= rows.len() - p {
         let row = declaration_row(rows, p);
         p += ROW;
-        if !declares(s, high, low, row) {
+        if !declares(row, s, name) {
             continue;
         }
         if one {
@@ -85,9 +86,8 @@ fn found_by_ends(table: &[u64], block: &[u64], ask: &[u64]) -> Found
         return Found::None;
     }
     let rows = part(table, block, DECLARATIONS);
-    let high = ask_high(ask);
-    let low = ask_low(ask);
-    if has_second(rows, first, high, low) {
+    let name = name_asked(ask);
+    if has_second(rows, first, name) {
         return Found::Several;
     }
     let next = next_end(table, block, ask, first + 1);

@@ -16,6 +16,7 @@ use graph_file::OWN_CELLS;
 use graph_file::SHORT_CELLS;
 use graph_file::is_short;
 use graph_file::read_over;
+use graph_table::form_of;
 use text_field::Answer;
 use text_field::put_bytes;
 ghost use mathlib.Core.Path.{_≡_};
@@ -32,7 +33,7 @@ ghost use Rattle.board.specs.Queries.{queryAt};
 ghost use Rattle.resolution.specs.Listing.{foundFor, listingText, listingOf, listingFor};
 ghost use Rattle.resolution.specs.Asked.{Ready, queryIn, foundMeaning, queryHead};
 
-// Room for what stands above a listing's rows: two names lines and the query's line, at most 66
+// Room for what stands above a listing's rows: two names lines and the query's line, at most 73
 // bytes. The proof bounds it by 128.
 const HEAD: usize = 128;
 
@@ -40,8 +41,8 @@ const HEAD: usize = 128;
 // again.
 const KEPT: usize = 512;
 
-// What a listing answers, and the query's `found`, which is known of a listing that is too long too.
-// Where there is no such query it says nothing.
+// What a listing answers, and the query's `found`, which is known of a listing that is too long
+// too. Where there is no such query it says nothing.
 pub struct Listed {
     pub answer: Answer,
     pub found: Found,
@@ -54,7 +55,7 @@ fn put_heading(table: &[u64], block: &[u64], ask: &[u64], f: Found, out: &mut [u
     ensures written { λ r. ⌜ _≡_ {A = Buf} (now (out .exit), r) (puts (now (out .entry), 0) (queryHead (now (table .entry)) (now (ask .entry)))) ⌝ }
 {
     let a = awaits_of(table, block, ask);
-    put_head(block, ask, f, a, out)
+    put_head(form_of(table), block, ask, f, a, out)
 }
 
 // The listing of the query that the ask is of. Where its rows alone do not fit, `awaits`, which can

@@ -10,9 +10,7 @@ ghost use Prim.Native.Nat.{_<_};
 ghost use lib.ListN.{length};
 ghost use Rattle.graph_file.specs.Decode.{queriesOf, WasRead};
 ghost use Rattle.board.specs.Made.{Made};
-ghost use Rattle.board.specs.Queries.{queryAt};
-ghost use Rattle.resolution.specs.Asked.{queryOn};
-ghost use Rattle.board.specs.Queries.{Asked};
+ghost use Rattle.board.specs.Queries.{queryAt, queryOn, Asked};
 
 // How many queries there are.
 pub fn query_count(table: &[u64], block: &[u64]) -> usize
@@ -29,7 +27,7 @@ pub fn query_at(table: &[u64], block: &[u64], i: usize) -> QueryRow
     requires made { ⌜ Made (now table) (now block) ⌝ }
     requires number { ⌜ i < length (queriesOf (now table)) ⌝ }
     ensures query { λ r. ⌜ queryOn (now (table .entry)) r ≡ queryAt (now (table .entry)) i ⌝ }
-    ensures asked { λ r. ⌜ Asked (now (table .entry)) (r .start) ⌝ }
+    ensures asked { λ r. ⌜ Asked (now (table .entry)) (queryOn (now (table .entry)) r) ⌝ }
 {
     let queries = part(table, block, QUERIES);
     query_row(queries, ROW * i)

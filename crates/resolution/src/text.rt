@@ -1,19 +1,22 @@
 // The text of a listing up to its rows.
-use block::ask_high;
-use block::ask_low;
 use block::ask_start;
 use block::letter;
+use board::name_asked;
+use graph_table::Form;
+use graph_table::Name;
 use text_field::put_byte;
 use text_field::put_bytes;
 use text_field::put_name;
 use text_field::put_number;
 ghost use mathlib.Core.Path.{_≡_};
 ghost use mathlib.Core.List.{List, [], _∷_};
+ghost use Prim.Native.Nat.{_<_};
 ghost use Rattle.scope_graph.specs.Order.{endOf};
 ghost use Rattle.text_field.specs.Buffer.{Buf, puts};
 ghost use Rattle.block.specs.Layout.{IsBlock};
-ghost use Rattle.block.specs.Ask.{IsAsk};
-ghost use Rattle.follow.specs.Text.{foundText, endText};
+ghost use Rattle.block.specs.Ask.{IsAsk, askName};
+ghost use Rattle.graph_table.specs.Values.{packed};
+ghost use Rattle.follow.specs.Text.{headLine, seekColumns, foundText, endText};
 ghost use Rattle.follow.specs.Walk.{letterBytes};
 ghost use Rattle.resolution.specs.Asked.{foundMeaning, awaitsBytes, queryText, headText};
 
@@ -69,25 +72,59 @@ fn put_awaits(block: &[u64], out: &mut [u8], n: usize, a: Awaits) -> usize
     }
 }
 
-// The names line and the query.
-fn put_query(ask: &[u64], out: &mut [u8]) -> usize
-    requires ask { ⌜ IsAsk (now ask) ⌝ }
-    ensures written { λ r. ⌜ _≡_ {A = Buf} (now (out .exit), r) (puts (now (out .entry), 0) (queryText (now (ask .entry)))) ⌝ }
+// The names line above the query.
+fn put_names(form: Form, out: &mut [u8]) -> usize
+    ensures written { λ r. ⌜ _≡_ {A = Buf} (now (out .exit), r) (puts (now (out .entry), 0) (headLine form)) ⌝ }
 {
-    let b = put_bytes(out, 0, b"start seek found awaits\n");
+    match form {
+        Form::Old => put_bytes(out, 0, b"start seek found awaits\n"),
+        Form::Kinds => put_bytes(out, 0, b"start kind seek found awaits\n"),
+    }
+}
+
+// What the query seeks: the name, in a file with kinds behind its kind.
+fn put_seek(form: Form, name: Name, out: &mut [u8], n: usize) -> usize
+    requires kind { ⌜ name .kind < 256 ⌝ }
+    ensures written { λ r. ⌜ _≡_ {A = Buf} (now (out .exit), r) (puts (now (out .entry), n) (seekColumns form (packed name))) ⌝ }
+{
+    match form {
+        Form::Old => put_name(out, n, name.high, name.low),
+        Form::Kinds => {
+            let b = put_byte(out, n, (name.kind % 256) as u8);
+            let c = put_byte(out, b, 32);
+            put_name(out, c, name.high, name.low)
+        },
+    }
+}
+
+// The names line and the query.
+fn put_query(form: Form, ask: &[u64], out: &mut [u8]) -> usize
+    requires ask { ⌜ IsAsk (now ask) ⌝ }
+    requires kind { ⌜ askName (now ask) .kind < 256 ⌝ }
+    ensures written { λ r. ⌜ _≡_ {A = Buf} (now (out .exit), r) (puts (now (out .entry), 0) (queryText form (now (ask .entry)))) ⌝ }
+{
+    let b = put_names(form, out);
     let c = put_number(out, b, ask_start(ask));
     let d = put_byte(out, c, 32);
-    let e = put_name(out, d, ask_high(ask), ask_low(ask));
+    let e = put_seek(form, name_asked(ask), out, d);
     put_byte(out, e, 32)
 }
 
 // The two lines of the query and the line above its entries.
-pub fn put_head(block: &[u64], ask: &[u64], f: Found, a: Awaits, out: &mut [u8]) -> usize
+pub fn put_head(
+    form: Form,
+    block: &[u64],
+    ask: &[u64],
+    f: Found,
+    a: Awaits,
+    out: &mut [u8],
+) -> usize
     requires block { ⌜ IsBlock (now block) ⌝ }
     requires ask { ⌜ IsAsk (now ask) ⌝ }
-    ensures written { λ r. ⌜ _≡_ {A = Buf} (now (out .exit), r) (puts (now (out .entry), 0) (headText (now (block .entry)) (now (ask .entry)) f a)) ⌝ }
+    requires kind { ⌜ askName (now ask) .kind < 256 ⌝ }
+    ensures written { λ r. ⌜ _≡_ {A = Buf} (now (out .exit), r) (puts (now (out .entry), 0) (headText form (now (block .entry)) (now (ask .entry)) f a)) ⌝ }
 {
-    let b = put_query(ask, out);
+    let b = put_query(form, ask, out);
     let c = put_found(out, b, f);
     let d = put_byte(out, c, 32);
     let e = put_awaits(block, out, d, a);

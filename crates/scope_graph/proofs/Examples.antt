@@ -1,4 +1,5 @@
--- Worked examples, computed by the checker: document 01's trials M1 to M10, then small graphs for what a search gets wrong easily. Assumes nothing.
+-- Worked examples, computed by the checker: document 01's trials M1 to M10, then small graphs for
+-- what a search gets wrong easily. Assumes nothing.
 use Prim.Native.Nat.{ℕ}
 use mathlib.Core.Path.{_≡_, refl}
 use mathlib.Core.Bool.{Bool, true, false}
@@ -22,11 +23,16 @@ pair a b = record { less = a; more = b }
 abbrev move : ℕ → ℕ → ℕ → Transition
 move q l r = record { state = q; label = l; next = r }
 
+-- names of the kind `v`, which is every kind of a file without kinds (02, K8), and one of the kind
+-- `c`
 abbrev hours : PackedName
-hours = record { high = 1; low = 0 }
+hours = record { kind = 118; high = 1; low = 0 }
 
 abbrev service : PackedName
-service = record { high = 2; low = 0 }
+service = record { kind = 118; high = 2; low = 0 }
+
+abbrev c-hours : PackedName
+c-hours = record { kind = 99; high = 1; low = 0 }
 
 -- A file's rows are written as tuples, and a path row as its mark, its start and its hops.
 module _ (r : Rules) where
@@ -143,7 +149,8 @@ M10-unreached : Stands gym example (2, service) (5, 2, (P, 1) ∷ (P, 0) ∷ [])
 unfolding computed
 M10-unreached = (refl, refl)
 
--- Two scopes import each other, and 1 imports itself. No path comes back to a scope, so each way out is listed once.
+-- Two scopes import each other, and 1 imports itself. No path comes back to a scope, so each way
+-- out is listed once.
 abbrev imports : Graph (language gym)
 imports = graph gym 3 ((0, I, 1) ∷ (1, I, 0) ∷ (1, I, 1) ∷ (1, I, 2) ∷ []) ((0, hours, 4) ∷ (2, hours, 9) ∷ [])
 
@@ -177,7 +184,8 @@ equal-marks : Shows gym (graph gym 3 ((0, P, 1) ∷ (0, P, 2) ∷ []) ((1, hours
 unfolding computed
 equal-marks = (refl, refl, refl)
 
--- Neither of two labels is preferred to the other: both ways are seen. Here any word of the two is lawful.
+-- Neither of two labels is preferred to the other: both ways are seen. Here any word of the two is
+-- lawful.
 abbrev unordered : Rules
 unordered = record {
   labels = 2;
@@ -191,7 +199,8 @@ no-preference : Shows unordered (graph unordered 3 ((0, I, 1) ∷ (0, P, 2) ∷ 
 unfolding computed
 no-preference = (refl, refl, refl)
 
--- The import already reaches hours, so nothing that comes behind the parent matters, neither there nor further on.
+-- The import already reaches hours, so nothing that comes behind the parent matters, neither there
+-- nor further on.
 harmless : Shows gym example ((0, stop) ∷ (1, stop) ∷ (1, by I) ∷ (2, by P) ∷ []) (2, hours) ((40, 2, (I, 4) ∷ []) ∷ []) found-one none
 unfolding computed
 harmless = (refl, refl, refl)
@@ -202,7 +211,8 @@ no-protection : Shows gym (graph gym 3 ((0, I, 1) ∷ (0, P, 2) ∷ []) ((2, hou
 unfolding computed
 no-protection = (refl, refl, refl)
 
--- By I the automaton comes to a state that only leads to itself and does not accept: such an edge may come and changes nothing.
+-- By I the automaton comes to a state that only leads to itself and does not accept: such an edge
+-- may come and changes nothing.
 abbrev trap : Rules
 trap = record { labels = 2; order = order; transitions = move 0 I 1 ∷ move 0 P 0 ∷ move 1 I 1 ∷ []; accept = 0 ∷ [] }
 
@@ -214,7 +224,8 @@ hope : Shows trap (graph trap 1 [] []) ((0, by I) ∷ (0, by P) ∷ []) (0, hour
 unfolding computed
 hope = (refl, refl, refl)
 
--- Which path is longer decides nothing: here the label is preferred to stopping, so the longer path shadows the one that stops.
+-- Which path is longer decides nothing: here the label is preferred to stopping, so the longer path
+-- shadows the one that stops.
 abbrev eager : Rules
 eager = record { labels = 1; order = pair (by I) stop ∷ []; transitions = move 0 I 0 ∷ []; accept = 0 ∷ [] }
 
@@ -230,13 +241,14 @@ both-seen : Shows lax (graph lax 2 ((0, I, 1) ∷ []) ((0, hours, 1) ∷ (1, hou
 unfolding computed
 both-seen = (refl, refl, refl)
 
--- After an import no parent may follow, so the path by 1 and 2 is not lawful and shadows nothing, though I is preferred.
+-- After an import no parent may follow, so the path by 1 and 2 is not lawful and shadows nothing,
+-- though I is preferred.
 unlawful : Shows gym (graph gym 4 ((0, I, 1) ∷ (0, P, 3) ∷ (1, P, 2) ∷ []) ((2, hours, 6) ∷ (3, hours, 7) ∷ [])) [] (0, hours) ((7, 0, (P, 3) ∷ []) ∷ []) found-one none
 unfolding computed
 unlawful = (refl, refl, refl)
 
--- The import declares hours too and I is preferred, but the state after I does not accept: that path is not lawful, so it is not reached and shadows
--- nothing. The parent's stays visible.
+-- The import declares hours too and I is preferred, but the state after I does not accept: that
+-- path is not lawful, so it is not reached and shadows nothing. The parent's stays visible.
 abbrev unaccepted : Graph (language trap)
 unaccepted = graph trap 3 ((0, I, 1) ∷ (0, P, 2) ∷ []) ((1, hours, 6) ∷ (2, hours, 7) ∷ [])
 
@@ -248,7 +260,37 @@ not-accepted-path : Stands trap unaccepted (0, hours) (6, 0, (I, 1) ∷ []) is-u
 unfolding computed
 not-accepted-path = (refl, refl)
 
--- Comparing: another start, the same label to another scope, and the path itself decide nothing; a preferred end does.
+-- One name in two kinds at one scope: each query finds its own kind's (02, K8).
+abbrev two-kinds : Graph (language gym)
+two-kinds = graph gym 1 [] ((0, c-hours, 1) ∷ (0, hours, 2) ∷ [])
+
+kind-c : Shows gym two-kinds [] (0, c-hours) ((1, 0, []) ∷ []) found-one none
+unfolding computed
+kind-c = (refl, refl, refl)
+
+kind-v : Shows gym two-kinds [] (0, hours) ((2, 0, []) ∷ []) found-one none
+unfolding computed
+kind-v = (refl, refl, refl)
+
+-- The import holds the name in another kind only, so it shadows nothing and protects from nothing;
+-- an open `$` awaits any kind.
+abbrev other-kind : Graph (language gym)
+other-kind = graph gym 3 ((0, I, 1) ∷ (0, P, 2) ∷ []) ((1, c-hours, 6) ∷ (2, hours, 7) ∷ [])
+
+kinds-apart : Shows gym other-kind ((1, stop) ∷ []) (0, hours) ((7, 0, (P, 2) ∷ []) ∷ []) found-one (some (1, stop))
+unfolding computed
+kinds-apart = (refl, refl, refl)
+
+kinds-apart-import : Shows gym other-kind ((2, stop) ∷ []) (0, c-hours) ((6, 0, (I, 1) ∷ []) ∷ []) found-one none
+unfolding computed
+kinds-apart-import = (refl, refl, refl)
+
+any-kind : Shows gym other-kind ((1, stop) ∷ []) (0, c-hours) ((6, 0, (I, 1) ∷ []) ∷ []) found-one (some (1, stop))
+unfolding computed
+any-kind = (refl, refl, refl)
+
+-- Comparing: another start, the same label to another scope, and the path itself decide nothing; a
+-- preferred end does.
 abbrev compares : ℕ → List (ℕ × ℕ) → ℕ → List (ℕ × ℕ) → Bool → Type 0
 compares s p t r b = moreSpecific (language gym) (path-row gym (0, s, p) .path) (path-row gym (0, t, r) .path) ≡ b
 

@@ -32,12 +32,14 @@ eqb-both a b c d h = (eqb-true a b (and-left (eqb a b) (eqb c d) h), eqb-true c 
 pub sameName-is : (x y : PackedName) → sameName x y ≡ true → x ≡ y
 unfolding sameName
 sameName-is x y h =
-    let e = eqb-both (x .high) (y .high) (x .low) (y .low) h in
-    λ i. record { high = e .0 i; low = e .1 i }
+    let k = eqb-true (x .kind) (y .kind) (and-left _ _ h) in
+    let e = eqb-both (x .high) (y .high) (x .low) (y .low) (and-right (eqb (x .kind) (y .kind)) _ h) in
+    λ i. record { kind = k i; high = e .0 i; low = e .1 i }
 
 pub sameName-self : (x : PackedName) → sameName x x ≡ true
 unfolding sameName
-sameName-self x = and-both _ _ (eq-eqb (x .high) _ refl) (eq-eqb (x .low) _ refl)
+sameName-self x =
+    and-both _ _ (eq-eqb (x .kind) _ refl) (and-both _ _ (eq-eqb (x .high) _ refl) (eq-eqb (x .low) _ refl))
 
 -- an end is preferred to another exactly if the pair is a row
 pub preferredBy-row : (rows : List OrderPair) (a b : End ℕ) → preferredBy rows a b ≡ true → record { less = a; more = b } ∈ rows

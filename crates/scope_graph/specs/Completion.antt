@@ -1,4 +1,5 @@
--- Completions of a graph, and whether a query is settled (01, "The listing"). Assumes nothing: these are definitions.
+-- Completions of a graph, and whether a query is settled (01, "The listing"). Assumes nothing:
+-- these are definitions.
 use Prim.Native.Nat.{ℕ, _<_, _≤_}
 use mathlib.Core.Path.{_≡_}
 use mathlib.Core.Logic.{_↔_, _⊎_}
@@ -16,8 +17,9 @@ EndBefore (by l) stop = ⊥
 EndBefore (by l) (by k) = l < k
 
 module _ (L : Language) where
-  -- h has all of g's scopes and rows. A row of h that g lacks stands at a new scope, or at an old one where `Allowed` lets one come: it says so of
-  -- a scope and an end. New scopes are numbered after the old ones; there may be any number of them, with any rows, and any marks.
+  -- h has all of g's scopes and rows. A row of h that g lacks stands at a new scope, or at an old
+  -- one where `Allowed` lets one come: it says so of a scope and an end. New scopes are numbered
+  -- after the old ones; there may be any number of them, with any rows, and any marks.
   pub record Extension (Allowed : ℕ → End (L .Step) → Type 0) (g h : Graph L) : Type 0 where
     pub scopes-kept : g .scopes ≤ h .scopes
     pub edges-kept : (e : Edge L) → e ∈ g .edges → e ∈ h .edges

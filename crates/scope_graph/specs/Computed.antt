@@ -1,5 +1,6 @@
--- The rules, computed: all reached paths of a query along the edges, its entries, `found`, the decisive pairs and `awaits`. Contracts cite these; Promises says that they are
--- the rules. Plain and slow. Assumes nothing: these are definitions.
+-- The rules, computed: all reached paths of a query along the edges, its entries, `found`, the
+-- decisive pairs and `awaits`. Contracts cite these; Promises says that they are the rules. Plain
+-- and slow. Assumes nothing: these are definitions.
 use Prim.Native.Nat.{ℕ, zero, suc}
 use mathlib.Core.Bool.{Bool, true, false, not, _&&_, _||_}
 use mathlib.Core.Option.{Option, some, none}
@@ -32,7 +33,8 @@ pub data Found : Type 0 where
 pub data Standing : Type 0 where
   is-visible is-shadowed is-unreached : Standing
 
--- a place of the search: the hops so far, the scope that they come to, and the state that they lead to
+-- a place of the search: the hops so far, the scope that they come to, and the state that they lead
+-- to
 pub record NodeOf (A : Type 0) : Type 0 where
   pub hops : List (HopOf A)
   pub at : ℕ
@@ -64,7 +66,8 @@ module _ (L : Language) where
   unfoldable pub behind : Hop L → Node L → Node L
   behind h n = record { hops = h ∷ n .hops; at = n .at; state = n .state }
 
-  -- what is found behind a hop, where `enter` says it of a scope and a state: nothing where the scope was met before or the automaton does not go on
+  -- what is found behind a hop, where `enter` says it of a scope and a state: nothing where the
+  -- scope was met before or the automaton does not go on
   unfoldable pub hopOn : (ℕ → ℕ → List (Node L)) → List ℕ → ℕ → Hop L → List (Node L)
   hopOn enter seen q h =
       elim (anyOf (eqb (h .to)) seen) [
@@ -72,7 +75,8 @@ module _ (L : Language) where
         | false ↦ elim (L .next q (L .label (h .step))) [ none ↦ [] | some r ↦ map (behind h) (enter (h .to) r) ]
       ]
 
-  -- all places from a scope and state on, with fewer than `fuel` hops and no scope that was met before: an ended path first, then edge by edge
+  -- all places from a scope and state on, with fewer than `fuel` hops and no scope that was met
+  -- before: an ended path first, then edge by edge
   unfoldable pub nodesFrom : ℕ → Graph L → List ℕ → ℕ → ℕ → List (Node L)
   nodesFrom zero g seen s q = []
   nodesFrom (suc fuel) g seen s q =
@@ -143,7 +147,8 @@ module _ (L : Language) where
     standing p =
         elim (isReached p) [ false ↦ is-unreached | true ↦ elim (cut (p .hops) stop) [ true ↦ is-shadowed | false ↦ is-visible ] ]
 
-    -- a path row's standing: a mark that no matching declaration has is not reached (01, "Paths", its end)
+    -- a path row's standing: a mark that no matching declaration has is not reached (01, "Paths",
+    -- its end)
     unfoldable pub judged : PathRow L → Standing
     judged r =
         elim (anyOf (eqb (r .mark)) (marksAt (g .declarations) (lastFrom L (r .path .start) (r .path .hops)) (q .name)))

@@ -1,5 +1,6 @@
--- What the search looks at, to say whether an open pair is decisive. *Preferred*, *usable* and *followed* are not terms of document 01; what is
--- proved of them stands in Promises. Assumes nothing: these are definitions.
+-- What the search looks at, to say whether an open pair is decisive. *Preferred*, *usable* and
+-- *followed* are not terms of document 01; what is proved of them stands in Promises. Assumes
+-- nothing: these are definitions.
 use Prim.Native.Nat.{ℕ}
 use mathlib.Core.Path.{_≡_}
 use mathlib.Core.Bool.{true}
@@ -23,7 +24,8 @@ module _ (L : Language) where
   Usable q stop = L .accepts q ≡ true
   Usable q (by t) = (r : ℕ) × (L .next q (L .label t) ≡ some r) × (w : List ℕ) × (f : ℕ) × Leads L r w f × (L .accepts f ≡ true)
 
-  -- a path of the graph comes to the scope, may go on by the end, and nothing reached is preferred to that
+  -- a path of the graph comes to the scope, may go on by the end, and nothing reached is preferred
+  -- to that
   pub record Followed (g : Graph L) (q : Query L) (s : ℕ) (e : End (L .Step)) : Type 0 where
     pub hops : List (Hop L)
     pub path : IsPath L g (record { start = q .start; hops = hops })

@@ -1,4 +1,5 @@
--- The graph: scopes, edges, declarations, open pairs, and a query. Assumes nothing: these are definitions.
+-- The graph: scopes, edges, declarations, open pairs, and a query. Assumes nothing: these are
+-- definitions.
 use Prim.Native.Nat.{ℕ, _<_}
 use mathlib.Core.Path.{_≡_}
 use mathlib.Core.List.{List}
@@ -11,7 +12,7 @@ module _ (L : Language) where
     pub step : L .Step
     pub to : ℕ
 
-  -- 01, "The gym file", the rows `at name mark`
+  -- 01, "The gym file", the rows `at name mark`; with a kind, 02, K8
   pub record Declaration : Type 0 where
     pub at : ℕ
     pub name : L .Name
@@ -23,7 +24,8 @@ module _ (L : Language) where
     pub edges : List (Edge)
     pub declarations : List (Declaration)
 
-  -- The rows speak of scopes of the graph and of listed labels (01, refusal 3), and edges between the same two scopes may stand together.
+  -- The rows speak of scopes of the graph and of listed labels (01, refusal 3), and edges between
+  -- the same two scopes may stand together.
   pub record InRange (g : Graph) : Type 0 where
     pub from-scope : (e : Edge) → e ∈ g .edges → e .from < g .scopes
     pub to-scope : (e : Edge) → e ∈ g .edges → e .to < g .scopes
@@ -31,17 +33,19 @@ module _ (L : Language) where
     pub at-scope : (d : Declaration) → d ∈ g .declarations → d .at < g .scopes
     pub together : (e f : Edge) → e ∈ g .edges → f ∈ g .edges → e .from ≡ f .from → e .to ≡ f .to → L .Together (e .step) (f .step)
 
-  -- 01, "The gym file", the rows `start seek`
+  -- 01, "The gym file", the rows `start seek`; with a kind, 02, K8
   pub record Query : Type 0 where
     pub start : ℕ
     pub name : L .Name
 
-  -- 01, "The gym file", the rows `at open`: document 01 calls it an open pair or open place. Its end is `$` or a label's number.
+  -- 01, "The gym file", the rows `at open`: document 01 calls it an open pair or open place. Its
+  -- end is `$` or a label's number.
   pub record OpenPair : Type 0 where
     pub at : ℕ
     pub end : End ℕ
 
-  -- What may still come at an open place: a declaration at `$`, and at a label an edge with a step of that label.
+  -- What may still come at an open place: a declaration at `$`, and at a label an edge with a step
+  -- of that label.
   abbrev pub Admits : End ℕ → End (L .Step) → Type 0
   Admits stop stop = Unit {0}
   Admits stop (by t) = ⊥

@@ -1,5 +1,7 @@
--- What the rules take from a file before there is a graph: labels and ends, the order, the automaton, names. All that later requests vary (a
--- kind beside the name, a turn beside the label) is a field here, so that the rules are stated once. Assumes nothing: these are definitions.
+-- What the rules take from a file before there is a graph: labels and ends, the order, the
+-- automaton, names. What requests of document 02 vary (a kind beside the name, K8, a turn beside
+-- the label, K12) is a field here, so that the rules are stated once. Assumes nothing: these are
+-- definitions.
 use Prim.Native.Nat.{ℕ, _<_}
 use mathlib.Core.Path.{_≡_}
 use mathlib.Core.Bool.{Bool, true, false}
@@ -11,12 +13,14 @@ infix 40 _∈_
 abbrev pub _∈_ : {A : Type 0} → A → List A → Type 0
 _∈_ a l = List·Memᴰ a l
 
--- 01, "The gym file": how a path goes on at a scope. It stops there (the end mark `$`), or goes on by a step.
+-- 01, "The gym file": how a path goes on at a scope. It stops there (the end mark `$`), or goes on
+-- by a step.
 pub data End (A : Type 0) : Type 0 where
   stop : End A
   by : A → End A
 
--- 01, "The gym file". `Step` is what an edge carries: in document 01 its label alone. (A step of a path in 01's sense, a label and a scope, is a hop in Path.)
+-- 01, "The gym file". `Step` is what an edge carries: in document 01 its label alone. (A step of a
+-- path in 01's sense, a label and a scope, is a hop in Path.)
 pub record Language : Type 1 where
   pub Step : Type 0
   pub same-step : Step → Step → Bool
@@ -27,17 +31,20 @@ pub record Language : Type 1 where
   pub same-name : Name → Name → Bool
   -- the order pairs, as a test of two ends: is the one preferred to the other?
   pub prefers : End Step → End Step → Bool
-  -- the automaton: how many states there are, the next one from a state by a label, if any, and which accept. Paths begin in state 0.
+  -- the automaton: how many states there are, the next one from a state by a label, if any, and
+  -- which accept. Paths begin in state 0.
   pub states : ℕ
   pub next : ℕ → ℕ → Option ℕ
   pub accepts : ℕ → Bool
-  -- A step of the given label that stands for all of that label: whichever of the listed steps, or `$`, is preferred to it is preferred to every step of the label.
+  -- A step of the given label that stands for all of that label: whichever of the listed steps, or
+  -- `$`, is preferred to it is preferred to every step of the label.
   pub strongest : List Step → ℕ → Step
   -- may two edges with the same two scopes carry these steps? In document 01 always.
   pub Together : Step → Step → Type 0
 
--- What the theorems rely on. The tests of equality are right; the order is irreflexive and transitive (01's refusal 6); transitions speak of listed labels and
--- states (refusal 3); `strongest` is what its comment says; an edge may stand beside itself.
+-- What the theorems rely on. The tests of equality are right; the order is irreflexive and
+-- transitive (01's refusal 6); transitions speak of listed labels and states (refusal 3);
+-- `strongest` is what its comment says; an edge may stand beside itself.
 pub record Laws (L : Language) : Type 0 where
   pub step-same : (a b : L .Step) → L .same-step a b ≡ true → a ≡ b
   pub step-self : (a : L .Step) → L .same-step a a ≡ true

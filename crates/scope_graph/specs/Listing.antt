@@ -1,4 +1,5 @@
--- The order of a file's rows and of a listing's (01, "The gym file" and "The listing"), and what `found` says. Assumes nothing: these are definitions.
+-- The order of a file's rows and of a listing's (01, "The gym file" and "The listing"), and what
+-- `found` says. Assumes nothing: these are definitions.
 use Prim.Native.Nat.{_<_}
 use mathlib.Core.Path.{_≡_}
 use mathlib.Core.Logic.{_⊎_}
@@ -30,7 +31,8 @@ module _ (L : Language) where
   abbrev pub RowBefore : PathRow L → PathRow L → Type 0
   RowBefore r p = HopsBefore (r .path .hops) (p .path .hops) ⊎ ((r .path ≡ p .path) × (r .mark < p .mark))
 
-  -- The order of edge rows; and of declarations as far as it matters here: those of one name at one scope stand by their marks.
+  -- The order of edge rows; and of declarations as far as it matters here: those of one name at one
+  -- scope stand by their marks.
   abbrev pub EdgeBefore : Edge L → Edge L → Type 0
   EdgeBefore e f =
       (e .from < f .from)
@@ -39,7 +41,8 @@ module _ (L : Language) where
   abbrev pub MarkBefore : Declaration L → Declaration L → Type 0
   MarkBefore d e = d .at ≡ e .at → d .name ≡ e .name → d .mark < e .mark
 
-  -- What the theorems rely on of an accepted graph and a query of it: less than refusals 1 to 6 give.
+  -- What the theorems rely on of an accepted graph and a query of it: less than refusals 1 to 6
+  -- give.
   pub record Accepted (g : Graph L) (opens : List (OpenPair L)) (q : Query L) : Type 0 where
     pub laws : Laws L
     pub in-range : InRange L g
@@ -48,8 +51,8 @@ module _ (L : Language) where
     pub opens-ascend : Pairwise (PairBefore L) opens
     pub starts : q .start < g .scopes
 
-  -- `found` as 02, K2 has it: no entry; an entry whose declaration every entry has; two entries with
-  -- different declarations
+  -- `found` as 02, K2 has it: no entry; an entry whose declaration every entry has; two entries
+  -- with different declarations
   abbrev pub FoundIs : Graph L → Query L → Found → Type 0
   FoundIs g q found-none = (r : PathRow L) → ¬ Entry L g q r
   FoundIs g q found-one =

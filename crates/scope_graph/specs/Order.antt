@@ -1,4 +1,5 @@
--- An end of an order pair as a cell (01, "The gym file", the rows `less more`), and what the code's ends and pairs mean. Assumes nothing: these are definitions.
+-- An end of an order pair as a cell (01, "The gym file", the rows `less more`), and what the code's
+-- ends and pairs mean. Assumes nothing: these are definitions.
 use Prim.Native.Nat.{ℕ, zero, suc}
 use Rattle.scope_graph.specs.declared.End.{End as CodeEnd}
 use Rattle.scope_graph.specs.declared.End.the-variants.{Stop, Label}

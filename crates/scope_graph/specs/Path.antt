@@ -12,7 +12,8 @@ abbrev pub Distinct : List ℕ → Type 0
 Distinct [] = Unit {0}
 Distinct (x ∷ xs) = ¬ (x ∈ xs) × Distinct xs
 
--- one step of a path in 01's sense: what its edge carries, and the scope that it comes to. Over the type of what is carried, so that the search's tables share it.
+-- one step of a path in 01's sense: what its edge carries, and the scope that it comes to. Over the
+-- type of what is carried, so that the search's tables share it.
 pub record HopOf (A : Type 0) : Type 0 where
   pub step : A
   pub to : ℕ

@@ -1,4 +1,5 @@
--- What is proved of the rules: each field is a statement, and proofs/Promises.antt has the value. Assumes nothing: these are statements.
+-- What is proved of the rules: each field is a statement, and proofs/Promises.antt has the value.
+-- Assumes nothing: these are statements.
 use Prim.Native.Nat.{ℕ, _≤_}
 use mathlib.Core.Path.{_≡_}
 use mathlib.Core.Bool.{true}
@@ -21,7 +22,8 @@ abbrev pub LanguageLaws : Type 0
 LanguageLaws = (r : Rules) → RulesPass r → Laws (languageOf r)
 
 module _ (L : Language) where
-  -- *more specific* is a strict order, its form by recursion on the hops is the plain reading, and it is computed
+  -- *more specific* is a strict order, its form by recursion on the hops is the plain reading, and
+  -- it is computed
   pub record OrderPromises : Type 0 where
     pub irreflexive : (p : Path L) → ¬ MoreSpecific L p p
     pub transitive : (p r t : Path L) → MoreSpecific L p r → MoreSpecific L r t → MoreSpecific L p t
@@ -34,7 +36,8 @@ module _ (L : Language) where
       pub visible : (p : Path L) → (standing L g q p ≡ is-visible) ↔ Visible L g q p
       pub shadowed : (p : Path L) → (standing L g q p ≡ is-shadowed) ↔ Shadowed L g q p
       pub unreached : (p : Path L) → (standing L g q p ≡ is-unreached) ↔ Unreached L g q p
-      -- exactly one standing holds of each path row too, by its path and by whether its mark is declared at the path's last scope
+      -- exactly one standing holds of each path row too, by its path and by whether its mark is
+      -- declared at the path's last scope
       pub judged-visible : (r : PathRow L) → (judged L g q r ≡ is-visible) ↔ Entry L g q r
       pub judged-shadowed : (r : PathRow L) → (judged L g q r ≡ is-shadowed) ↔ (Shadowed L g q (r .path) × MarkDeclared L g q r)
       pub judged-unreached : (r : PathRow L) → (judged L g q r ≡ is-unreached) ↔ (¬ (Reached L g q (r .path) × MarkDeclared L g q r))
@@ -44,10 +47,12 @@ module _ (L : Language) where
       pub entries-ascend : Pairwise (RowBefore L) (entries L g q)
       pub once : (r : PathRow L) → ¬ RowBefore L r r
       pub found-is : FoundIs L g q (found L g q)
-      -- the scopes where visible paths end are the entries'; they and their marks tell the same `found`
+      -- the scopes where visible paths end are the entries'; they and their marks tell the same
+      -- `found`
       pub ends-are : (s : ℕ) → (endsAt L g q s ≡ true) ↔ ((r : PathRow L) × Entry L g q r × (rowDeclaration L q r .at ≡ s))
       pub found-told : (n : ℕ) → g .scopes ≤ n → foundAmong (endsAt L g q) (severalMarks L g q) n ≡ found L g q
-      -- decisive is open and followed; settled is that no pair is decisive; the computed `awaits` is the first decisive pair, and `-` exactly if settled
+      -- decisive is open and followed; settled is that no pair is decisive; the computed `awaits`
+      -- is the first decisive pair, and `-` exactly if settled
       pub decisive : (o : OpenPair L) → Decisive L g opens q o ↔ ((o ∈ opens) × FollowedAt L g q o)
       pub followed : (o : OpenPair L) → (followedAt L g q o ≡ true) ↔ FollowedAt L g q o
       pub settled : Settled L g opens q ↔ ((o : OpenPair L) → ¬ Decisive L g opens q o)

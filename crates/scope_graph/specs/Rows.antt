@@ -1,4 +1,5 @@
--- The language of a gym file (01, "The gym file"): labels, order pairs, transitions and accept rows as they stand in the file. Assumes nothing: these are definitions.
+-- The language of a gym file (01, "The gym file"): labels, order pairs, transitions and accept rows
+-- as they stand in the file. Assumes nothing: these are definitions.
 use Prim.Native.Nat.{ℕ, _<_}
 use mathlib.Core.Bool.{Bool, true, false, _&&_}
 use mathlib.Core.Option.{Option, some, none}
@@ -17,8 +18,11 @@ pub record Transition : Type 0 where
   pub label : ℕ
   pub next : ℕ
 
--- a name as two numbers: its first eight bytes and its last eight, big end first, with zeros for bytes that it lacks
+-- What the rules call a name: a kind and a name (02, K8). The kind is its letter's byte; the name
+-- is two numbers, its first eight bytes and its last eight, big end first, with zeros for bytes
+-- that it lacks.
 pub record PackedName : Type 0 where
+  pub kind : ℕ
   pub high : ℕ
   pub low : ℕ
 
@@ -37,7 +41,7 @@ sameEnd (by l) stop = false
 sameEnd (by l) (by k) = eqb l k
 
 unfoldable pub sameName : PackedName → PackedName → Bool
-sameName x y = eqb (x .high) (y .high) && eqb (x .low) (y .low)
+sameName x y = eqb (x .kind) (y .kind) && (eqb (x .high) (y .high) && eqb (x .low) (y .low))
 
 -- is the test met by an element?
 unfoldable pub anyOf : {A : Type 0} → (A → Bool) → List A → Bool

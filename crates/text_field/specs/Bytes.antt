@@ -15,7 +15,7 @@ isDigit x = within 48 57 x
 unfoldable pub isCapital : ℕ → Bool
 isCapital x = within 65 90 x
 
--- a to z: the first byte of a name, and of a names line
+-- a to z: the first byte of a name, and of a names line; a kind (02, K8)
 unfoldable pub isLower : ℕ → Bool
 isLower x = within 97 122 x
 

@@ -1,7 +1,9 @@
-//! Names in a climbing gym's file, resolved by scope graphs: safe functions over the proved library.
+//! Names in a climbing gym's file, resolved by scope graphs: safe functions over the proved
+//! library.
 //!
-//! Every function is total. A refusal leaves all that was lent as it was. What each function takes, answers and refuses is
-//! said in `include/tewhoranu.h`; the numbers there are the cases of the enums here.
+//! Every function is total. A refusal leaves all that was lent as it was. What each function takes,
+//! answers and refuses is said in `include/tewhoranu.h`; the numbers there are the cases of the
+//! enums here.
 
 use std::error::Error;
 use std::fmt;
@@ -16,6 +18,10 @@ pub const STEPS: usize = 63;
 pub const SUMMARY: usize = 64;
 /// Bytes that the program lends for a listing.
 pub const LISTING: usize = 65_536;
+/// The forms of file, as the first cell of a graph table has them: names alone, which are of the
+/// kind `v`, or kinds and names.
+pub const OLD_FORM: u64 = 0;
+pub const WITH_KINDS: u64 = 1;
 /// Stack that serves every call, in bytes: counted, not proved.
 pub const STACK: usize = 3 * 512 * 1024;
 
@@ -156,24 +162,26 @@ fn case(answer: u64) -> Result<(u64, u64), Refusal> {
     }
 }
 
-// In each function below the pointers and lengths are those of slices, which Rust keeps valid, aligned, initialised and,
-// where they are `&mut`, apart from all others for the call; the library keeps none of them. That is all that its
-// header asks, the stack aside.
+// In each function below the pointers and lengths are those of slices, which Rust keeps valid,
+// aligned, initialised and, where they are `&mut`, apart from all others for the call; the library
+// keeps none of them. That is all that its header asks, the stack aside.
 
-/// Reads a gym file's text into a graph table and answers how many cells were written.
+/// Reads a gym file's text into a graph table and answers how many cells were written. The first is
+/// the file's form.
 pub fn read(text: &[u8], table: &mut [u64]) -> Result<usize, Refusal> {
     // SAFETY: as said above.
     written(unsafe { library::tewhoranu_read(text.as_ptr(), text.len(), table.as_mut_ptr(), table.len()) })
 }
 
-/// Writes a graph table as a gym file's text and answers how many bytes were written.
+/// Writes a graph table as a gym file's text, in the form that its first cell says, and answers how
+/// many bytes were written.
 pub fn write(table: &[u64], out: &mut [u8]) -> Result<usize, Refusal> {
     // SAFETY: as said above.
     written(unsafe { library::tewhoranu_write(table.as_ptr(), table.len(), out.as_mut_ptr(), out.len()) })
 }
 
-/// The name that a query of the file seeks, as the part of the text that holds it; `None` if a refusal by 1 to 7 stands
-/// in the way.
+/// The name that a query of the file seeks, without its kind, as the part of the text that holds
+/// it; `None` if a refusal by 1 to 7 stands in the way.
 pub fn name_sought(text: &[u8], query: usize) -> Option<&[u8]> {
     let mut place = 0;
     // SAFETY: as said above.

@@ -1,5 +1,5 @@
-//! The library, through its Rust wrapper, against the plain Rust implementation, call by call. Lent memory is compared whole, after
-//! refusals too.
+//! The library, through its Rust wrapper, against the plain Rust implementation, call by call. Lent
+//! memory is compared whole, after refusals too.
 
 use crate::differ;
 use crate::files::without_pairs;
@@ -207,16 +207,21 @@ impl Test {
         self.read(text);
         let mut table = vec![0; tewhoranu::CELLS];
         if let Ok(n) = plain::gym::read(text, &mut table) {
+            self.tally.count("form", table[0].to_string());
             self.write(&table[..n]);
             let damaged = damaged_table(&mut self.rng, &table[..n]);
             self.write(&damaged);
+            // the same rows in the other form: in the old one a kind other than `v` is refused
+            table[0] = 1 - table[0];
+            self.write(&table[..n]);
         }
         self.summary(text);
         let (queries, scopes, letters) = match plain::gym::Gym::parse(text) {
             Ok(gym) => (gym.queries.len(), gym.scopes as usize, gym.labels.clone()),
             Err(_) => (1, 5, b"AB".to_vec()),
         };
-        // without order pairs a query sees all that it reaches: rows that are visible or shadowed with them
+        // without order pairs a query sees all that it reaches: rows that are visible or shadowed
+        // with them
         let unordered = without_pairs(text);
         let mut shown = Vec::new();
         for query in 0..queries + 1 {

@@ -18,26 +18,42 @@ pub fn without_pairs(text: &[u8]) -> Vec<u8> {
     lines.concat()
 }
 
-/// A file that is whole line by line, with a fault that small damage seldom makes: an order pair left out, an order pair with
-/// equal ends, a second count of scopes.
+/// The names lines by which the two forms of file differ, the old one first.
+const LINES: [[&[u8]; 2]; 2] =
+    [[b"at name mark\n", b"at kind name mark\n"], [b"start seek\n", b"start kind seek\n"]];
+
+/// A file that is whole line by line, with a fault that small damage seldom makes: an order pair
+/// left out, an order pair with equal ends, a second count of scopes, one names line of the other
+/// form or both.
 fn faulty(rng: &mut Rng, text: &[u8]) -> Vec<u8> {
     let mut lines: Vec<&[u8]> = text.split_inclusive(|&b| b == b'\n').collect();
     let at = |names: &[u8]| names_line(&lines, names).expect("an accepted file has them all");
     let pairs = at(b"less more\n") + 1..at(b"state label next\n");
     let scopes = at(b"scopes\n") + 1;
-    match rng.below(3) {
+    match rng.below(5) {
         0 if !pairs.is_empty() => {
             lines.remove(pairs.start + rng.below(pairs.len()));
         }
         1 => {
             lines.splice(pairs, [&b"$ $\n"[..]]);
         }
+        2 => other_line(&mut lines, LINES[rng.below(2)]),
+        3 => LINES.into_iter().for_each(|both| other_line(&mut lines, both)),
         _ => lines.insert(scopes, lines[scopes]),
     }
     lines.concat()
 }
 
-/// A random file: small or of middle size, whole or with a fault.
+/// One form's names line put in place of the other's.
+fn other_line<'a>(lines: &mut [&'a [u8]], both: [&'a [u8]; 2]) {
+    for line in lines {
+        if let Some(form) = both.iter().position(|names| names == line) {
+            *line = both[1 - form];
+        }
+    }
+}
+
+/// A random file of either form: small or of middle size, whole or with a fault.
 pub fn file(rng: &mut Rng) -> Vec<u8> {
     let text = if rng.below(4) == 0 { gym(rng, MIDDLE) } else { gym(rng, SMALL) };
     match rng.below(6) {
@@ -47,8 +63,8 @@ pub fn file(rng: &mut Rng) -> Vec<u8> {
     }
 }
 
-/// The file whose walk goes deepest: it enters each of 504 edges that leave one scope, without an order, and has a frame for
-/// each of them when it is at the last.
+/// The file whose walk goes deepest: it enters each of 504 edges that leave one scope, without an
+/// order, and has a frame for each of them when it is at the last.
 fn widest() -> Vec<u8> {
     let labels = "ABCDEFGH";
     let lines = |section: &str, rows: Vec<String>| format!("{section}\n{}", rows.concat());
@@ -62,8 +78,9 @@ fn widest() -> Vec<u8> {
     text.into_bytes()
 }
 
-/// A file whose search goes deep: all 512 edges leave one scope, and only the last one leads to the name, so that the walk is at
-/// that row when it asks about the labels that are preferred to its own, and each question goes through all the rows again.
+/// A file whose search goes deep: all 512 edges leave one scope, and only the last one leads to the
+/// name, so that the walk is at that row when it asks about the labels that are preferred to its
+/// own, and each question goes through all the rows again.
 fn deepest() -> Vec<u8> {
     let mut text = String::from("label\n");
     let labels = "ABCDEFGH";

@@ -1,9 +1,10 @@
-//! The host test: the library, through its Rust wrapper, against the plain Rust implementation, on random and damaged
-//! files, graph tables and path rows, with lent memory of every length about the due one; then the C example and the
-//! program against the plain implementation.
+//! The host test: the library, through its Rust wrapper, against the plain Rust implementation, on
+//! random and damaged files, graph tables and path rows, with lent memory of every length about the
+//! due one; then the C example and the program against the plain implementation.
 //!
-//! host_test FILES EXAMPLE PROGRAM RUNS [GYM..]: so many random files in process, so many runs of each of the two programs, and
-//! both programs on the gym files named. `host_test words` prints what the wrapper says of each refusal.
+//! host_test FILES EXAMPLE PROGRAM RUNS [GYM..]: so many random files in process, so many runs of
+//! each of the two programs, and both programs on the gym files named. `host_test words` prints
+//! what the wrapper says of each refusal.
 
 mod calls;
 mod files;
@@ -23,8 +24,9 @@ fn differ(call: &str, text: &[u8], detail: String) -> ! {
     exit(1);
 }
 
-/// What each call must have answered at least once.
-const DUE: [(&str, &[&str]); 7] = [
+/// What each call must have answered at least once; and accepted files of each form.
+const DUE: [(&str, &[&str]); 8] = [
+    ("form", &["0", "1"]),
     ("read", &["written", "refused 1", "refused 2", "refused 3", "refused 4", "refused 5", "refused 6", "refused 9"]),
     ("write", &["written", "refused 2", "refused 3", "refused 4", "refused 5", "refused 6", "refused 9"]),
     ("name_sought", &["found", "none"]),

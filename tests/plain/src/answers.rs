@@ -1,6 +1,6 @@
 //! Listing, judge and summary.
 
-use crate::gym::{push_end, push_name, push_number, Gym, Query, Refusal};
+use crate::gym::{push_end, push_name, push_number, Form, Gym, Query, Refusal};
 use crate::path_row::{fill, PathRow, Step};
 use crate::search::{Go, Rules, Search};
 
@@ -12,7 +12,22 @@ pub enum Standing {
 }
 
 const HEAD: &[u8] = b"start seek found awaits\n";
+const HEAD_WITH_KIND: &[u8] = b"start kind seek found awaits\n";
 const ROWS: &[u8] = b"mark path\n";
+
+/// Appends the names line and the values that the query gives.
+fn push_head(out: &mut Vec<u8>, form: Form, query: Query) {
+    out.extend_from_slice(match form {
+        Form::Old => HEAD,
+        Form::Kinds => HEAD_WITH_KIND,
+    });
+    push_number(out, u64::from(query.start));
+    if form == Form::Kinds {
+        out.extend_from_slice(&[b' ', query.name.kind]);
+    }
+    out.push(b' ');
+    push_name(out, query.name.text);
+}
 
 /// Appends a query's listing to `out` and answers how many declarations its entries have, two
 /// meaning several; or, where the listing is longer than `limit`, appends nothing and answers
@@ -52,10 +67,7 @@ pub fn push_listing(
         return None;
     }
     let before = out.len();
-    out.extend_from_slice(HEAD);
-    push_number(out, u64::from(query.start));
-    out.push(b' ');
-    push_name(out, query.name);
+    push_head(out, gym.form, query);
     out.extend_from_slice([&b" none "[..], b" one ", b" several "][found as usize]);
     match search.awaits() {
         None => out.push(b'-'),
@@ -108,7 +120,8 @@ pub fn count(rules: &Rules, query: Query) -> u8 {
 /// How many queries found none, one and several.
 pub type Figures = [u64; 3];
 
-/// Whole per cent to the nearest, an exact half to the even one: half up, and one back from an odd number at the half.
+/// Whole per cent to the nearest, an exact half to the even one: half up, and one back from an odd
+/// number at the half.
 fn share(one: u64, queries: u64) -> u64 {
     let up = (200 * one + queries) / (2 * queries);
     let half = (200 * one + queries) % (2 * queries) == 0;

@@ -1,8 +1,12 @@
-//! Document 01's rules by plain enumeration: every simple path, each held against every other. Slow,
-//! for small graphs, and with no code of the search in it. Only a gym's rows are taken from the reader.
+//! Document 01's rules by plain enumeration: every simple path, each held against every other.
+//! Slow, for small graphs, and with no code of the search in it. Only a gym's rows are taken from
+//! the reader.
 
-use crate::gym::{Gym, Query};
+use crate::gym::{self, Form, Gym, Query};
 use std::cmp::Ordering;
+
+/// A kind and a name (02, K8).
+pub type Name = (char, String);
 
 /// A graph or a completion of one: any number of scopes, any marks.
 #[derive(Clone)]
@@ -15,7 +19,7 @@ pub struct Graph {
     pub accepts: Vec<u8>,
     pub scopes: usize,
     pub edges: Vec<(usize, u8, usize)>,
-    pub declarations: Vec<(usize, u128, u64)>,
+    pub declarations: Vec<(usize, Name, u64)>,
 }
 
 #[derive(Clone, Debug, PartialEq, Eq)]
@@ -35,6 +39,13 @@ pub enum Verdict {
 
 pub fn end(cell: u8) -> Option<u8> {
     cell.checked_sub(1)
+}
+
+/// A row's kind and name as they stand in the file.
+pub fn name_of(cells: gym::Name) -> Name {
+    let bytes = cells.text.to_be_bytes();
+    let text = bytes.iter().take_while(|&&b| b != 0).map(|&b| b as char);
+    (cells.kind as char, text.collect())
 }
 
 impl Path {
@@ -67,7 +78,7 @@ impl Graph {
             declarations: gym
                 .declarations
                 .iter()
-                .map(|d| (d.at as usize, d.name, u64::from(d.mark)))
+                .map(|d| (d.at as usize, name_of(d.name), u64::from(d.mark)))
                 .collect(),
         }
     }
@@ -116,16 +127,17 @@ impl Graph {
         self.accepts.contains(&state)
     }
 
-    fn marks(&self, scope: usize, name: u128) -> impl Iterator<Item = u64> + '_ {
+    fn marks(&self, scope: usize, name: &Name) -> Vec<u64> {
         self.declarations
             .iter()
-            .filter(move |d| d.0 == scope && d.1 == name)
+            .filter(|d| d.0 == scope && d.1 == *name)
             .map(|d| d.2)
+            .collect()
     }
 
-    fn reached(&self, start: usize, name: u128) -> Vec<Path> {
+    fn reached(&self, start: usize, name: &Name) -> Vec<Path> {
         let mut paths = self.paths(start);
-        paths.retain(|p| self.lawful(p) && self.marks(p.last(), name).next().is_some());
+        paths.retain(|p| self.lawful(p) && !self.marks(p.last(), name).is_empty());
         paths
     }
 
@@ -146,7 +158,7 @@ impl Graph {
     }
 
     /// What a query sees, in the listing's order.
-    pub fn entries(&self, start: usize, name: u128) -> Vec<Entry> {
+    pub fn entries(&self, start: usize, name: &Name) -> Vec<Entry> {
         let reached = self.reached(start, name);
         let mut entries = Vec::new();
         for path in &reached {
@@ -160,9 +172,9 @@ impl Graph {
         entries
     }
 
-    pub fn verdict(&self, start: usize, name: u128, path: &Path, mark: u64) -> Verdict {
+    pub fn verdict(&self, start: usize, name: &Name, path: &Path, mark: u64) -> Verdict {
         let reached = self.reached(start, name);
-        if !reached.contains(path) || !self.marks(path.last(), name).any(|m| m == mark) {
+        if !reached.contains(path) || !self.marks(path.last(), name).contains(&mark) {
             Verdict::Unreached
         } else if reached.iter().any(|other| self.more_specific(other, path)) {
             Verdict::Shadowed
@@ -174,16 +186,16 @@ impl Graph {
     /// A completion that adds to the old scopes at one pair only, as much as can matter: a
     /// declaration with an unused mark, or an edge into a chain of new scopes, as many as there are
     /// states, linked by every label, that all declare the name.
-    fn fullest(&self, name: u128, scope: usize, end: Option<u8>) -> Graph {
+    fn fullest(&self, name: &Name, scope: usize, end: Option<u8>) -> Graph {
         let mut graph = self.clone();
         let unused = 1 + self.declarations.iter().map(|d| d.2).max().unwrap_or(0);
         match end {
-            None => graph.declarations.push((scope, name, unused)),
+            None => graph.declarations.push((scope, name.clone(), unused)),
             Some(label) => {
                 graph.edges.push((scope, label, self.scopes));
                 graph.scopes += self.states();
                 for new in self.scopes..graph.scopes {
-                    graph.declarations.push((new, name, unused));
+                    graph.declarations.push((new, name.clone(), unused));
                     for label in 0..self.labels {
                         if new + 1 < graph.scopes {
                             graph.edges.push((new, label, new + 1));
@@ -195,7 +207,7 @@ impl Graph {
         graph
     }
 
-    pub fn decisive(&self, start: usize, name: u128, scope: usize, end: Option<u8>) -> bool {
+    pub fn decisive(&self, start: usize, name: &Name, scope: usize, end: Option<u8>) -> bool {
         self.fullest(name, scope, end).entries(start, name) != self.entries(start, name)
     }
 }
@@ -219,9 +231,9 @@ pub fn awaits(gym: &Gym, query: Query) -> Option<(u8, u8)> {
     let graph = Graph::of(gym);
     let mut open = gym.open.clone();
     open.sort();
-    open.into_iter().find(|&(scope, e)| {
-        graph.decisive(query.start as usize, query.name, scope as usize, end(e))
-    })
+    let sought = name_of(query.name);
+    open.into_iter()
+        .find(|&(scope, e)| graph.decisive(query.start as usize, &sought, scope as usize, end(e)))
 }
 
 /// How many declarations of the name sought the entries have: pairs of a scope and a mark.
@@ -234,7 +246,8 @@ pub fn declarations(entries: &[Entry]) -> usize {
 
 /// A query's listing.
 pub fn listing(gym: &Gym, query: Query) -> Vec<u8> {
-    let entries = Graph::of(gym).entries(query.start as usize, query.name);
+    let sought = name_of(query.name);
+    let entries = Graph::of(gym).entries(query.start as usize, &sought);
     let found = match declarations(&entries) {
         0 => "none",
         1 => "one",
@@ -245,17 +258,14 @@ pub fn listing(gym: &Gym, query: Query) -> Vec<u8> {
         Some((scope, 0)) => format!("{scope}$"),
         Some((scope, e)) => format!("{scope}{}", gym.labels[e as usize - 1] as char),
     };
-    let name: String = query
-        .name
-        .to_be_bytes()
-        .iter()
-        .filter(|&&b| b != 0)
-        .map(|&b| b as char)
-        .collect();
-    let mut out = format!(
-        "start seek found awaits\n{} {name} {found} {awaits}\nmark path\n",
-        query.start
-    );
+    let (start, (kind, text)) = (query.start, sought);
+    let mut out = match gym.form {
+        Form::Old => format!("start seek found awaits\n{start} {text} {found} {awaits}\n"),
+        Form::Kinds => {
+            format!("start kind seek found awaits\n{start} {kind} {text} {found} {awaits}\n")
+        }
+    };
+    out += "mark path\n";
     for (path, mark) in entries {
         out += &format!("{mark} {}", path.start);
         for (label, scope) in path.steps {

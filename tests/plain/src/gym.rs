@@ -2,6 +2,7 @@
 //!
 //! A row is five cells, the same as in the graph table: a name takes two, an end is 0 for `$` and
 //! n + 1 for label number n. Text and table give rows to one `Admission`, which tests 5, 3 and 4.
+//! Both forms of file have the same cells: in the old one, which shows no kinds, each kind is `v`.
 
 pub type Refusal = u8;
 pub type Row = [u64; 5];
@@ -17,6 +18,7 @@ enum Field {
     State,
     Count,
     Scope,
+    Kind,
     Name,
     Mark,
 }
@@ -29,7 +31,7 @@ struct Section {
     key: usize,
 }
 
-use Field::*;
+use Field::{Count, End, Label, Letter, Mark, Scope, State};
 
 const SECTIONS: [Section; 9] = [
     Section {
@@ -71,8 +73,8 @@ const SECTIONS: [Section; 9] = [
     Section {
         title: "at name mark",
         limit: 512,
-        fields: &[Scope, Name, Mark],
-        key: 4,
+        fields: &[Scope, Field::Kind, Field::Name, Mark],
+        key: 5,
     },
     Section {
         title: "at open",
@@ -83,7 +85,7 @@ const SECTIONS: [Section; 9] = [
     Section {
         title: "start seek",
         limit: 256,
-        fields: &[Scope, Name],
+        fields: &[Scope, Field::Kind, Field::Name],
         key: 0,
     },
 ];
@@ -91,7 +93,27 @@ const SECTIONS: [Section; 9] = [
 const LABELS: usize = 0;
 const ORDER: usize = 1;
 const SCOPES: usize = 4;
+const DECLARATIONS: usize = 6;
 const QUERIES: usize = 8;
+
+/// A file's form, by its number in the graph table.
+#[derive(Clone, Copy, Debug, Default, PartialEq, Eq)]
+pub enum Form {
+    #[default]
+    Old = 0,
+    Kinds = 1,
+}
+
+/// The kind that a file of the old form does not show.
+pub const USUAL: u8 = b'v';
+
+fn title(form: Form, section: usize) -> &'static [u8] {
+    match (form, section) {
+        (Form::Kinds, DECLARATIONS) => b"at kind name mark",
+        (Form::Kinds, QUERIES) => b"start kind seek",
+        _ => SECTIONS[section].title.as_bytes(),
+    }
+}
 
 /// A label number that no file lists.
 const UNLISTED: u64 = 1000;
@@ -103,17 +125,24 @@ pub struct Edge {
     pub to: u8,
 }
 
+/// What the rules call a name: a kind and a name. They sort in this order.
+#[derive(Clone, Copy, Debug, PartialEq, Eq, PartialOrd, Ord)]
+pub struct Name {
+    pub kind: u8,
+    pub text: u128,
+}
+
 #[derive(Clone, Copy, Debug, PartialEq, Eq)]
 pub struct Declaration {
     pub at: u8,
-    pub name: u128,
+    pub name: Name,
     pub mark: u16,
 }
 
 #[derive(Clone, Copy, Debug, PartialEq, Eq)]
 pub struct Query {
     pub start: u8,
-    pub name: u128,
+    pub name: Name,
 }
 
 #[derive(Clone, Copy, Debug, PartialEq, Eq)]
@@ -126,6 +155,7 @@ pub struct Transition {
 /// An accepted graph. Pairs and open rows hold ends: 0 is `$`, n + 1 is label number n.
 #[derive(Clone, Debug, Default, PartialEq, Eq)]
 pub struct Gym {
+    pub form: Form,
     pub labels: Vec<u8>,
     pub order: Vec<(u8, u8)>,
     pub transitions: Vec<Transition>,
@@ -140,6 +170,7 @@ pub struct Gym {
 /// What the rows so far allow the next one to be.
 #[derive(Default)]
 struct Admission {
+    form: Form,
     section: usize,
     rows: usize,
     last: Row,
@@ -161,7 +192,7 @@ impl Admission {
 
     fn in_range(&self, field: Field, cell: u64) -> bool {
         match field {
-            Letter | Name => true,
+            Letter | Field::Kind | Field::Name => true,
             End => cell <= self.labels.len() as u64,
             Label => cell < self.labels.len() as u64,
             State => cell < 16,
@@ -181,7 +212,7 @@ impl Admission {
             if !self.in_range(field, row[cell]) {
                 return Err(3);
             }
-            cell += if field == Name { 2 } else { 1 };
+            cell += if field == Field::Name { 2 } else { 1 };
         }
         match self.section {
             LABELS => {
@@ -282,6 +313,11 @@ fn row_of_line(admission: &Admission, line: &[u8]) -> Option<Row> {
     let mut row = [0; 5];
     let (mut at, mut cell) = (0, 0);
     for (i, &field) in SECTIONS[admission.section].fields.iter().enumerate() {
+        if field == Field::Kind && admission.form == Form::Old {
+            row[cell] = u64::from(USUAL);
+            cell += 1;
+            continue;
+        }
         if i > 0 {
             if line.get(at) != Some(&b' ') {
                 return None;
@@ -301,7 +337,15 @@ fn row_of_line(admission: &Admission, line: &[u8]) -> Option<Row> {
                 };
                 at += 1;
             }
-            Name => {
+            Field::Kind => {
+                let byte = *rest.first()?;
+                if !byte.is_ascii_lowercase() {
+                    return None;
+                }
+                row[cell] = u64::from(byte);
+                at += 1;
+            }
+            Field::Name => {
                 let len = name_length(rest)?;
                 let packed = pack(&rest[..len]);
                 row[cell] = (packed >> 64) as u64;
@@ -324,8 +368,8 @@ fn row_of_line(admission: &Admission, line: &[u8]) -> Option<Row> {
     }
 }
 
-/// Reads a text, handing each admitted row with its section to `take`.
-fn read_rows(text: &[u8], mut take: impl FnMut(usize, &Row)) -> Result<(), Refusal> {
+/// Reads a text, handing each admitted row with its section to `take`; answers its form.
+fn read_rows(text: &[u8], mut take: impl FnMut(usize, &Row)) -> Result<Form, Refusal> {
     if text.len() > LONGEST {
         return Err(1);
     }
@@ -338,9 +382,14 @@ fn read_rows(text: &[u8], mut take: impl FnMut(usize, &Row)) -> Result<(), Refus
     // What follows the last LF is no line and must be empty.
     for following in lines {
         if line.first().is_some_and(|b| b.is_ascii_lowercase()) {
-            if !admission.leave()
-                || SECTIONS.get(admission.section).map(|s| s.title.as_bytes()) != Some(line)
-            {
+            if admission.section == QUERIES || !admission.leave() {
+                return Err(2);
+            }
+            // The declarations' names line is the first that differs from form to form.
+            if admission.section == DECLARATIONS && line == title(Form::Kinds, DECLARATIONS) {
+                admission.form = Form::Kinds;
+            }
+            if line != title(admission.form, admission.section) {
                 return Err(2);
             }
         } else {
@@ -354,7 +403,7 @@ fn read_rows(text: &[u8], mut take: impl FnMut(usize, &Row)) -> Result<(), Refus
         return Err(2);
     }
     if admission.order_is_strict() {
-        Ok(())
+        Ok(admission.form)
     } else {
         Err(6)
     }
@@ -363,13 +412,16 @@ fn read_rows(text: &[u8], mut take: impl FnMut(usize, &Row)) -> Result<(), Refus
 impl Gym {
     pub fn parse(text: &[u8]) -> Result<Gym, Refusal> {
         let mut gym = Gym::default();
-        read_rows(text, |section, row| gym.push(section, row))?;
+        gym.form = read_rows(text, |section, row| gym.push(section, row))?;
         Ok(gym)
     }
 
     fn push(&mut self, section: usize, row: &Row) {
-        let name = |high: u64, low: u64| u128::from(high) << 64 | u128::from(low);
         let small = |cell: usize| row[cell] as u8;
+        let name = || Name {
+            kind: small(1),
+            text: u128::from(row[2]) << 64 | u128::from(row[3]),
+        };
         match section {
             0 => self.labels.push(small(0)),
             1 => self.order.push((small(0), small(1))),
@@ -387,13 +439,13 @@ impl Gym {
             }),
             6 => self.declarations.push(Declaration {
                 at: small(0),
-                name: name(row[1], row[2]),
-                mark: row[3] as u16,
+                name: name(),
+                mark: row[4] as u16,
             }),
             7 => self.open.push((small(0), small(1))),
             _ => self.queries.push(Query {
                 start: small(0),
-                name: name(row[1], row[2]),
+                name: name(),
             }),
         }
     }
@@ -402,24 +454,27 @@ impl Gym {
 /// Reads a text into a graph table; answers the cells written.
 pub fn read(text: &[u8], table: &mut [u64]) -> Result<usize, Refusal> {
     let mut cells = vec![0];
-    read_rows(text, |section, row| {
+    let form = read_rows(text, |section, row| {
         cells.push(section as u64);
         cells.extend_from_slice(row);
     })?;
+    cells[0] = form as u64;
     let lent = table.get_mut(..cells.len()).ok_or(9)?;
     lent.copy_from_slice(&cells);
     Ok(cells.len())
 }
 
 /// Whether a table's row could be written: numbers of five digits, letters, names, unused cells 0.
-fn has_form(section: usize, row: &Row) -> bool {
+fn has_form(form: Form, section: usize, row: &Row) -> bool {
     let mut cell = 0;
     for &field in SECTIONS[section].fields {
         let good = match field {
             Letter => (65..=90).contains(&row[cell]),
             Label | End => true,
             State | Count | Scope | Mark => row[cell] <= 99_999,
-            Name => {
+            Field::Kind if form == Form::Old => row[cell] == u64::from(USUAL),
+            Field::Kind => (97..=122).contains(&row[cell]),
+            Field::Name => {
                 cell += 1;
                 unpack(u128::from(row[cell - 1]) << 64 | u128::from(row[cell])).is_some()
             }
@@ -462,18 +517,22 @@ pub fn push_end(out: &mut Vec<u8>, labels: &[u8], end: u64) {
 }
 
 /// Writes an admitted row's line.
-fn push_line(out: &mut Vec<u8>, section: usize, row: &Row, labels: &[u8]) {
+fn push_line(out: &mut Vec<u8>, form: Form, section: usize, row: &Row, labels: &[u8]) {
     let mut cell = 0;
     for (i, &field) in SECTIONS[section].fields.iter().enumerate() {
+        if field == Field::Kind && form == Form::Old {
+            cell += 1;
+            continue;
+        }
         if i > 0 {
             out.push(b' ');
         }
         match field {
-            Letter => out.push(row[cell] as u8),
+            Letter | Field::Kind => out.push(row[cell] as u8),
             Label => out.push(labels[row[cell] as usize]),
             End => push_end(out, labels, row[cell]),
             State | Count | Scope | Mark => push_number(out, row[cell]),
-            Name => {
+            Field::Name => {
                 cell += 1;
                 push_name(out, u128::from(row[cell - 1]) << 64 | u128::from(row[cell]));
             }
@@ -483,20 +542,24 @@ fn push_line(out: &mut Vec<u8>, section: usize, row: &Row, labels: &[u8]) {
     out.push(b'\n');
 }
 
-fn push_title(out: &mut Vec<u8>, section: usize) {
-    out.extend_from_slice(SECTIONS[section].title.as_bytes());
+fn push_title(out: &mut Vec<u8>, form: Form, section: usize) {
+    out.extend_from_slice(title(form, section));
     out.push(b'\n');
 }
 
 /// Writes a graph table's text; answers the bytes written.
 pub fn write(table: &[u64], out: &mut [u8]) -> Result<usize, Refusal> {
     let (&form, rows) = table.split_first().ok_or(2)?;
-    if form != 0 {
-        return Err(2);
-    }
-    let mut admission = Admission::default();
+    let form = [Form::Old, Form::Kinds]
+        .into_iter()
+        .find(|&f| f as u64 == form)
+        .ok_or(2)?;
+    let mut admission = Admission {
+        form,
+        ..Admission::default()
+    };
     let mut text = Vec::new();
-    push_title(&mut text, 0);
+    push_title(&mut text, form, 0);
     for cells in rows.chunks(6) {
         let section = cells[0];
         if section < admission.section as u64 || section > QUERIES as u64 {
@@ -506,20 +569,20 @@ pub fn write(table: &[u64], out: &mut [u8]) -> Result<usize, Refusal> {
             if !admission.leave() {
                 return Err(2);
             }
-            push_title(&mut text, admission.section);
+            push_title(&mut text, form, admission.section);
         }
         let row: Row = cells[1..].try_into().map_err(|_| 2)?;
-        if !has_form(admission.section, &row) {
+        if !has_form(form, admission.section, &row) {
             return Err(2);
         }
         admission.admit(&row)?;
-        push_line(&mut text, admission.section, &row, &admission.labels);
+        push_line(&mut text, form, admission.section, &row, &admission.labels);
     }
     while admission.section < QUERIES {
         if !admission.leave() {
             return Err(2);
         }
-        push_title(&mut text, admission.section);
+        push_title(&mut text, form, admission.section);
     }
     if !admission.order_is_strict() {
         return Err(6);
@@ -546,9 +609,7 @@ pub fn name_sought(text: &[u8], query: usize) -> &[u8] {
         .rsplit(|&b| b == b'\n')
         .nth(queries - 1 - query)
         .unwrap_or(&[]);
-    let space = line
-        .iter()
-        .position(|&b| b == b' ')
-        .map_or(line.len(), |i| i + 1);
+    // The name is its last field.
+    let space = line.iter().rposition(|&b| b == b' ').map_or(0, |i| i + 1);
     &line[space..]
 }

@@ -1,5 +1,5 @@
-//! A plain Rust implementation of document 01, written apart from the proved one, to measure and
-//! to test that one against. Nothing here is proved.
+//! A plain Rust implementation of documents 01 and 02, as far as they are met, written apart from
+//! the proved one, to measure and to test that one against. Nothing here is proved.
 
 pub mod answers;
 pub mod enumerate;

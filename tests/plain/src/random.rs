@@ -1,4 +1,5 @@
-//! Random gyms, path rows, and damage to them. The same seed gives the same inputs everywhere.
+//! Random gyms in both forms of file, path rows, and damage to them. The same seed gives the same
+//! inputs everywhere.
 
 pub struct Rng(u64);
 
@@ -64,6 +65,7 @@ pub const MIDDLE: Size = Size {
 
 /// Ascending, and one a beginning of the other.
 const NAMES: [&str; 2] = ["service", "service_2"];
+const KINDS: [&str; 3] = ["c", "l", "v"];
 const MARKS: [usize; 6] = [0, 1, 2, 10, 99, 65_535];
 
 /// Up to `most` different numbers below `all`, ascending.
@@ -104,6 +106,23 @@ fn order(rng: &mut Rng, ends: usize) -> Vec<(usize, usize)> {
     }
     pairs.sort();
     pairs
+}
+
+/// The names that a file's rows take, ascending, as they stand in a row: in half of the files with
+/// kinds, up to three of them, drawn.
+fn names(rng: &mut Rng) -> (bool, Vec<String>) {
+    if rng.below(2) == 0 {
+        return (false, NAMES.map(String::from).to_vec());
+    }
+    let kinds = &KINDS[rng.below(KINDS.len())..];
+    let names = &NAMES[rng.below(NAMES.len())..];
+    let each = |kind: &&str| {
+        names
+            .iter()
+            .map(move |name| format!("{kind} {name}"))
+            .collect::<Vec<_>>()
+    };
+    (true, kinds.iter().flat_map(each).collect())
 }
 
 /// A gym file's text that is accepted.
@@ -152,13 +171,18 @@ pub fn gym(rng: &mut Rng, size: Size) -> Vec<u8> {
         );
         text += &format!("{from} {} {to}\n", letters[label]);
     }
-    text += "at name mark\n";
-    let each = NAMES.len() * MARKS.len();
+    let (kinds, names) = names(rng);
+    text += if kinds {
+        "at kind name mark\n"
+    } else {
+        "at name mark\n"
+    };
+    let each = names.len() * MARKS.len();
     for decl in subset(rng, scopes * each, size.declarations) {
         let (at, rest) = (decl / each, decl % each);
         text += &format!(
             "{at} {} {}\n",
-            NAMES[rest / MARKS.len()],
+            names[rest / MARKS.len()],
             MARKS[rest % MARKS.len()]
         );
     }
@@ -166,15 +190,19 @@ pub fn gym(rng: &mut Rng, size: Size) -> Vec<u8> {
     for open in subset(rng, scopes * (labels + 1), size.open) {
         text += &format!("{} {}\n", open / (labels + 1), end(open % (labels + 1)));
     }
-    text += "start seek\n";
+    text += if kinds {
+        "start kind seek\n"
+    } else {
+        "start seek\n"
+    };
     for _ in 0..rng.below(size.queries + 1) {
-        text += &format!("{} {}\n", rng.below(scopes), rng.pick(&NAMES));
+        text += &format!("{} {}\n", rng.below(scopes), rng.pick(&names));
     }
     text.into_bytes()
 }
 
-const BYTES: &[u8] = b"0123456789 \n\n$ABIPZ[@abz_`{-/:+\x00\x7f\x80\xff";
-const PIECES: [&str; 26] = [
+const BYTES: &[u8] = b"0123456789 \n\n$ABIPZ[@abcvz_`{-/:+\x00\x7f\x80\xff";
+const PIECES: [&str; 33] = [
     "0",
     "1",
     "15",
@@ -201,6 +229,13 @@ const PIECES: [&str; 26] = [
     "\n",
     "accept",
     "start seek",
+    "start kind seek",
+    "at name mark",
+    "at kind name mark",
+    "kind ",
+    "c",
+    "v ",
+    "V",
 ];
 
 /// One to three small faults in a text; it may still be accepted.
@@ -239,7 +274,8 @@ fn damage_once(rng: &mut Rng, text: &mut Vec<u8>) {
             }
         }
         _ => {
-            // Lines are dropped, doubled, swapped or moved; the row limits are met by doubling many times.
+            // Lines are dropped, doubled, swapped or moved; the row limits are met by doubling many
+            // times.
             let mut lines: Vec<Vec<u8>> = text
                 .split_inclusive(|&b| b == b'\n')
                 .map(<[u8]>::to_vec)
@@ -332,6 +368,12 @@ pub fn damaged_table(rng: &mut Rng, cells: &[u64]) -> Vec<u64> {
             65,
             90,
             91,
+            96,
+            97,
+            99,
+            118,
+            122,
+            123,
             99_999,
             100_000,
             1 << 32,

@@ -1,7 +1,7 @@
 //! The search. From a query's start the simple paths form a tree; a node is a path, its last scope
 //! and the automaton's state there. Sets of scopes are bits of a `u64`, sets of ends of a `u16`.
 
-use crate::gym::{Edge, Gym, STOP};
+use crate::gym::{Edge, Gym, Name, STOP};
 
 const NONE: u8 = 255;
 
@@ -81,7 +81,8 @@ impl<'a> Rules<'a> {
         self.accepting >> state & 1 == 1
     }
 
-    /// The states in which a path may still be continued by an end, to be reached in some completion.
+    /// The states in which a path may still be continued by an end, to be reached in some
+    /// completion.
     fn usable(&self, end: u8) -> u16 {
         if end == STOP {
             return self.accepting;
@@ -106,14 +107,14 @@ pub enum Go {
 pub struct Search<'a> {
     rules: &'a Rules<'a>,
     pub start: u8,
-    name: u128,
+    name: Name,
     declaring: u64,
     /// Places from which a walk reaches the name.
     live: Places,
 }
 
 impl<'a> Search<'a> {
-    pub fn new(rules: &'a Rules<'a>, start: u8, name: u128) -> Search<'a> {
+    pub fn new(rules: &'a Rules<'a>, start: u8, name: Name) -> Search<'a> {
         let mut declaring = 0;
         for d in &rules.gym.declarations {
             if d.name == name {

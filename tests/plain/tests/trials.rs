@@ -1,4 +1,5 @@
-//! Document 01's trials, marked and unmarked, on the plain implementation.
+//! Document 01's trials, marked and unmarked, and those of document 02's requests, on the plain
+//! implementation.
 
 use plain::answers::{self, Standing};
 use plain::gym;
@@ -28,7 +29,8 @@ fn listed(text: &str, query: usize) -> String {
     let mut out = [0; 1000];
     let len = answers::listing(text.as_bytes(), query, &mut out).unwrap();
     let text = String::from_utf8(out[..len].to_vec()).unwrap();
-    let rest = text.strip_prefix("start seek found awaits\n").unwrap();
+    let (names, rest) = text.split_once('\n').unwrap();
+    assert!(["start seek found awaits", "start kind seek found awaits"].contains(&names));
     rest.trim_end()
         .replace("\nmark path", "")
         .replace('\n', " / ")
@@ -114,6 +116,88 @@ fn routes() {
     ] {
         let due = format!("refused 9\nqueries one several none share\n{due}\n");
         assert_eq!(printed(&ladder(30, declared)), due);
+    }
+}
+
+/// Counters and limits (02, K8): the wall has one name in both kinds, lane 2 and its profile have
+/// limits alone.
+fn two_kinds() -> String {
+    let (above, _) = EXAMPLE.split_once("at name mark").unwrap();
+    let rest = "at kind name mark / 0 c hours 5 / 0 l hours 6 / 1 c service 10 / 1 l service 11 / 2 l service 21 / 4 l hours 40 / \
+        at open / 3 $ / start kind seek / 2 c service / 2 l service / 3 v service / 2 c hours / 2 l hours / ";
+    lines(&format!("{above}{rest}"))
+}
+
+#[test]
+fn kinds() {
+    let text = two_kinds();
+    for (query, due) in [
+        "2 c service one - / 10 2P1",
+        "2 l service one - / 21 2",
+        "3 v service none 3$",
+        "2 c hours one - / 5 2P1P0",
+        "2 l hours one - / 40 2I4",
+    ]
+    .into_iter()
+    .enumerate()
+    {
+        assert_eq!(listed(&text, query), due);
+    }
+    assert!(printed(&text).starts_with("start kind seek found awaits\n"));
+    assert!(printed(&text).ends_with("5 4 0 1 80\n"));
+    assert_eq!(judged(&text, 0, "10 2P1"), Ok(Standing::Visible));
+    assert_eq!(judged(&text, 0, "11 2P1"), Ok(Standing::Unreached));
+    assert_eq!(judged(&text, 1, "11 2P1"), Ok(Standing::Shadowed));
+    assert_eq!(gym::name_sought(text.as_bytes(), 3), b"hours");
+}
+
+#[test]
+fn forms() {
+    let text = two_kinds();
+    let refused = |text: &str| gym::read(text.as_bytes(), &mut [0; 1000]).err();
+    assert_eq!(refused(&text), None);
+    let with = |old: &str, new: &str| {
+        assert_eq!(text.matches(old).count(), 1, "{old}");
+        refused(&text.replace(old, new))
+    };
+    assert_eq!(with("at kind name mark", "at name mark"), Some(2));
+    assert_eq!(with("start kind seek", "start seek"), Some(2));
+    assert_eq!(
+        refused(&example("at name mark", "at kind name mark")),
+        Some(2)
+    );
+    assert_eq!(refused(&example("start seek", "start kind seek")), Some(2));
+    // a fault between the two names lines comes first
+    let between = text
+        .replace("start kind seek", "start seek")
+        .replace("3 $\n", "5 $\n");
+    assert_eq!(refused(&between), Some(3));
+    for kind in ["C", "{", "", "cc", "1", " "] {
+        assert_eq!(
+            with("1 c service", &format!("1 {kind} service")),
+            Some(2),
+            "{kind}"
+        );
+    }
+    assert_eq!(
+        with("0 c hours 5\n0 l hours 6", "0 l hours 6\n0 c hours 5"),
+        Some(4)
+    );
+    assert_eq!(with("0 c hours 5\n0 l hours 6", "0 c z 5\n0 l a 6"), None);
+    assert_eq!(
+        with("0 c hours 5\n0 l hours 6", "0 c hours 5\n0 c hours 5"),
+        Some(4)
+    );
+
+    let mut cells = [0; 1000];
+    let mut out = [0; 1000];
+    let n = gym::read(text.as_bytes(), &mut cells).unwrap();
+    assert_eq!(cells[0], 1);
+    let m = gym::write(&cells[..n], &mut out).unwrap();
+    assert_eq!(out[..m], *text.as_bytes());
+    for form in [0, 2, 3, u64::MAX] {
+        cells[0] = form;
+        assert_eq!(gym::write(&cells[..n], &mut out), Err(2));
     }
 }
 

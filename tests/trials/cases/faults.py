@@ -1,14 +1,16 @@
 """What is wrong in a field, in a row, in a section: the faults that the cases are made from."""
 from cases.case_file import bytes_of
 from cases.gyms import SMALLEST, at_section, changed, largest
-from reference.gym_file import ACCEPT, DECLARED, EDGE, END, LABEL, LETTER, NAME, NUMBER, OPEN, ORDER, QUERY, SCOPES, STEP
+from reference.gym_file import ACCEPT, DECLARED, EDGE, END, KIND, KINDS, LABEL, LETTER, NAME, NUMBER, OPEN, ORDER, QUERY, SCOPES, STEP
 
 # What a field's text may not be (2), and what is of its form and out of its range (3).
 BAD_NUMBER = ["", "00", "05", "000001", "100000", "99999999999999999999", "-1", "+1", "1a", "x", "/", ":", "1.", "\x80", "\0"]
 BAD_LETTER = ["", "a", "@", "[", "PI", "1", "#", "%", "\xd0"]
 BAD_NAME = ["", "H", "9x", "_x", "hoUrs", "ho-rs", "seventeen_letters", "h`", "h{", "h/", "h:", "h^", "\xe9t", "h\xe9", "h\0", "$"]
-BAD = {NUMBER: BAD_NUMBER, LETTER: BAD_LETTER + ["$"], END: BAD_LETTER + ["$$"], NAME: BAD_NAME}
+BAD_KIND = ["", "A", "V", "Z", "`", "{", "vv", "cv", "v1", "1", "0", "_", " ", "$", "-", "vc v", "\0", "\x80", "\xf6"]
+BAD = {NUMBER: BAD_NUMBER, LETTER: BAD_LETTER + ["$"], END: BAD_LETTER + ["$$"], NAME: BAD_NAME, KIND: BAD_KIND}
 
+# by section and field of the old form
 OUT = {
     (ORDER, 0): ["Z"], (ORDER, 1): ["Z"],
     (STEP, 0): ["16", "99", "99999"], (STEP, 1): ["Z", "A"], (STEP, 2): ["16", "99999"],
@@ -19,6 +21,13 @@ OUT = {
     (OPEN, 0): ["5", "99999"], (OPEN, 1): ["Z"],
     (QUERY, 0): ["5", "64", "99999"],
 }  # fmt: skip
+
+
+def out_of_range(f, k, i):
+    """The same by a field of this form of file: no kind is out of range, and the fields behind it stand one further on."""
+    if f.number == KINDS and k in (DECLARED, QUERY) and i > 0:
+        return OUT.get((k, i - 1), []) if i > 1 else []
+    return OUT.get((k, i), [])
 
 
 def shown(s):

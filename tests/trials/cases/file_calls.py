@@ -85,8 +85,9 @@ def row(*values):
     return list(values) + [0] * (6 - len(values))
 
 
-def name_cells(s):
-    return packed(bytes_of(s))
+def name_cells(s, kind="v"):
+    """A kind and a name as cells."""
+    return [ord(kind)] + packed(bytes_of(s))
 
 
 def raw_cells(s):

@@ -1,6 +1,7 @@
-"""The gyms that the cases are made from: document 01's example with sections put in place, the smallest, the largest, one of a usual size, random ones."""
+"""The gyms that the cases are made from: document 01's example with sections put in place, the smallest, the largest, one of a usual size, random ones; and
+the two forms of file that they are put into."""
 from cases.case_file import bytes_of
-from reference.gym_file import NAMES
+from reference.gym_file import DECLARED, FIELDS_OF, KINDS, NAMES, NAMES_OF, OLD, OPEN, QUERY
 
 
 def text_of(g, names=NAMES):
@@ -57,16 +58,66 @@ def largest():
     return graph(list(letters), pairs, steps, [str(s) for s in range(16)], ["64"], edges, declared, opens, queries)
 
 
-def last_row(k):
-    return EXAMPLE[k][-1].decode("latin-1")
+def kinded(k, row, kind="v"):
+    """A row of the old form in the form with kinds."""
+    return bytes_of(row).replace(b" ", b" %s " % bytes_of(kind), 1) if k in (DECLARED, QUERY) else bytes_of(row)
 
 
-def with_last(k, row):
-    return text_of(at_section(EXAMPLE, k, EXAMPLE[k][:-1] + [row]))
+def kinds_text(g):
+    """The text of a graph whose rows have kinds."""
+    return text_of(g, NAMES_OF[KINDS])
 
 
-def with_more(k, *rows):
-    return text_of(at_section(EXAMPLE, k, EXAMPLE[k] + list(rows)))
+class Form:
+    """A form of file. Gyms are written down in the old form's rows; here they are put into this one, where it has kinds with the kind `v`.
+
+    `title` tells its cases from those of the other form. `sections` are those whose own rows and lines are tried: all in the old form, and in the form with
+    kinds the ones that come after the line that says the form."""
+
+    def __init__(self, number, title, sections):
+        self.number, self.title, self.sections = number, title, sections
+        self.names, self.fields = NAMES_OF[number], FIELDS_OF[number]
+
+    def titled(self, call):
+        """A call of a case that has this form's title before its own."""
+        return lambda title, *given, **named: call(self.title + title, *given, **named)
+
+    def row(self, k, row):
+        return kinded(k, row) if self.number == KINDS else bytes_of(row)
+
+    def graph(self, g):
+        return [[self.row(k, row) for row in rows] for k, rows in enumerate(g)]
+
+    def text(self, g):
+        return text_of(self.graph(g), self.names)
+
+    def due(self, out):
+        """A listing of the old form, or the line of its values, as this form has it. Of no output but a listing's is the form to be seen."""
+        if self.number == OLD or not isinstance(out, (str, bytes)):
+            return out
+        names, *lines = bytes_of(out).split(b"\n")
+        if not lines:
+            return kinded(QUERY, names)
+        return b"\n".join([names.replace(b"seek", b"kind seek"), kinded(QUERY, lines[0])] + lines[1:])
+
+    def kinds(self, dice):
+        """The kinds that a random gym draws from."""
+        return "" if self.number == OLD else dice.pick(["c", "cv", "cv", "alz"])
+
+    def last_row(self, k):
+        return self.row(k, EXAMPLE[k][-1]).decode("latin-1")
+
+    def with_last(self, k, row):
+        """The example with another last row in a section, which is of this very form."""
+        example = self.graph(EXAMPLE)
+        return text_of(at_section(example, k, example[k][:-1] + [row]), self.names)
+
+    def with_more(self, k, *rows):
+        example = self.graph(EXAMPLE)
+        return text_of(at_section(example, k, example[k] + list(rows)), self.names)
+
+
+FORMS = [Form(OLD, "", range(9)), Form(KINDS, "with kinds: ", (DECLARED, OPEN, QUERY))]
 
 
 def with_rows(k, *rows):
@@ -76,16 +127,16 @@ def with_rows(k, *rows):
     return changed(EXAMPLE, **{"s%d" % k: new})
 
 
-def refused_files():
+def refused_files(f=FORMS[OLD]):
     """For each refusal of a file a text that meets it."""
-    text = text_of(EXAMPLE)
+    text = f.text(EXAMPLE)
     return {
-        1: text + b"2 hours\n" * 4096,
+        1: text + (f.row(QUERY, "2 hours") + b"\n") * 4096,
         2: text[:-1],
-        3: text_of(changed(EXAMPLE, s3=["16"])),
-        4: text_of(changed(EXAMPLE, s0=["I", "I"])),
-        5: text_of(changed(EXAMPLE, s4=["5", "5"])),
-        6: text_of(changed(EXAMPLE, s1=["I I"])),
+        3: f.text(changed(EXAMPLE, s3=["16"])),
+        4: f.text(changed(EXAMPLE, s0=["I", "I"])),
+        5: f.text(changed(EXAMPLE, s4=["5", "5"])),
+        6: f.text(changed(EXAMPLE, s1=["I I"])),
     }
 
 
@@ -100,7 +151,7 @@ def realistic():
     declared.sort()
     opens = ["0 $", "2 I", "6 $", "9 I", "17 P", "22 $", "24 $", "24 I"]
     queries = ["%d %s" % (l, n) for l in lanes for n in ("service", "hours", "limit", "cable", "belay")]
-    return text_of(changed(EXAMPLE, s4=["27"], s5=["%d %s %d" % e for e in edges], s6=["%d %s %d" % d for d in declared], s7=opens, s8=queries))
+    return changed(EXAMPLE, s4=["27"], s5=["%d %s %d" % e for e in edges], s6=["%d %s %d" % d for d in declared], s7=opens, s8=queries)
 
 
 def closed(pairs):
@@ -116,7 +167,8 @@ def shuffled(dice, items):
     return [items.pop(dice.below(len(items))) for _ in range(len(items))]
 
 
-def random_gym(dice, scopes, most_edges):
+def random_gym(dice, scopes, most_edges, kinds=""):
+    """A gym of the old form; where kinds are given, one with kinds drawn from them."""
     letters = shuffled(dice, "IPDX")[: 1 + dice.below(4)]
     ends = ["$"] + letters
     rank = shuffled(dice, ends)
@@ -127,11 +179,12 @@ def random_gym(dice, scopes, most_edges):
     accept = [str(s) for s in states if dice.below(4)]
     edges = {(dice.below(scopes), dice.below(len(letters)), dice.below(scopes)) for _ in range(scopes // 2 + dice.below(most_edges))}
     names = ["a", "ab"][: 1 + dice.below(2)]
-    declared = {(dice.below(scopes), dice.pick(names), dice.pick([0, 7, 10, 65535])) for _ in range(2 + dice.below(2 * scopes))}
+    name = lambda: "%s %s" % (dice.pick(kinds), dice.pick(names)) if kinds else dice.pick(names)
+    declared = {(dice.below(scopes), name(), dice.pick([0, 7, 10, 65535])) for _ in range(2 + dice.below(2 * scopes))}
     thick = dice.below(5)
     opens = ["%d %s" % (s, e) for s in range(scopes) for e in ends if dice.below(10) < thick]
-    queries = ["%d %s" % (dice.below(scopes), dice.pick(names)) for _ in range(1 + dice.below(4))]
-    return text_of(graph(
+    queries = ["%d %s" % (dice.below(scopes), name()) for _ in range(1 + dice.below(4))]
+    return (kinds_text if kinds else text_of)(graph(
         letters,
         ["%s %s" % (a, b) for a in ends for b in ends if (a, b) in pairs],
         steps,

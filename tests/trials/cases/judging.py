@@ -1,14 +1,14 @@
-"""Cases of path rows that are judged for a query."""
+"""Cases of path rows that are judged for a query, in both forms of file."""
 from cases.case_file import Dice, bytes_of, case
 from cases.file_calls import TOP
-from cases.gyms import EXAMPLE, changed, random_gym, refused_files, text_of, with_rows
+from cases.gyms import EXAMPLE, FORMS, changed, random_gym, refused_files, with_rows
 from cases.path_rows import chain
-from reference.gym_file import EDGE, Refused
+from reference.gym_file import EDGE, OLD, Refused
 from reference.judge import judged
 from reference.query import Gym
 
 
-def judge(title, text, query, row, due=None, room=63):
+def judge(f, title, text, query, row, due=None, room=63):
     """A row judged. `due` is the answer that the case is there for: a word, or a refusal's number."""
     row = bytes_of(row)
     try:
@@ -17,14 +17,14 @@ def judge(title, text, query, row, due=None, room=63):
     except Refused as r:
         assert due is None or due == r.number, (title, due, r.number)
         word = b"refused %d" % r.number
-    case(b"j", title, word + b"\n", text, row, number=query, room=room)
+    case(b"j", f.title + title, word + b"\n", text, row, number=query, room=room)
 
 
-def example_cases():
-    text = text_of(EXAMPLE)
-    judge("M10: 10 2P1 for 2 service", text, 0, "10 2P1", "shadowed")
-    judge("M10: 21 2 for 2 service", text, 0, "21 2", "visible")
-    judge("M10: 5 2P1P0 for 2 service", text, 0, "5 2P1P0", "unreached")
+def example_cases(f):
+    text = f.text(EXAMPLE)
+    judge(f, "M10: 10 2P1 for 2 service", text, 0, "10 2P1", "shadowed")
+    judge(f, "M10: 21 2 for 2 service", text, 0, "21 2", "visible")
+    judge(f, "M10: 5 2P1P0 for 2 service", text, 0, "5 2P1P0", "unreached")
     for title, query, row, due in [
         ("the entry of 3 service", 1, "10 3P1", "visible"), ("the entry of 2 hours", 2, "40 2I4", "visible"), ("hours by the site", 2, "5 2P1P0", "shadowed"),
         ("a mark of no declaration", 0, "22 2", "unreached"), ("a mark of another scope", 0, "10 2", "unreached"), ("a mark of another name", 2, "21 2", "unreached"),
@@ -40,49 +40,49 @@ def example_cases():
         ("no mark", 0, " 2", 8), ("a letter without scope", 0, "10 2P", 8), ("byte 0 last", 0, "21 2\0", 8), ("byte 255 last", 0, "21 2\xff", 8),
         ("63 steps", 0, "21 2" + chain(63), "unreached"), ("64 steps", 0, "21 2" + chain(64), 8), ("257 bytes", 0, "21 2" + "P10" * 84 + "P", 8),
     ]:  # fmt: skip
-        judge("judge: " + title, text, query, row, due)
-    ring = text_of(changed(with_rows(EDGE, "0 P 2", "4 P 4"), s8=["0 service", "2 service", "4 hours"]))
-    judge("judge: M9, the entry", ring, 0, "21 0P2", "visible")
-    judge("judge: M9, on along the ring", ring, 0, "10 0P2P1", "shadowed")
-    judge("judge: M9, round the ring", ring, 1, "21 2P1P0P2", "unreached")
-    judge("judge: a self-edge", ring, 2, "40 4P4", "unreached")
-    judge("judge: the scope of a self-edge", ring, 2, "40 4", "visible")
-    every = text_of(changed(EXAMPLE, s1=[]))
-    judge("judge: no order, the shorter", every, 0, "21 2", "visible")
-    judge("judge: no order, the longer", every, 0, "10 2P1", "visible")
-    judge("judge: no accept rows", text_of(changed(EXAMPLE, s3=[])), 0, "21 2", "unreached")
-    judge("judge: accept 1 alone", text_of(changed(EXAMPLE, s3=["1"])), 0, "21 2", "unreached")
-    judge("judge: a transition missing", text_of(changed(EXAMPLE, s2=["0 P 0"])), 2, "40 2I4", "unreached")
-    judge("judge: a transition missing, the path behind it", text_of(changed(EXAMPLE, s2=["0 P 0"])), 2, "5 2P1P0", "visible")
-    judge("judge: open places change nothing", text_of(changed(EXAMPLE, s7=["2 $", "2 I", "2 P"])), 0, "10 2P1", "shadowed")
-    two = text_of(changed(EXAMPLE, s6=["1 service 10", "2 service 21", "2 service 22"]))
-    judge("judge: one of two declarations", two, 0, "22 2", "visible")
-    long = text_of(changed(EXAMPLE, s2=["0 P 0"], s4=["64"], s5=["%d P %d" % (i, i + 1) for i in range(63)], s6=["63 a 7"], s7=[], s8=["0 a"]))
-    judge("judge: 63 steps that are a path", long, 0, "7 0" + chain(63), "visible")
-    judge("judge: 62 of them", long, 0, "7 0" + chain(62), "unreached")
+        judge(f, "judge: " + title, text, query, row, due)
+    ring = f.text(changed(with_rows(EDGE, "0 P 2", "4 P 4"), s8=["0 service", "2 service", "4 hours"]))
+    judge(f, "judge: M9, the entry", ring, 0, "21 0P2", "visible")
+    judge(f, "judge: M9, on along the ring", ring, 0, "10 0P2P1", "shadowed")
+    judge(f, "judge: M9, round the ring", ring, 1, "21 2P1P0P2", "unreached")
+    judge(f, "judge: a self-edge", ring, 2, "40 4P4", "unreached")
+    judge(f, "judge: the scope of a self-edge", ring, 2, "40 4", "visible")
+    every = f.text(changed(EXAMPLE, s1=[]))
+    judge(f, "judge: no order, the shorter", every, 0, "21 2", "visible")
+    judge(f, "judge: no order, the longer", every, 0, "10 2P1", "visible")
+    judge(f, "judge: no accept rows", f.text(changed(EXAMPLE, s3=[])), 0, "21 2", "unreached")
+    judge(f, "judge: accept 1 alone", f.text(changed(EXAMPLE, s3=["1"])), 0, "21 2", "unreached")
+    judge(f, "judge: a transition missing", f.text(changed(EXAMPLE, s2=["0 P 0"])), 2, "40 2I4", "unreached")
+    judge(f, "judge: a transition missing, the path behind it", f.text(changed(EXAMPLE, s2=["0 P 0"])), 2, "5 2P1P0", "visible")
+    judge(f, "judge: open places change nothing", f.text(changed(EXAMPLE, s7=["2 $", "2 I", "2 P"])), 0, "10 2P1", "shadowed")
+    two = f.text(changed(EXAMPLE, s6=["1 service 10", "2 service 21", "2 service 22"]))
+    judge(f, "judge: one of two declarations", two, 0, "22 2", "visible")
+    long = f.text(changed(EXAMPLE, s2=["0 P 0"], s4=["64"], s5=["%d P %d" % (i, i + 1) for i in range(63)], s6=["63 a 7"], s7=[], s8=["0 a"]))
+    judge(f, "judge: 63 steps that are a path", long, 0, "7 0" + chain(63), "visible")
+    judge(f, "judge: 62 of them", long, 0, "7 0" + chain(62), "unreached")
 
 
-def refusal_cases():
-    text = text_of(EXAMPLE)
+def refusal_cases(f):
+    text = f.text(EXAMPLE)
     for n in (0, 1, 2, 3, 63, 64, 98304):
-        judge("judge: %d records, no step" % n, text, 0, "21 2", "visible", n)
-        judge("judge: %d records, one step" % n, text, 2, "40 2I4", 9 if n < 1 else "visible", n)
-        judge("judge: %d records, two steps" % n, text, 2, "5 2P1P0", 9 if n < 2 else "shadowed", n)
-        judge("judge: %d records, 63 steps" % n, text, 2, "5 2" + chain(63), 9 if n < 63 else "unreached", n)
-        judge("judge: %d records, malformed" % n, text, 2, "5 2p1", 8, n)
-        judge("judge: %d records, another start" % n, text, 2, "10 3P1", 9 if n < 1 else "unreached", n)
-    for k, t in refused_files().items():
-        judge("judge: file refused %d" % k, t, 0, "21 2", k)
-        judge("judge: file refused %d, query past the last" % k, t, 99, "21 2", k)
-        judge("judge: file refused %d, row malformed" % k, t, 0, "x", k)
-        judge("judge: file refused %d, no records" % k, t, 0, "40 2I4", k, 0)
-        judge("judge: file refused %d, all at once" % k, t, 99, "x", k, 0)
+        judge(f, "judge: %d records, no step" % n, text, 0, "21 2", "visible", n)
+        judge(f, "judge: %d records, one step" % n, text, 2, "40 2I4", 9 if n < 1 else "visible", n)
+        judge(f, "judge: %d records, two steps" % n, text, 2, "5 2P1P0", 9 if n < 2 else "shadowed", n)
+        judge(f, "judge: %d records, 63 steps" % n, text, 2, "5 2" + chain(63), 9 if n < 63 else "unreached", n)
+        judge(f, "judge: %d records, malformed" % n, text, 2, "5 2p1", 8, n)
+        judge(f, "judge: %d records, another start" % n, text, 2, "10 3P1", 9 if n < 1 else "unreached", n)
+    for k, t in refused_files(f).items():
+        judge(f, "judge: file refused %d" % k, t, 0, "21 2", k)
+        judge(f, "judge: file refused %d, query past the last" % k, t, 99, "21 2", k)
+        judge(f, "judge: file refused %d, row malformed" % k, t, 0, "x", k)
+        judge(f, "judge: file refused %d, no records" % k, t, 0, "40 2I4", k, 0)
+        judge(f, "judge: file refused %d, all at once" % k, t, 99, "x", k, 0)
     for query in (3, 4, 256, 1 << 32, TOP):
-        judge("judge: query %d of three" % query, text, query, "21 2", 7)
-        judge("judge: query %d of three, row malformed" % query, text, query, "x", 7)
-        judge("judge: query %d of three, no records" % query, text, query, "40 2I4", 7, 0)
-        judge("judge: query %d of three, row malformed, no records" % query, text, query, "40 2i4", 7, 0)
-    judge("judge: query 0 of none", text_of(changed(EXAMPLE, s8=[])), 0, "21 2", 7)
+        judge(f, "judge: query %d of three" % query, text, query, "21 2", 7)
+        judge(f, "judge: query %d of three, row malformed" % query, text, query, "x", 7)
+        judge(f, "judge: query %d of three, no records" % query, text, query, "40 2I4", 7, 0)
+        judge(f, "judge: query %d of three, row malformed, no records" % query, text, query, "40 2i4", 7, 0)
+    judge(f, "judge: query 0 of none", f.text(changed(EXAMPLE, s8=[])), 0, "21 2", 7)
 
 
 def row_text(start, steps, mark):
@@ -122,23 +122,24 @@ def random_row(dice, gym, query):
     return row
 
 
-def random_cases():
-    dice = Dice(10)
+def random_cases(f):
+    dice = Dice(10 if f.number == OLD else 88)
     n = 0
     while n < 90:
         scopes = 2 + dice.below(6)
-        text = random_gym(dice, scopes, 2 * scopes + 1)
+        text = random_gym(dice, scopes, 2 * scopes + 1, f.kinds(dice))
         gym = Gym(text)
         if dice.below(3) and not any(shadowed(gym, query) for query in range(len(gym.queries))):
             continue
         for i in range(5):
             query = dice.below(len(gym.queries))
             room = 63 if dice.below(10) else dice.below(3)
-            judge("gym %d judged, row %d" % (n, i), text, query, random_row(dice, gym, query), None, room)
+            judge(f, "gym %d judged, row %d" % (n, i), text, query, random_row(dice, gym, query), None, room)
         n += 1
 
 
 def cases():
-    example_cases()
-    refusal_cases()
-    random_cases()
+    for f in FORMS:
+        example_cases(f)
+        refusal_cases(f)
+        random_cases(f)

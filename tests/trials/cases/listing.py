@@ -1,8 +1,8 @@
-"""Cases of listings and summaries."""
+"""Cases of listings and summaries, in both forms of file."""
 from cases.case_file import Dice, bytes_of, case, sum_of
 from cases.file_calls import TOP
-from cases.gyms import EXAMPLE, SMALLEST, changed, random_gym, realistic, refused_files, text_of, with_rows
-from reference.gym_file import DECLARED, EDGE, Refused
+from cases.gyms import EXAMPLE, FORMS, SMALLEST, changed, random_gym, realistic, refused_files, with_rows
+from reference.gym_file import DECLARED, EDGE, OLD, Refused
 from reference.query import Gym
 
 
@@ -37,15 +37,16 @@ def put(kind, verb, title, text, query, room, due):
     case(kind, title, shown(verb, out, room), text, number=query or 0, room=room)
 
 
-def listed(title, text, query, due=None, room=None):
-    put(b"l", b"listed", "listing: " + title, text, query, room, due)
+def listed(f, title, text, query, due=None, room=None):
+    """A query's listing. `due` is as the old form has it."""
+    put(b"l", b"listed", "listing: " + f.title + title, text, query, room, f.due(due))
 
 
-def summed(title, text, due=None, room=None):
-    put(b"s", b"summed", "summary: " + title, text, None, room, due)
+def summed(f, title, text, due=None, room=None):
+    put(b"s", b"summed", "summary: " + f.title + title, text, None, room, due)
 
 
-def whole(title, text, room=None):
+def whole(f, title, text, room=None):
     """Every query's listing, one past the last, and the summary."""
     count = len(Gym(text).queries) + 1
     outs = [asked(text, i) for i in range(count)]
@@ -53,7 +54,7 @@ def whole(title, text, room=None):
     if room is None:
         room = max(len(x) for x in outs + [last] if isinstance(x, bytes)) + 5
     answer = b"".join(shown(b"listed", x, room) for x in outs) + shown(b"summed", last, room)
-    case(b"a", "listings: " + title, answer, text, number=count, room=room)
+    case(b"a", "listings: " + f.title + title, answer, text, number=count, room=room)
 
 
 FIRST = b"start seek found awaits\n2 service one -\nmark path\n21 2\n"
@@ -62,96 +63,97 @@ THIRD = b"start seek found awaits\n2 hours one -\nmark path\n40 2I4\n"
 SUMMARY = b"queries one several none share\n3 3 0 0 100\n"
 
 
-def marked_cases():
-    text = text_of(EXAMPLE)
-    listed("M1: the example, 2 service", text, 0, FIRST)
-    listed("M2: the example, 3 service", text, 1, SECOND)
-    listed("M3: the example, 2 hours", text, 2, THIRD)
-    summed("the example", text, SUMMARY)
-    whole("the example as the program prints it", text, 65536)
-    listed("M4: without 3 $", text_of(changed(EXAMPLE, s7=[])), 1, "3 service one -")
-    one = text_of(changed(EXAMPLE, s7=["1 $"]))
-    listed("M5: open 1 $, 3 service", one, 1, "3 service one 1$")
-    listed("M5: open 1 $, 2 service", one, 0, "2 service one -")
-    listed("M6: open 2 P alone", text_of(changed(EXAMPLE, s7=["2 P"])), 2, "2 hours one -")
-    listed("M7: open 2 I alone", text_of(changed(EXAMPLE, s7=["2 I"])), 2, "2 hours one 2I")
-    listed("M8: with 4 hours 41 too", text_of(with_rows(DECLARED, "4 hours 41")), 2, b"start seek found awaits\n2 hours several -\nmark path\n40 2I4\n41 2I4\n")
+def marked_cases(f):
+    text = f.text(EXAMPLE)
+    listed(f, "M1: the example, 2 service", text, 0, FIRST)
+    listed(f, "M2: the example, 3 service", text, 1, SECOND)
+    listed(f, "M3: the example, 2 hours", text, 2, THIRD)
+    summed(f, "the example", text, SUMMARY)
+    whole(f, "the example as the program prints it", text, 65536)
+    listed(f, "M4: without 3 $", f.text(changed(EXAMPLE, s7=[])), 1, "3 service one -")
+    one = f.text(changed(EXAMPLE, s7=["1 $"]))
+    listed(f, "M5: open 1 $, 3 service", one, 1, "3 service one 1$")
+    listed(f, "M5: open 1 $, 2 service", one, 0, "2 service one -")
+    listed(f, "M6: open 2 P alone", f.text(changed(EXAMPLE, s7=["2 P"])), 2, "2 hours one -")
+    listed(f, "M7: open 2 I alone", f.text(changed(EXAMPLE, s7=["2 I"])), 2, "2 hours one 2I")
+    listed(f, "M8: with 4 hours 41 too", f.text(with_rows(DECLARED, "4 hours 41")), 2, b"start seek found awaits\n2 hours several -\nmark path\n40 2I4\n41 2I4\n")
     ring = changed(with_rows(EDGE, "0 P 2"), s8=["0 service"])
-    listed("M9: with edge 0 P 2", text_of(ring), 0, b"start seek found awaits\n0 service one -\nmark path\n21 0P2\n")
-    whole("M9, all that one may ask", text_of(changed(ring, s8=["%d %s" % (s, n) for s in range(5) for n in ("hours", "service", "limit")])))
+    listed(f, "M9: with edge 0 P 2", f.text(ring), 0, b"start seek found awaits\n0 service one -\nmark path\n21 0P2\n")
+    whole(f, "M9, all that one may ask", f.text(changed(ring, s8=["%d %s" % (s, n) for s in range(5) for n in ("hours", "service", "limit")])))
 
 
-def unmarked_cases():
-    text = text_of(EXAMPLE)
+def unmarked_cases(f):
+    text = f.text(EXAMPLE)
     ends = ["%d %s" % (s, e) for s in range(5) for e in "$IP"]
     every = ["%d %s" % (s, n) for s in range(5) for n in ("hours", "service", "limit")]
-    whole("no accept rows", text_of(changed(EXAMPLE, s3=[])))
-    silent = text_of(changed(EXAMPLE, s3=[], s7=ends, s8=every))
-    whole("no accept rows, everything open", silent)
-    listed("no accept rows, everything open, 2 service", silent, 7, b"start seek found awaits\n2 service none -\nmark path\n")
+    whole(f, "no accept rows", f.text(changed(EXAMPLE, s3=[])))
+    silent = f.text(changed(EXAMPLE, s3=[], s7=ends, s8=every))
+    whole(f, "no accept rows, everything open", silent)
+    listed(f, "no accept rows, everything open, 2 service", silent, 7, b"start seek found awaits\n2 service none -\nmark path\n")
     for title, change in [
         ("no transitions", dict(s2=[])), ("no order", dict(s1=[])), ("no edges", dict(s5=[])), ("no declarations", dict(s6=[])), ("accept 0 alone", dict(s3=["0"])),
         ("accept 1 alone", dict(s3=["1"])), ("accept 15 alone", dict(s3=["15"])), ("$ last", dict(s1=["I $", "I P", "P $"])), ("P first", dict(s1=["P $", "P I"])),
         ("only $ before P", dict(s1=["$ P"])), ("only I before P", dict(s1=["I P"])),
     ]:  # fmt: skip
-        whole("the example, %s" % title, text_of(changed(EXAMPLE, s8=every, **change)))
-        whole("the example, %s, everything open" % title, text_of(changed(EXAMPLE, s7=ends, s8=every, **change)))
+        whole(f, "the example, %s" % title, f.text(changed(EXAMPLE, s8=every, **change)))
+        whole(f, "the example, %s, everything open" % title, f.text(changed(EXAMPLE, s7=ends, s8=every, **change)))
     for end in ends:
-        whole("the example, open %s alone" % end, text_of(changed(EXAMPLE, s7=[end])))
+        whole(f, "the example, open %s alone" % end, f.text(changed(EXAMPLE, s7=[end])))
     for n, due in [("64", None), ("65", 3), ("0", 3), ("100000", 2), ("1", None)]:
         last = "0" if due else str(int(n) - 1)
-        t = text_of(changed(EXAMPLE, s4=[n], s5=["%s P 0" % last], s6=["0 a 7"], s7=["%s $" % last], s8=["%s a" % last]))
-        listed("scopes %s" % n, t, 0, due)
-        summed("scopes %s" % n, t, due)
+        t = f.text(changed(EXAMPLE, s4=[n], s5=["%s P 0" % last], s6=["0 a 7"], s7=["%s $" % last], s8=["%s a" % last]))
+        listed(f, "scopes %s" % n, t, 0, due)
+        summed(f, "scopes %s" % n, t, due)
     for name, due in [("sixteen_letters_", 0), ("seventeen_letters", 2), ("a", 0), ("abcdefgh", 0), ("abcdefghi", 0), ("z9_", 0)]:
-        t = text_of(changed(EXAMPLE, s6=["0 %s 5" % name], s8=["2 " + name]))
-        listed("name %s" % name, t, 0, due or "2 %s one -" % name)
-        t = text_of(changed(EXAMPLE, s6=["0 abcdefghijklmno 5"], s8=["2 " + name]))
-        listed("name %s, another is declared" % name, t, 0, due or "2 %s none -" % name)
-        summed("name %s" % name, t, due or None)
+        t = f.text(changed(EXAMPLE, s6=["0 %s 5" % name], s8=["2 " + name]))
+        listed(f, "name %s" % name, t, 0, due or "2 %s one -" % name)
+        t = f.text(changed(EXAMPLE, s6=["0 abcdefghijklmno 5"], s8=["2 " + name]))
+        listed(f, "name %s, another is declared" % name, t, 0, due or "2 %s none -" % name)
+        summed(f, "name %s" % name, t, due or None)
     for mark, due in [("0", 0), ("65535", 0), ("65536", 3), ("99999", 3), ("100000", 2), ("05", 2)]:
-        t = text_of(changed(EXAMPLE, s6=["0 hours " + mark]))
-        listed("mark %s" % mark, t, 2, due or b"start seek found awaits\n2 hours one -\nmark path\n%s 2P1P0\n" % mark.encode())
+        t = f.text(changed(EXAMPLE, s6=["0 hours " + mark]))
+        listed(f, "mark %s" % mark, t, 2, due or b"start seek found awaits\n2 hours one -\nmark path\n%s 2P1P0\n" % mark.encode())
     # A buffer of the exact length, a byte less, none, and longer ones.
     for title, query, out in [("2 service", 0, FIRST), ("3 service", 1, SECOND), ("2 hours", 2, THIRD)]:
+        length = len(f.due(out))
         for more, due in [(0, out), (-1, 9), (1, out), (-2, 9), (1000, out), (65536, out)]:
-            listed("%s, a buffer of %d bytes and %d" % (title, len(out), more), text, query, due, len(out) + more)
+            listed(f, "%s, a buffer of %d bytes and %d" % (title, length, more), text, query, due, length + more)
         for room in (0, 1, 24, 40, 50):
-            listed("%s, a buffer of %d bytes" % (title, room), text, query, 9, room)
+            listed(f, "%s, a buffer of %d bytes" % (title, room), text, query, 9, room)
     for more, due in [(0, SUMMARY), (-1, 9), (1, SUMMARY), (-2, 9), (1000, SUMMARY)]:
-        summed("a buffer of its length and %d" % more, text, due, len(SUMMARY) + more)
+        summed(f, "a buffer of its length and %d" % more, text, due, len(SUMMARY) + more)
     for room in (0, 1, 31):
-        summed("a buffer of %d bytes" % room, text, 9, room)
+        summed(f, "a buffer of %d bytes" % room, text, 9, room)
 
 
-def number_cases():
-    text = text_of(EXAMPLE)
-    none = text_of(changed(EXAMPLE, s8=[]))
+def number_cases(f):
+    text = f.text(EXAMPLE)
+    none = f.text(changed(EXAMPLE, s8=[]))
     for query in (3, 4, 255, 256, 1 << 32, (1 << 32) + 1, TOP):
-        listed("query %d of three" % query, text, query, 7)
-        listed("query %d of three, no bytes" % query, text, query, 7, 0)
-        listed("query %d of none" % query, none, query, 7)
-    listed("query 0 of none", none, 0, 7)
-    many = text_of(changed(EXAMPLE, s8=["%d %s" % (i % 5, n) for i in range(128) for n in ("hours", "service")]))
-    listed("query 255 of 256", many, 255, "2 service one -")
-    listed("query 256 of 256", many, 256, 7)
-    summed("256 queries", many)
-    for k, t in refused_files().items():
-        listed("file refused %d, query 0" % k, t, 0, k)
-        listed("file refused %d, query 0, no bytes" % k, t, 0, k, 0)
-        listed("file refused %d, query past the last" % k, t, 99, k)
-        listed("file refused %d, query past the last, no bytes" % k, t, TOP, k, 0)
-        summed("file refused %d" % k, t, k)
-        summed("file refused %d, no bytes" % k, t, k, 0)
-    listed("empty text", b"", 0, 2)
-    summed("empty text", b"", 2)
+        listed(f, "query %d of three" % query, text, query, 7)
+        listed(f, "query %d of three, no bytes" % query, text, query, 7, 0)
+        listed(f, "query %d of none" % query, none, query, 7)
+    listed(f, "query 0 of none", none, 0, 7)
+    many = f.text(changed(EXAMPLE, s8=["%d %s" % (i % 5, n) for i in range(128) for n in ("hours", "service")]))
+    listed(f, "query 255 of 256", many, 255, "2 service one -")
+    listed(f, "query 256 of 256", many, 256, 7)
+    summed(f, "256 queries", many)
+    for k, t in refused_files(f).items():
+        listed(f, "file refused %d, query 0" % k, t, 0, k)
+        listed(f, "file refused %d, query 0, no bytes" % k, t, 0, k, 0)
+        listed(f, "file refused %d, query past the last" % k, t, 99, k)
+        listed(f, "file refused %d, query past the last, no bytes" % k, t, TOP, k, 0)
+        summed(f, "file refused %d" % k, t, k)
+        summed(f, "file refused %d, no bytes" % k, t, k, 0)
+    listed(f, "empty text", b"", 0, 2)
+    summed(f, "empty text", b"", 2)
 
 
-def share_cases():
-    summed("no queries", text_of(changed(EXAMPLE, s8=[])), "0 0 0 0 -")
-    summed("no queries, the smallest graph", text_of(SMALLEST), "0 0 0 0 -")
-    summed("no queries, a buffer of its length", text_of(SMALLEST), "0 0 0 0 -", 41)
-    summed("no queries, a byte less", text_of(SMALLEST), 9, 40)
+def share_cases(f):
+    summed(f, "no queries", f.text(changed(EXAMPLE, s8=[])), "0 0 0 0 -")
+    summed(f, "no queries, the smallest graph", f.text(SMALLEST), "0 0 0 0 -")
+    summed(f, "no queries, a buffer of its length", f.text(SMALLEST), "0 0 0 0 -", 41)
+    summed(f, "no queries, a byte less", f.text(SMALLEST), 9, 40)
     one, none, several = "2 service", "2 limit", "4 twice"
     base = changed(EXAMPLE, s6=["0 hours 5", "1 service 10", "2 service 21", "4 hours 40", "4 twice 1", "4 twice 2"])
     for a, b, c, due in [
@@ -162,62 +164,62 @@ def share_cases():
         (1, 0, 199, "200 1 0 199 0"), (3, 0, 197, "200 3 0 197 2"), (5, 0, 195, "200 5 0 195 2"), (197, 1, 2, "200 197 1 2 98"), (1, 0, 255, "256 1 0 255 0"),
     ]:  # fmt: skip
         rows = [one] * a + [several] * b + [none] * c
-        t = text_of(changed(base, s8=rows))
-        summed("%d one, %d several, %d none" % (a, b, c), t, due)
+        t = f.text(changed(base, s8=rows))
+        summed(f, "%d one, %d several, %d none" % (a, b, c), t, due)
         if len(rows) < 10:
-            summed("%d none, %d several, %d one" % (c, b, a), text_of(changed(base, s8=rows[::-1])), due)
+            summed(f, "%d none, %d several, %d one" % (c, b, a), f.text(changed(base, s8=rows[::-1])), due)
 
 
-def wrong_ways():
+def wrong_ways(f):
     """What a wrong search would get wrong."""
     order = ["$ I", "$ P", "I P"]
-    g = lambda **s: text_of(changed(EXAMPLE, **s))
-    listed("no order: the shorter path is not preferred", g(s1=[]), 0, b"start seek found awaits\n2 service several -\nmark path\n21 2\n10 2P1\n")
-    listed("$ after P: the longer path wins", g(s1=["P $"]), 0, b"start seek found awaits\n2 service one -\nmark path\n10 2P1\n")
+    g = lambda **s: f.text(changed(EXAMPLE, **s))
+    listed(f, "no order: the shorter path is not preferred", g(s1=[]), 0, b"start seek found awaits\n2 service several -\nmark path\n21 2\n10 2P1\n")
+    listed(f, "$ after P: the longer path wins", g(s1=["P $"]), 0, b"start seek found awaits\n2 service one -\nmark path\n10 2P1\n")
     square = dict(s1=[], s2=["0 P 0"], s3=["0"], s4=["4"], s5=["0 P 1", "0 P 2", "1 P 3", "2 P 3"], s6=["3 a 7"], s7=[], s8=["0 a"])
-    listed("two paths to one scope", g(**square), 0, b"start seek found awaits\n0 a one -\nmark path\n7 0P1P3\n7 0P2P3\n")
+    listed(f, "two paths to one scope", g(**square), 0, b"start seek found awaits\n0 a one -\nmark path\n7 0P1P3\n7 0P2P3\n")
     square.update(s5=["0 P 1", "0 P 2", "1 P 2", "1 P 3", "2 P 1", "2 P 3"])
-    listed("four paths to one scope", g(**square), 0, b"start seek found awaits\n0 a one -\nmark path\n7 0P1P2P3\n7 0P1P3\n7 0P2P1P3\n7 0P2P3\n")
+    listed(f, "four paths to one scope", g(**square), 0, b"start seek found awaits\n0 a one -\nmark path\n7 0P1P2P3\n7 0P1P3\n7 0P2P1P3\n7 0P2P3\n")
     fork = dict(s1=order, s5=["0 I 1", "0 P 2"], s6=["1 b 1", "2 a 2"], s7=[], s8=["0 a"])
-    listed("a path without the name shadows nothing", g(**fork), 0, b"start seek found awaits\n0 a one -\nmark path\n2 0P2\n")
+    listed(f, "a path without the name shadows nothing", g(**fork), 0, b"start seek found awaits\n0 a one -\nmark path\n2 0P2\n")
     fork.update(s2=["0 P 0", "1 I 1"], s6=["1 a 1", "2 a 2"])
-    listed("an unlawful path shadows nothing", g(**fork), 0, b"start seek found awaits\n0 a one -\nmark path\n2 0P2\n")
+    listed(f, "an unlawful path shadows nothing", g(**fork), 0, b"start seek found awaits\n0 a one -\nmark path\n2 0P2\n")
     fork.update(s2=["0 I 2", "0 P 0"])
-    listed("a path that is not accepted shadows nothing", g(**fork), 0, b"start seek found awaits\n0 a one -\nmark path\n2 0P2\n")
+    listed(f, "a path that is not accepted shadows nothing", g(**fork), 0, b"start seek found awaits\n0 a one -\nmark path\n2 0P2\n")
     fork.update(s2=["0 I 1", "0 P 0"])
-    listed("a reached path does", g(**fork), 0, b"start seek found awaits\n0 a one -\nmark path\n1 0I1\n")
+    listed(f, "a reached path does", g(**fork), 0, b"start seek found awaits\n0 a one -\nmark path\n1 0I1\n")
     for opened, due in [("0 $", "0 a one 0$"), ("0 I", "0 a one 0I"), ("0 P", "0 a one -"), ("1 $", "0 a one 1$"), ("1 I", "0 a one -"), ("2 $", "0 a one -"), ("2 P", "0 a one -"), ("3 $", "0 a one -")]:
-        listed("a preferred label yields a path, open %s" % opened, g(**dict(fork, s7=[opened])), 0, due)
+        listed(f, "a preferred label yields a path, open %s" % opened, g(**dict(fork, s7=[opened])), 0, due)
     fork.update(s6=["1 b 1", "2 a 2"])
     for opened, due in [("0 $", "0 a one 0$"), ("0 I", "0 a one 0I"), ("0 P", "0 a one 0P"), ("1 $", "0 a one 1$"), ("1 P", "0 a one -"), ("2 $", "0 a one 2$"), ("2 P", "0 a one -"), ("2 I", "0 a one -")]:
-        listed("a preferred edge that reaches nothing, open %s" % opened, g(**dict(fork, s7=[opened])), 0, due)
-    listed("the first of many open pairs", g(**dict(fork, s7=["2 $", "2 I", "3 $"])), 0, "0 a one 2$")
-    listed("a self-edge is on no path", g(**dict(square, s5=["0 P 0", "0 P 3", "3 P 3"])), 0, b"start seek found awaits\n0 a one -\nmark path\n7 0P3\n")
+        listed(f, "a preferred edge that reaches nothing, open %s" % opened, g(**dict(fork, s7=[opened])), 0, due)
+    listed(f, "the first of many open pairs", g(**dict(fork, s7=["2 $", "2 I", "3 $"])), 0, "0 a one 2$")
+    listed(f, "a self-edge is on no path", g(**dict(square, s5=["0 P 0", "0 P 3", "3 P 3"])), 0, b"start seek found awaits\n0 a one -\nmark path\n7 0P3\n")
     sort = dict(s0=["P", "I"], s1=[], s2=["0 P 0", "0 I 0"], s3=["0"], s4=["12"], s7=[], s8=["0 a"])
     sort.update(s5=["0 P 9", "0 P 10", "0 I 1", "0 I 2", "9 I 11"], s6=["0 a 3", "1 a 9", "1 a 10", "2 a 0", "9 a 5", "10 a 4", "11 a 1"])
     due = b"start seek found awaits\n0 a several -\nmark path\n3 0\n5 0P9\n1 0P9I11\n4 0P10\n9 0I1\n10 0I1\n0 0I2\n"
-    listed("sorted by end, label number, scope, mark", g(**sort), 0, due)
+    listed(f, "sorted by end, label number, scope, mark", g(**sort), 0, due)
     order_two = dict(s0=["P", "I"], s1=["I P"], s2=["0 P 0", "0 I 0"], s3=["0"], s5=["0 P 1", "0 I 2"], s6=["1 a 1", "2 a 2"], s7=["0 I"], s8=["0 a"])
-    listed("labels P I, I preferred", g(**order_two), 0, b"start seek found awaits\n0 a one 0I\nmark path\n2 0I2\n")
+    listed(f, "labels P I, I preferred", g(**order_two), 0, b"start seek found awaits\n0 a one 0I\nmark path\n2 0I2\n")
 
 
 def ladder(rungs, declared, **sections):
     """From each scope to the next by either of two labels, without an order: so many rungs, twice as many routes with each. Each is visible."""
     edges = ["%d %s %d" % (s, label, s + 1) for s in range(rungs) for label in "IP"]
     rows = dict(s1=[], s2=["0 I 0", "0 P 0"], s3=["0"], s4=[str(rungs + 2)], s5=edges, s6=declared, s7=[], s8=["0 a"])
-    return text_of(changed(EXAMPLE, **dict(rows, **sections)))
+    return changed(EXAMPLE, **dict(rows, **sections))
 
 
-def route_cases():
+def route_cases(f):
     """`found` counts declarations (02, K2), and all routes are listed."""
     head = b"start seek found awaits\n0 a %s -\nmark path\n"
-    listed("two routes to one row", ladder(1, ["1 a 7"]), 0, head % b"one" + b"7 0I1\n7 0P1\n")
-    listed("two routes to two marks at one scope", ladder(1, ["1 a 7", "1 a 8"]), 0, head % b"several" + b"7 0I1\n8 0I1\n7 0P1\n8 0P1\n")
-    listed("two scopes with equal marks", ladder(1, ["0 a 7", "1 a 7"]), 0, head % b"several" + b"7 0\n7 0I1\n7 0P1\n")
-    listed("two routes to one row, another name beside it", ladder(1, ["1 a 7", "1 b 8"]), 0, head % b"one" + b"7 0I1\n7 0P1\n")
-    listed("the second of two routes is shadowed", ladder(1, ["1 a 7"], s1=["I P"]), 0, head % b"one" + b"7 0I1\n")
+    listed(f, "two routes to one row", f.text(ladder(1, ["1 a 7"])), 0, head % b"one" + b"7 0I1\n7 0P1\n")
+    listed(f, "two routes to two marks at one scope", f.text(ladder(1, ["1 a 7", "1 a 8"])), 0, head % b"several" + b"7 0I1\n8 0I1\n7 0P1\n8 0P1\n")
+    listed(f, "two scopes with equal marks", f.text(ladder(1, ["0 a 7", "1 a 7"])), 0, head % b"several" + b"7 0\n7 0I1\n7 0P1\n")
+    listed(f, "two routes to one row, another name beside it", f.text(ladder(1, ["1 a 7", "1 b 8"])), 0, head % b"one" + b"7 0I1\n7 0P1\n")
+    listed(f, "the second of two routes is shadowed", f.text(ladder(1, ["1 a 7"], s1=["I P"])), 0, head % b"one" + b"7 0I1\n")
     awaited = b"start seek found awaits\n0 a one 1$\nmark path\n7 0I1\n7 0P1\n"
-    listed("two routes to one row, its scope open", ladder(1, ["1 a 7"], s7=["1 $"]), 0, awaited)
+    listed(f, "two routes to one row, its scope open", f.text(ladder(1, ["1 a 7"], s7=["1 $"])), 0, awaited)
     # With thirty rungs there are 2^30 routes, more than an enumerator can list. So what is due then is said here, and held to the reference for the same gym
     # with five rungs: the listing is longer than any buffer lent, the summary is the same.
     for title, rows, order, due in [
@@ -227,31 +229,31 @@ def route_cases():
         ("to one row, another that nothing leads to", lambda n: ["%d a 7" % n, "%d a 7" % (n + 1)], [], b"1 1 0 0 100"),
         ("to one row, another is shadowed", lambda n: ["%d a 7" % (n - 1), "%d a 7" % n], ["$ I", "$ P"], b"1 1 0 0 100"),
     ]:  # fmt: skip
-        gym = lambda n: ladder(n, rows(n), s1=order)
+        gym = lambda n: f.text(ladder(n, rows(n), s1=order))
         summary = b"queries one several none share\n" + due + b"\n"
-        whole("five rungs %s" % title, gym(5))
-        summed("five rungs %s" % title, gym(5), summary)
-        case(b"l", "listing: 2^30 routes %s" % title, shown(b"listed", 9, 65536), gym(30), room=65536)
-        case(b"s", "summary: 2^30 routes %s" % title, shown(b"summed", summary, 100), gym(30), room=100)
+        whole(f, "five rungs %s" % title, gym(5))
+        summed(f, "five rungs %s" % title, gym(5), summary)
+        case(b"l", "listing: " + f.title + "2^30 routes %s" % title, shown(b"listed", 9, 65536), gym(30), room=65536)
+        case(b"s", "summary: " + f.title + "2^30 routes %s" % title, shown(b"summed", summary, 100), gym(30), room=100)
 
 
-def long_cases():
+def long_cases(f):
     """One path along 64 scopes, with many declarations at its end: some 190 bytes a row."""
     path = b"0" + b"".join(b"P%d" % i for i in range(1, 64))
 
     def text(marks):
-        return text_of(changed(SMALLEST, s0=["P"], s2=["0 P 0"], s3=["0"], s4=["64"], s5=["%d P %d" % (i, i + 1) for i in range(63)], s6=["63 a %d" % m for m in marks], s8=["0 a"]))
+        return f.text(changed(SMALLEST, s0=["P"], s2=["0 P 0"], s3=["0"], s4=["64"], s5=["%d P %d" % (i, i + 1) for i in range(63)], s6=["63 a %d" % m for m in marks], s8=["0 a"]))
 
-    head = len(b"start seek found awaits\n0 a several -\nmark path\n")
+    head = len(f.due(b"start seek found awaits\n0 a several -\nmark path\n"))
     row = lambda mark: len(b"%d " % mark + path + b"\n")
     marks = list(range(450))
     length = head + sum(row(m) for m in marks)
     assert 65536 < length < 98304
-    listed("a listing of %d bytes" % length, text(marks), 0, None, length)
-    listed("a listing of %d bytes, a byte less" % length, text(marks), 0, 9, length - 1)
-    listed("a listing of %d bytes, a buffer of 65536" % length, text(marks), 0, 9, 65536)
-    listed("a listing of %d bytes, a long buffer" % length, text(marks), 0, None, 98304)
-    summed("a query with a long listing", text(marks), "1 0 1 0 0")
+    listed(f, "a listing of %d bytes" % length, text(marks), 0, None, length)
+    listed(f, "a listing of %d bytes, a byte less" % length, text(marks), 0, 9, length - 1)
+    listed(f, "a listing of %d bytes, a buffer of 65536" % length, text(marks), 0, 9, 65536)
+    listed(f, "a listing of %d bytes, a long buffer" % length, text(marks), 0, None, 98304)
+    summed(f, "a query with a long listing", text(marks), "1 0 1 0 0")
     # So many marks of three and of four digits that the listing has 65,536 bytes to the byte, or one more.
     for total, due in [(65536, None), (65537, 9)]:
         rows = (total - head) // row(100)
@@ -259,25 +261,27 @@ def long_cases():
         assert fours <= rows
         marks = list(range(100, 100 + rows - fours)) + list(range(1000, 1000 + fours))
         assert len(asked(text(marks), 0)) == total
-        listed("a listing of %d bytes, a buffer of 65536" % total, text(marks), 0, due, 65536)
+        listed(f, "a listing of %d bytes, a buffer of 65536" % total, text(marks), 0, due, 65536)
 
 
-def random_cases():
-    dice = Dice(64)
+def random_cases(f):
+    """Random gyms, those of the form with kinds with kinds drawn."""
+    dice = Dice(64 if f.number == OLD else 8)
     for n in range(450):
         scopes = 2 + dice.below(6)
-        whole("gym %d" % n, random_gym(dice, scopes, 2 * scopes + 1))
+        whole(f, "gym %d" % n, random_gym(dice, scopes, 2 * scopes + 1, f.kinds(dice)))
     for n in range(40):
-        whole("wider gym %d" % n, random_gym(dice, 9 + dice.below(4), 18))
+        whole(f, "wider gym %d" % n, random_gym(dice, 9 + dice.below(4), 18, f.kinds(dice)))
 
 
 def cases():
-    marked_cases()
-    unmarked_cases()
-    number_cases()
-    share_cases()
-    wrong_ways()
-    route_cases()
-    long_cases()
-    whole("a gym of 27 scopes and 80 queries", realistic())
-    random_cases()
+    for f in FORMS:
+        marked_cases(f)
+        unmarked_cases(f)
+        number_cases(f)
+        share_cases(f)
+        wrong_ways(f)
+        route_cases(f)
+        long_cases(f)
+        whole(f, "a gym of 27 scopes and 80 queries", f.text(realistic()))
+        random_cases(f)

@@ -1,20 +1,25 @@
-"""Cases of graph tables that are written."""
+"""Cases of graph tables that are written, in both forms of file. The cells of a graph differ in the first alone, the form."""
+from cases import file_calls
 from cases.faults import full_sections
-from cases.file_calls import TOP, name_cells, raw_cells, row, rows_of, table, writes
-from cases.gyms import EXAMPLE, SMALLEST, WORD, largest, text_of
-from reference.gym_file import ACCEPT, DECLARED, EDGE, LABEL, OPEN, ORDER, QUERY, SCOPES, STEP
+from cases.file_calls import TOP, name_cells, raw_cells, row, rows_of, table
+from cases.gyms import EXAMPLE, FORMS, SMALLEST, WORD, largest
+from reference.gym_file import ACCEPT, DECLARED, EDGE, LABEL, OLD, OPEN, ORDER, QUERY, SCOPES, STEP
 
-# the example's rows, its table and its text, and where each section's first and last row stand
+# the example's rows and its table, and where each section's first and last row stand
 ROWS = rows_of(EXAMPLE)
 WHOLE = table(ROWS)
-TEXT = text_of(EXAMPLE)
 FIRST = [next(i for i, r in enumerate(ROWS) if r[0] == k) for k in range(9)]
 LAST = [max(i for i, r in enumerate(ROWS) if r[0] == k) for k in range(9)]
 SMALL = table(rows_of(SMALLEST))
 # the names that are put into rows
 HOURS, SERVICE = name_cells("hours"), name_cells("service")
 # by the refusal that a row then meets: a cell, and what is put there
-FAULT = {2: (5, 1), 3: (1, 99999)}
+FAULT = {2: (5, 100000), 3: (1, 99999)}
+
+
+def writing(f):
+    """A call of a case whose cells are those of the old form, put into this one."""
+    return lambda title, cells, *given, **named: file_calls.writes(f.title + title, [f.number] * bool(cells) + cells[1:], *given, **named)
 
 
 def put(i, *cells, **at):
@@ -34,19 +39,22 @@ def more(k, *cells):
     return table(new)
 
 
-def room_cases():
+def room_cases(f):
+    writes = writing(f)
+    length = len(f.text(EXAMPLE))
     writes("the example", WHOLE, due=0)
-    writes("the example, a buffer of its length", WHOLE, room=len(TEXT), due=0)
-    writes("the example, a byte less", WHOLE, room=len(TEXT) - 1, due=9)
+    writes("the example, a buffer of its length", WHOLE, room=length, due=0)
+    writes("the example, a byte less", WHOLE, room=length - 1, due=9)
     writes("the example, one byte", WHOLE, room=1, due=9)
     writes("the example, no bytes", WHOLE, room=0, due=9)
     writes("the example, a long buffer", WHOLE, room=32768, due=0)
-    length = len(text_of(SMALLEST))
+    length = len(f.text(SMALLEST))
     writes("the smallest graph", SMALL, room=length, due=0)
     writes("the smallest graph, a byte less", SMALL, room=length - 1, due=9)
 
 
-def length_cases():
+def length_cases(f):
+    writes = writing(f)
     for n in range(len(WHOLE)):
         if n < 15 or n % 6 == 1 or n % 11 == 0:
             writes("the first %d cells" % n, WHOLE[:n])
@@ -59,14 +67,18 @@ def length_cases():
 
 
 def form_cases():
+    writes = file_calls.writes
     for form in (1, 2, 10, 255, TOP):
-        writes("form %d" % form, table(ROWS, form), due=2)
+        writes("form %d" % form, table(ROWS, form), due=0 if form == 1 else 2)
         writes("form %d alone" % form, [form], due=2)
     writes("form 0 alone", [0], due=2)
 
 
-def section_cases():
+def section_cases(f):
+    writes = writing(f)
     for i, r in enumerate(ROWS):
+        if r[0] not in f.sections:
+            continue
         for k in sorted({9, 256 + r[0], TOP}):
             new = put(i, c0=k)
             writes("row %d with section number %d" % (i, k), new, due=2)
@@ -80,7 +92,8 @@ def section_cases():
     writes("without query rows", table([r for r in ROWS if r[0] != QUERY]), due=0)
 
 
-def scopes_cases():
+def scopes_cases(f):
+    writes = writing(f)
     writes("scopes row last", table([r for r in ROWS if r[0] != SCOPES] + [row(SCOPES, 5)]), due=2)
     writes("two scopes rows", more(SCOPES, 5), due=5)
     writes("second scopes row 0", more(SCOPES, 0), due=5)
@@ -89,30 +102,34 @@ def scopes_cases():
     writes("second scopes row, unused cell 1", more(SCOPES, 5, 0, 0, 0, 1), due=2)
 
 
-def cell_cases():
-    used = [1, 2, 3, 1, 1, 3, 4, 2, 3]
-    for k in range(9):
+def cell_cases(f):
+    writes = writing(f)
+    used = [1, 2, 3, 1, 1, 3, 5, 2, 4]
+    for k in f.sections:
         for c in range(used[k] + 1, 6):
             for v in (1, TOP):
                 writes("%s unused cell %d is %d" % (WORD[k], c, v), put(LAST[k], **{"c%d" % c: v}), due=2)
-    number_cells = {STEP: [1, 3], ACCEPT: [1], SCOPES: [1], EDGE: [1, 3], DECLARED: [1, 4], OPEN: [1], QUERY: [1]}
-    for k, places in number_cells.items():
-        for c in places:
+    number_cells = {STEP: [1, 3], ACCEPT: [1], SCOPES: [1], EDGE: [1, 3], DECLARED: [1, 5], OPEN: [1], QUERY: [1]}
+    for k in f.sections:
+        for c in number_cells.get(k, []):
             for v in (16, 65, 65535, 65536, 99999, 100000, 4294967296, 4294967297, TOP):
                 writes("%s cell %d is %d" % (WORD[k], c, v), put(LAST[k], **{"c%d" % c: v}), due=2 if v > 99999 else None)
-    for v in (0, 64, 65, 90, 91, 97, 256 + 65, 65536 + 65, TOP):
+    for v in (0, 64, 65, 90, 91, 97, 256 + 65, 65536 + 65, TOP) if LABEL in f.sections else ():
         writes("label letter %d" % v, put(LAST[LABEL], LABEL, v))
     for k, c in ((ORDER, 1), (ORDER, 2), (STEP, 2), (EDGE, 2), (OPEN, 2)):
+        if k not in f.sections:
+            continue
         for v in (0, 1, 2, 3, 7, 8, 9, 36, 73, 256, 99999, 100000, TOP):
             title = "%s label cell %d is %d" % (WORD[k], c, v)
             writes(title, put(LAST[k], **{"c%d" % c: v}), due=3 if v > (2 if k in (ORDER, OPEN) else 1) else None)
 
 
-def name_cases():
+def name_cases(f):
+    writes = writing(f)
     for k in (DECLARED, QUERY):
         tail = [40] if k == DECLARED else []
         for title, pair in [
-            ("nothing", [0, 0]), ("a in the low cell", [0, name_cells("a")[0]]), ("a capital", raw_cells("Hours" + "\0" * 11)),
+            ("nothing", [0, 0]), ("a in the low cell", [0, name_cells("a")[1]]), ("a capital", raw_cells("Hours" + "\0" * 11)),
             ("a digit first", raw_cells("9x" + "\0" * 14)), ("an underscore first", raw_cells("_x" + "\0" * 14)),
             ("a hole", raw_cells("ho\0rs" + "\0" * 11)), ("a hole at 8", raw_cells("hours12\0" + "a" + "\0" * 7)),
             ("a hole at 9", raw_cells("hours123\0a" + "\0" * 6)), ("a capital at 8", raw_cells("hours12Z" + "\0" * 8)),
@@ -121,13 +138,14 @@ def name_cases():
             ("NUL first", raw_cells("\0hours" + "\0" * 10)), ("the number 5", [5, 0]), ("the number 5 low", [0, 5]), ("all ones", [TOP, TOP]),
             ("the end of the alphabet and one", raw_cells("h{" + "\0" * 14)), ("backtick", raw_cells("`h" + "\0" * 14)),
         ]:  # fmt: skip
-            writes("%s name is %s" % (WORD[k], title), put(LAST[k], k, 4, *pair, *tail), due=2)
+            writes("%s name is %s" % (WORD[k], title), put(LAST[k], k, 4, ord("v"), *pair, *tail), due=2)
         for name in ("a", "z", "a0", "z_9", "abcdefg", "abcdefgh", "abcdefghi", "abcdefghijklmno", "abcdefghijklmnop"):
             writes("%s name is %s" % (WORD[k], name), put(LAST[k], k, 4, *name_cells(name), *tail), due=0)
 
 
-def sequence_cases():
+def sequence_cases(f):
     """Repeats and descents, key by key."""
+    writes = writing(f)
     for title, k, cells, due in [
         ("again", LABEL, [80], 4), ("first again", LABEL, [73], 4), ("again", ORDER, [1, 2], 4), ("first again", ORDER, [0, 1], 4),
         ("equal ends", ORDER, [2, 2], 6), ("equal end marks", ORDER, [0, 0], 4), ("turned pair", ORDER, [2, 1], 6),
@@ -148,37 +166,42 @@ def sequence_cases():
         writes("names that differ in the second cell, %s" % title, table(new), due=due)
 
 
-def limit_cases():
+def limit_cases(f):
     """Limits, and 2, 5, 3, 4 in a row."""
+    writes = writing(f)
     for k, (g, _) in full_sections().items():
+        if k not in f.sections:
+            continue
         r = rows_of(g)
         t = table(r)
-        out = text_of(g)
+        out = f.text(g)
         end = max(i for i, x in enumerate(r) if x[0] == k) + 1
         writes("%s full" % WORD[k], t, room=len(out), due=0)
         name = name_cells("a") if k in (DECLARED, QUERY) else []
         for title, extra, due in [
-            ("again", r[end - 1], 5), ("out of range", row(k, 90 if k == LABEL else 99999, *name), 5), ("malformed", r[end - 1][:5] + [1], 2),
+            ("again", r[end - 1], 5), ("out of range", row(k, 90 if k == LABEL else 99999, *name), 5), ("malformed", r[end - 1][:5] + [100000], 2),
         ]:  # fmt: skip
             writes("%s one more than full: %s" % (WORD[k], title), table(r[:end] + [extra] + r[end:]), due=due)
         if len(r) < 300:
             writes("%s one more than full: cut" % WORD[k], table(r[:end] + [r[end - 1][:4]]), due=2)
 
 
-def two_fault_cases():
+def two_fault_cases(f):
     """Two faults on one row."""
+    writes = writing(f)
     for title, cells, due in [
         ("2 and 3", put(LAST[STEP], STEP, 16, 0, 100000), 2), ("3 and 2", put(LAST[EDGE], EDGE, 9, 9, 100000), 2),
         ("2 and 4", put(LAST[EDGE], EDGE, 0, 1, 100000), 2), ("3 and 4", put(LAST[EDGE], EDGE, 0, 7, 0), 3),
         ("3 and 4 in order", put(LAST[ORDER], ORDER, 0, 9), 3), ("2 and 3 in order", put(LAST[ORDER], ORDER, 9, 9, 1), 2),
-        ("3 and 4 in declared", put(LAST[DECLARED], DECLARED, 0, *HOURS, 65536), 3), ("2 and 4 in declared", put(LAST[DECLARED], DECLARED, 0, 0, 0, 0), 2),
-        ("3 and 4 in open", more(OPEN, 0, 9), 3), ("2 and 3 in query", put(LAST[QUERY], QUERY, 9, 1, 1), 2), ("2 and 4 in label", more(LABEL, 73, 1), 2),
+        ("3 and 4 in declared", put(LAST[DECLARED], DECLARED, 0, *HOURS, 65536), 3), ("2 and 4 in declared", put(LAST[DECLARED], DECLARED, 0, ord("v"), 0, 0, 0), 2),
+        ("3 and 4 in open", more(OPEN, 0, 9), 3), ("2 and 3 in query", put(LAST[QUERY], QUERY, 9, ord("v"), 1, 1), 2), ("2 and 4 in label", more(LABEL, 73, 1), 2),
     ]:  # fmt: skip
         writes("a row with %s" % title, cells, due=due)
 
 
-def later_fault_cases():
+def later_fault_cases(f):
     """Two faults on two rows, and 6 after them all, 9 after 6."""
+    writes = writing(f)
     for k in range(ORDER, 9):
         for j in range(k + 1, 9):
             for n, m in ((2, 3), (3, 2)):
@@ -204,23 +227,25 @@ def later_fault_cases():
     writes("with 3, no bytes", put(LAST[QUERY], c1=5), room=0, due=3)
 
 
-def largest_cases():
+def largest_cases(f):
+    writes = writing(f)
     big = table(rows_of(largest()))
-    length = len(text_of(largest()))
+    length = len(f.text(largest()))
     writes("the largest graph", big, room=length, due=0)
     writes("the largest graph, a byte less", big, room=length - 1, due=9)
 
 
 def cases():
-    room_cases()
-    length_cases()
     form_cases()
-    section_cases()
-    scopes_cases()
-    cell_cases()
-    name_cases()
-    sequence_cases()
-    limit_cases()
-    two_fault_cases()
-    later_fault_cases()
-    largest_cases()
+    for f in FORMS:
+        room_cases(f)
+        length_cases(f)
+        section_cases(f)
+        scopes_cases(f)
+        cell_cases(f)
+        name_cases(f)
+        sequence_cases(f)
+        limit_cases(f)
+        two_fault_cases(f)
+        later_fault_cases(f)
+        largest_cases(f)

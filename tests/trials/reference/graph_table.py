@@ -1,7 +1,7 @@
 """The graph table, from the layout of its cells (docs/ARCHITECTURE.md, "The graph table"): a graph as cells, and cells as a text."""
 import re
 
-from reference.gym_file import ACCEPT, DECLARED, EDGE, LABEL, NAME, OPEN, ORDER, SCOPES, STEP, Graph, Refused
+from reference.gym_file import ACCEPT, DECLARED, EDGE, KIND, KINDS, LABEL, NAME, OLD, OPEN, ORDER, QUERY, SCOPES, STEP, USUAL, Graph, Refused
 
 
 def packed(name):
@@ -10,14 +10,14 @@ def packed(name):
 
 
 def cells_of(g):
-    out = [0]
+    out = [g.form]
     for k in range(9):
         for v in g.rows[k]:
             row = [k]
-            for x in v:
+            for i, x in enumerate(v):
                 if not isinstance(x, bytes):
                     row.append(x)
-                elif k == LABEL:
+                elif k == LABEL or (k in (DECLARED, QUERY) and i == 1):
                     row.append(x[0])
                 elif k in (ORDER, OPEN):
                     row.append(g.end_number(x))
@@ -36,6 +36,14 @@ def name_of(high, low):
     if not re.fullmatch(NAME, name):
         raise Refused(2)
     return name
+
+
+def kind_of(g, x):
+    """The kind of a cell, or 2: a letter, and in a graph of the old form no other than that of an old file."""
+    kind = bytes([x]) if x < 256 else b""
+    if not re.fullmatch(KIND, kind) or (g.form == OLD and kind != USUAL):
+        raise Refused(2)
+    return kind
 
 
 def number_of(x):
@@ -60,11 +68,11 @@ def values_of(g, k, c):
     elif k in (ACCEPT, SCOPES):
         v, used = (number_of(c[0]),), 1
     elif k == DECLARED:
-        v, used = (number_of(c[0]), name_of(c[1], c[2]), number_of(c[3])), 4
+        v, used = (number_of(c[0]), kind_of(g, c[1]), name_of(c[2], c[3]), number_of(c[4])), 5
     elif k == OPEN:
         v, used = (number_of(c[0]), end(c[1])), 2
     else:
-        v, used = (number_of(c[0]), name_of(c[1], c[2])), 3
+        v, used = (number_of(c[0]), kind_of(g, c[1]), name_of(c[2], c[3])), 4
     if any(c[used:]):
         raise Refused(2)
     return v
@@ -72,9 +80,9 @@ def values_of(g, k, c):
 
 def write(cells):
     """The text of a graph table, or Refused."""
-    if not cells or cells[0] != 0:
+    if not cells or cells[0] not in (OLD, KINDS):
         raise Refused(2)
-    g = Graph()
+    g = Graph(cells[0])
     k = 0
     for at in range(1, len(cells), 6):
         row = cells[at : at + 6]

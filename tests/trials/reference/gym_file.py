@@ -1,4 +1,5 @@
-"""The gym file, from document 01 ("The gym file", "Who can cause a refusal"): its sections, its rows, what is refused, and the name that a query seeks.
+"""The gym file, from document 01 ("The gym file", "Who can cause a refusal") and, for kinds, document 02 (K8): its sections, its rows, what is refused, and
+the name that a query seeks.
 
 Nothing here is shared with the crates."""
 import re
@@ -10,6 +11,7 @@ NUMBER = rb"(0|[1-9][0-9]{0,4})"
 LETTER = rb"([A-Z])"
 END = rb"([$A-Z])"
 NAME = rb"([a-z][a-z0-9_]{0,15})"
+KIND = rb"([a-z])"
 
 FORMS = [
     [LETTER],
@@ -23,6 +25,18 @@ FORMS = [
     [NUMBER, NAME],
 ]
 
+# The two forms of file: the old one, and the one with kinds, which has two names lines of its own and in their rows a kind as the second field. In a file of
+# the old form each kind is `v`.
+OLD, KINDS = range(2)
+NAMES_OF = [NAMES, [{DECLARED: b"at kind name mark", QUERY: b"start kind seek"}.get(k, name) for k, name in enumerate(NAMES)]]
+FIELDS_OF = [FORMS, [[NUMBER, KIND] + fields[1:] if k in (DECLARED, QUERY) else fields for k, fields in enumerate(FORMS)]]
+USUAL = b"v"
+
+
+def fuller(k, v):
+    """The values of a row of the old form with the kind that it does not say."""
+    return v[:1] + (USUAL,) + v[1:] if k in (DECLARED, QUERY) else v
+
 
 class Refused(Exception):
     def __init__(self, number):
@@ -30,9 +44,11 @@ class Refused(Exception):
 
 
 class Graph:
-    """The rows so far, each as its values: numbers, letters as bytes, names as bytes, an end as b'$' or a letter."""
+    """The form, and the rows so far, each as its values: numbers, letters as bytes, names as bytes, an end as b'$' or a letter. A row with a name has its kind
+    before it, whatever the form."""
 
-    def __init__(self):
+    def __init__(self, form=OLD):
+        self.form = form
         self.rows = [[] for _ in range(9)]
 
     def labels(self):
@@ -59,7 +75,7 @@ class Graph:
         if k == EDGE:
             return scope(v[0]) and label(v[1]) and scope(v[2])
         if k == DECLARED:
-            return scope(v[0]) and mark(v[2])
+            return scope(v[0]) and mark(v[3])
         if k == OPEN:
             return scope(v[0]) and end(v[1])
         if k == QUERY:
@@ -78,7 +94,7 @@ class Graph:
         if k == EDGE:
             return (v[0], number(v[1]), v[2])
         if k == DECLARED:
-            return (v[0], v[1], v[2])
+            return (v[0], v[1], v[2], v[3])
         if k == OPEN:
             return (v[0], self.end_number(v[1]))
         return None
@@ -110,8 +126,10 @@ class Graph:
     def text(self):
         lines = []
         for k in range(9):
-            lines.append(NAMES[k])
+            lines.append(NAMES_OF[self.form][k])
             for v in self.rows[k]:
+                if self.form == OLD and k in (DECLARED, QUERY):
+                    v = v[:1] + v[2:]
                 lines.append(b" ".join(x if isinstance(x, bytes) else b"%d" % x for x in v))
         return b"".join(x + b"\n" for x in lines)
 
@@ -130,16 +148,23 @@ def read(text):
         line = text[at:end]
         at = end + 1
         if b"a" <= line[:1] <= b"z":
-            if k == 8 or line != NAMES[k + 1] or (k == SCOPES and not g.rows[SCOPES]):
+            if k == 8 or (k == SCOPES and not g.rows[SCOPES]):
                 raise Refused(2)
             k += 1
+            # the declarations' names line is the first that says which form the file has
+            if k == DECLARED and line == NAMES_OF[KINDS][k]:
+                g.form = KINDS
+            if line != NAMES_OF[g.form][k]:
+                raise Refused(2)
             continue
         if k < 0:
             raise Refused(2)
-        m = re.fullmatch(b" ".join(FORMS[k]), line)
+        fields = FIELDS_OF[g.form][k]
+        m = re.fullmatch(b" ".join(fields), line)
         if not m:
             raise Refused(2)
-        g.add(k, tuple(int(x) if f is NUMBER else x for f, x in zip(FORMS[k], m.groups())))
+        v = tuple(int(x) if f is NUMBER else x for f, x in zip(fields, m.groups()))
+        g.add(k, fuller(k, v) if g.form == OLD else v)
     if k != 8:
         raise Refused(2)
     g.order()
@@ -147,8 +172,9 @@ def read(text):
 
 
 def name_sought(text, query):
+    """The name alone, without its kind."""
     try:
         rows = read(text).rows[QUERY]
     except Refused:
         return b""
-    return rows[query][1] if query < len(rows) else b""
+    return rows[query][2] if query < len(rows) else b""

@@ -1,8 +1,10 @@
 """What a query sees, from document 01 ("Paths", "The listing"): all simple paths of a query are enumerated, kept where they are lawful and end at the
-name, and compared with each other, two by two; `awaits` is decided by completions that are built."""
+name, and compared with each other, two by two; `awaits` is decided by completions that are built.
+
+A name is here a kind and a name (02, K8): a pair, whatever the file's form."""
 from fractions import Fraction
 
-from reference.gym_file import ACCEPT, DECLARED, EDGE, OPEN, ORDER, QUERY, SCOPES, STEP, Refused, read
+from reference.gym_file import ACCEPT, DECLARED, EDGE, KINDS, OPEN, ORDER, QUERY, SCOPES, STEP, Refused, read
 from reference.path_row import more_specific
 
 
@@ -16,9 +18,10 @@ class Gym:
         self.states = {0} | self.accept | {s for s, _ in self.next} | set(self.next.values())
         self.scopes = g.rows[SCOPES][0][0]
         self.edges = list(g.rows[EDGE])
-        self.declared = list(g.rows[DECLARED])
+        self.form = g.form
+        self.declared = [(at, (kind, name), mark) for at, kind, name, mark in g.rows[DECLARED]]
         self.opens = sorted(g.rows[OPEN], key=lambda row: (row[0], g.end_number(row[1])))
-        self.queries = list(g.rows[QUERY])
+        self.queries = [(start, (kind, name)) for start, kind, name in g.rows[QUERY]]
 
     def paths(self, start):
         """The steps of each path from a scope: along edges, no scope twice."""
@@ -91,7 +94,9 @@ class Gym:
             raise Refused(7)
         start, name = self.queries[query]
         entries = self.entries(start, name)
-        lines = [b"start seek found awaits", b"%d %s %s %s" % (start, name, found(start, entries), self.awaits(start, name)), b"mark path"]
+        shown = b" ".join(name) if self.form == KINDS else name[1]
+        names = b"start kind seek found awaits" if self.form == KINDS else b"start seek found awaits"
+        lines = [names, b"%d %s %s %s" % (start, shown, found(start, entries), self.awaits(start, name)), b"mark path"]
         for steps, mark in entries:
             lines.append(b"%d %d" % (mark, start) + b"".join(b"%s%d" % step for step in steps))
         return b"".join(line + b"\n" for line in lines)

@@ -1,5 +1,6 @@
-//! Answers the cases of `crates/trials/stdin` on standard output, in the form of the `stdout` beside it: a check of
-//! this implementation against answers made by other code. `tests/trials/cases/case_file.py` says how cases stand.
+//! Answers the cases of `crates/trials/stdin` on standard output, in the form of the `stdout`
+//! beside it: a check of this implementation against answers made by other code.
+//! `tests/trials/cases/case_file.py` says how cases stand.
 
 use plain::path_row::{self, Compared, PathRow, Step};
 use plain::{answers, gym};
@@ -51,12 +52,16 @@ fn read(text: &[u8], room: usize) -> String {
     }
 }
 
+/// Numbers in hexadecimal.
+fn numbers(body: &[u8]) -> Vec<u64> {
+    let text = std::str::from_utf8(body).expect("numbers");
+    text.split_whitespace()
+        .map(|w| u64::from_str_radix(w, 16).expect("a number"))
+        .collect()
+}
+
 fn write(body: &[u8], room: usize) -> String {
-    let text = std::str::from_utf8(body).expect("cells");
-    let words = text.split_whitespace();
-    let cells: Vec<u64> = words
-        .map(|w| u64::from_str_radix(w, 16).expect("a cell"))
-        .collect();
+    let cells = numbers(body);
     let mut out = vec![b'#'; room];
     match gym::write(&cells, &mut out) {
         Err(number) => format!("refused {number}, all {}\n", kept(&out, b'#')),
@@ -78,20 +83,69 @@ fn apart(row: &[u8], room: usize) -> String {
         .iter()
         .map(|s| format!(" {}{}", s.letter as char, s.scope))
         .collect();
-    let written = parts.write();
-    let fits = &written[..room.min(written.len())];
-    let head = format!(
-        "mark {} start {} steps {}{steps}",
+    format!(
+        "mark {} start {} steps {}{steps}, {}",
         parts.mark,
         parts.start,
-        parts.steps.len()
-    );
-    let same = back(fits == &row[..fits.len()]);
-    format!(
-        "{head}, written {} sum {}, rest kept, {same}\n",
-        fits.len(),
-        byte_sum(fits)
+        parts.steps.len(),
+        row_put(&parts.write(), room, row)
     )
+}
+
+/// A row put into a buffer of `room` bytes, and whether it is the one that is due.
+fn row_put(written: &[u8], room: usize, due: &[u8]) -> String {
+    if written.len() > room {
+        return "refused 9, all kept\n".to_string();
+    }
+    let (len, sum) = (written.len(), byte_sum(written));
+    format!(
+        "written {len} sum {sum}, rest kept, {}\n",
+        back(written == due)
+    )
+}
+
+/// A row from its parts: mark, start, how many steps, how many letters and scopes are lent, then 80
+/// of each. Past the lent ones a step has 0.
+fn from_parts(body: &[u8], room: usize) -> String {
+    let n = numbers(body);
+    let (mark, start, count) = (n[0], n[1], n[2]);
+    let lent = |len: u64, from: usize, i: u64| if i < len { n[from + i as usize] } else { 0 };
+    let step = |i: u64| (lent(n[3], 5, i), lent(n[4], 85, i));
+    let well = mark <= 65_535 && start < 64 && count <= 63;
+    if !well || !(0..count).all(|i| (65..=90).contains(&step(i).0) && step(i).1 < 64) {
+        return "refused 8, all kept\n".to_string();
+    }
+    let row = PathRow {
+        mark: mark as u16,
+        start: start as u8,
+        steps: (0..count)
+            .map(|i| Step {
+                letter: step(i).0 as u8,
+                scope: step(i).1 as u8,
+            })
+            .collect(),
+    };
+    let written = row.write();
+    let same = PathRow::parse(&written) == Some(row);
+    row_put(&written, room, if same { &written } else { b"" })
+}
+
+/// The places of the rows that leave a scope, above the first row of a later one.
+fn edge_rows(body: &[u8], scope: u64) -> String {
+    let cells = numbers(body);
+    let rows = cells.chunks_exact(6).enumerate();
+    let found = rows
+        .take_while(|(_, row)| row[1] <= scope)
+        .filter(|(_, row)| row[1] == scope)
+        .map(|(i, _)| format!(" {}", 6 * i));
+    format!("found{}\n", found.collect::<String>())
+}
+
+fn judge(text: &[u8], query: usize, row: &[u8], room: usize) -> String {
+    match answers::judge(text, query, row, &mut vec![BLANK; room]) {
+        Err(number) => format!("refused {number}\n"),
+        Ok(standing) => format!("{standing:?}\n").to_lowercase(),
+    }
 }
 
 fn compare(text: &[u8], first: &[u8], second: &[u8], n: usize, m: usize) -> String {
@@ -151,7 +205,10 @@ fn main() -> io::Result<()> {
                 "seeks <{}>\n",
                 String::from_utf8_lossy(gym::name_sought(text, number))
             ),
+            "p" if first.starts_with(b"=") => from_parts(&first[1..], room),
             "p" => apart(first, room),
+            "e" => edge_rows(text, number as u64),
+            "j" => judge(text, number, first, room),
             "c" => compare(text, first, second, number, room),
             "l" => listing(number),
             "s" => summary(),

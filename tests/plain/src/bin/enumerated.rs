@@ -1,12 +1,14 @@
-//! Holds the search against the enumerator: `enumerated [COUNT [SEED]]`, 20,000 random gyms if not said.
+//! Holds the search against the enumerator: `enumerated [COUNT [SEED]]`, 20,000 random gyms if not
+//! said.
 //!
 //! Same listing (entries, found, awaits), the same verdict on random path rows, comparison as the
 //! rules have it; a settled listing stays the same in random completions; reading and writing are
-//! inverse, on damaged files and tables too.
+//! inverse, on damaged files and tables too; an old file and the same file with every kind `v` give
+//! the same answers.
 
 use plain::answers::{self, Standing};
-use plain::enumerate::{self, Graph, Path, Verdict};
-use plain::gym::{self, Gym, Query};
+use plain::enumerate::{self, name_of, Graph, Name, Path, Verdict};
+use plain::gym::{self, Form, Gym, Query};
 use plain::path_row::{self, Compared, PathRow, Step};
 use plain::random::{self, Rng};
 use plain::search::{Rules, Search};
@@ -18,7 +20,9 @@ const BLANK: Step = Step {
 
 #[derive(Default, Debug)]
 struct Counts {
+    with_kinds: usize,
     listings: usize,
+    other_kind_reached: usize,
     unsettled: usize,
     several: usize,
     one_by_more_routes: usize,
@@ -53,15 +57,25 @@ fn path_of(gym: &Gym, row: &PathRow) -> Option<Path> {
     Some(path)
 }
 
-/// A random completion: rows at open pairs, new scopes with any rows.
-fn completion(rng: &mut Rng, gym: &Gym, name: u128) -> Graph {
+/// A random completion: rows at open pairs, new scopes with any rows; of the name sought and of the
+/// same in another kind.
+fn completion(rng: &mut Rng, gym: &Gym, sought: &Name) -> Graph {
     let mut graph = Graph::of(gym);
+    let other = ('w', sought.1.clone());
+    let name = |rng: &mut Rng| {
+        if rng.below(4) == 0 {
+            other.clone()
+        } else {
+            sought.clone()
+        }
+    };
     let old = graph.scopes;
     graph.scopes += rng.below(3);
     for &(scope, e) in &gym.open {
         for _ in 0..rng.below(3) {
             match enumerate::end(e) {
                 None => {
+                    let name = name(rng);
                     graph
                         .declarations
                         .push((scope as usize, name, 70_000 + rng.below(3) as u64))
@@ -74,6 +88,7 @@ fn completion(rng: &mut Rng, gym: &Gym, name: u128) -> Graph {
     }
     for new in old..graph.scopes {
         if rng.below(2) == 0 {
+            let name = name(rng);
             graph.declarations.push((new, name, rng.below(3) as u64));
         }
         for label in 0..graph.labels {
@@ -115,8 +130,12 @@ fn check_listing(
         fail(seed, "a short buffer", text);
     }
     let graph = Graph::of(gym);
-    let entries = graph.entries(query.start as usize, query.name);
+    let sought = name_of(query.name);
+    let entries = graph.entries(query.start as usize, &sought);
     c.listings += 1;
+    let others = "clv".chars().filter(|&k| k != sought.0);
+    let mut seen = others.map(|k| graph.entries(query.start as usize, &(k, sought.1.clone())));
+    c.other_kind_reached += usize::from(seen.any(|other| !other.is_empty()));
     let declarations = enumerate::declarations(&entries);
     let rules = Rules::new(gym);
     let by_scopes = Search::new(&rules, query.start, query.name).declarations_seen(2);
@@ -132,7 +151,7 @@ fn check_listing(
     }
     for _ in 0..3 {
         c.completions += 1;
-        if completion(rng, gym, query.name).entries(query.start as usize, query.name) != entries {
+        if completion(rng, gym, &sought).entries(query.start as usize, &sought) != entries {
             fail(seed, &format!("query {n} is not settled"), text);
         }
     }
@@ -170,7 +189,10 @@ fn check_rows(
         }
         let due = match path_of(gym, &parsed) {
             None => Verdict::Unreached,
-            Some(p) => graph.verdict(query.start as usize, query.name, &p, u64::from(parsed.mark)),
+            Some(p) => {
+                let (start, mark) = (query.start as usize, u64::from(parsed.mark));
+                graph.verdict(start, &name_of(query.name), &p, mark)
+            }
         };
         let mut table = [BLANK; 63];
         let got = answers::judge(text, n, row, &mut table);
@@ -272,6 +294,48 @@ fn check_inverse(seed: usize, rng: &mut Rng, text: &[u8], c: &mut Counts) {
     }
 }
 
+/// The old file's text with the kind `v` in every row that has one.
+fn with_kinds(text: &[u8]) -> Vec<u8> {
+    let mut section = 0;
+    let mut out = Vec::new();
+    for line in text.split_inclusive(|&b| b == b'\n') {
+        section += usize::from(line[0].is_ascii_lowercase());
+        let names: &[u8] = match line {
+            b"at name mark\n" => b"at kind name mark\n",
+            b"start seek\n" => b"start kind seek\n",
+            _ => line,
+        };
+        match names.iter().position(|&b| b == b' ') {
+            Some(space) if names == line && (section == 7 || section == 9) => {
+                out.extend([&line[..space], b" v", &line[space..]].concat())
+            }
+            _ => out.extend(names),
+        }
+    }
+    out
+}
+
+/// What the program prints without the heads' kinds.
+fn without_kinds(printed: Vec<u8>) -> String {
+    let printed = String::from_utf8(printed).expect("ASCII");
+    printed
+        .replace("start kind seek", "start seek")
+        .replace(" v ", " ")
+}
+
+/// An old file means what the same file with every kind `v` means.
+fn check_forms(seed: usize, text: &[u8]) {
+    let new = with_kinds(text);
+    let (mut a, mut b) = (vec![7; 12_300], vec![7; 12_300]);
+    let same = gym::read(text, &mut a) == gym::read(&new, &mut b) && (a[0], b[0]) == (0, 1);
+    if !same || a[1..] != b[1..] {
+        fail(seed, "other cells in the form with kinds", text);
+    }
+    if without_kinds(answers::program(&new)) != without_kinds(answers::program(text)) {
+        fail(seed, "other answers in the form with kinds", text);
+    }
+}
+
 fn check(seed: usize, c: &mut Counts) {
     let mut rng = Rng::new(seed as u64 + 1);
     let text = random::gym(&mut rng, random::SMALL);
@@ -279,9 +343,13 @@ fn check(seed: usize, c: &mut Counts) {
     for (n, &query) in gym.queries.iter().enumerate() {
         check_listing(seed, &mut rng, &text, &gym, n, query, c);
         check_rows(seed, &mut rng, &text, &gym, n, query, c);
-        if gym::pack(gym::name_sought(&text, n)) != query.name {
+        if gym::pack(gym::name_sought(&text, n)) != query.name.text {
             fail(seed, "name sought", &text);
         }
+    }
+    match gym.form {
+        Form::Old => check_forms(seed, &text),
+        Form::Kinds => c.with_kinds += 1,
     }
     let past = gym.queries.len();
     if answers::listing(&text, past, &mut []) != Err(7) || !gym::name_sought(&text, past).is_empty()

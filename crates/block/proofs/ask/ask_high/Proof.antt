@@ -1,6 +1,6 @@
 -- `ask_high` meets its contract. Assumes nothing.
 use borrow.Author.Needs.{needs}
-use Rattle.block.specs.Ask.{askHigh}
+use Rattle.block.specs.Ask.{askName}
 use Rattle.block.proofs.ask.ask_high.Statement.{statement}
 use Rattle.block.proofs.ask.ask_high.Tie as tie
 
@@ -8,7 +8,7 @@ shared-slice-read-result : tie.Need-shared-slice-read-result
 shared-slice-read-result c = search needs
 
 returns : tie.Need-returns
-unfolding askHigh
+unfolding askName
 returns c = search needs
 
 pub ask-high-spec : {M : Type 1} → statement M

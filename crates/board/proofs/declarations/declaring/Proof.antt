@@ -1,10 +1,10 @@
 use Prim.Native.Nat.{_-_}
 use mathlib.Core.Path.{_≡_, sym, ap, _∙_}
-use mathlib.Core.Bool.{_&&_}
 use borrow.Author.Tests.{not-true, not-false}
-use lib.Dec.{eqb}
 use lib.ListN.{length}
+use Rattle.scope_graph.specs.Rows.{sameName}
 use Rattle.graph_table.specs.declared.rows.DeclarationRow.{DeclarationRow}
+use Rattle.graph_table.specs.Values.{packed}
 use Rattle.board.proofs.DeclaringLaws.{Declaring, declaring-none, declaring-other, declaring-past, declaring-noted, declaring-all}
 use native.Mathlib.Omega.{arith}
 use borrow.Author.Needs.{needs}
@@ -12,10 +12,10 @@ use Rattle.board.proofs.declarations.declaring.Statement.{statement}
 use Rattle.board.proofs.declarations.declaring.Tie as tie
 
 abbrev Inv-loop : tie.InvT-loop
-Inv-loop rows high low out₀ p₀ out p = Declaring rows (record { high = high; low = low }) p out
+Inv-loop rows name out₀ p₀ out p = Declaring rows (packed name) p out
 
 abbrev μ-loop : tie.MeasureT-loop
-μ-loop rows high low out₀ p₀ out p = length rows - p
+μ-loop rows name out₀ p₀ out p = length rows - p
 
 loop-holds : tie.Need-loop-holds Inv-loop μ-loop
 loop-holds c = declaring-none (c .before .args .rows .now) _
@@ -29,16 +29,16 @@ declaration-row-requires c κs = omega arith
 add-p : tie.Need-add-p Inv-loop μ-loop
 add-p c = omega arith
 
-has-name-requires : tie.Need-has-name-requires Inv-loop μ-loop
-has-name-requires c κs = search needs
+same-name-requires : tie.Need-same-name-requires Inv-loop μ-loop
+same-name-requires c κs = search needs
 
 loop-less : tie.Need-loop-less Inv-loop μ-loop
 loop-less c = omega arith
 
 loop-again : tie.Need-loop-again Inv-loop μ-loop
 loop-again c = let a = c .before .before .before .before .before .before .args in let so = c .before .before .before .before .loop in
-    declaring-other (a .rows .now) (record { high = a .high; low = a .low }) (so .p) (so .out) (so .inv) (c .before .before .before .loop-test .taken)
-    (sym (c .before .has-name .ensures ∙ ap (λ (row : DeclarationRow). eqb (row .high) (a .high) && eqb (row .low) (a .low)) (c .before .before .declaration-row .ensures)) ∙ not-true (c .before .has-name .result) (c .if1 .taken))
+    declaring-other (a .rows .now) (packed (a .name)) (so .p) (so .out) (so .inv) (c .before .before .before .loop-test .taken)
+    (sym (c .before .same-name .ensures ∙ ap (λ (row : DeclarationRow). sameName (packed (row .name)) (packed (a .name))) (c .before .before .declaration-row .ensures)) ∙ not-true (c .before .same-name .result) (c .if1 .taken))
 
 loop-less-2 : tie.Need-loop-less-2 Inv-loop μ-loop
 loop-less-2 c = omega arith
@@ -47,7 +47,7 @@ loop-again-2 : tie.Need-loop-again-2 Inv-loop μ-loop
 loop-again-2 c = let a = c .before .before .before .before .before .before .before .args in let so = c .before .before .before .before .before .loop in
     let at = ap (λ (row : DeclarationRow). row .at) (c .before .before .before .declaration-row .ensures) in
     let past = c .if2 .taken in
-    declaring-past (a .rows .now) (record { high = a .high; low = a .low }) (so .p) (so .out) (so .inv) (c .before .before .before .before .loop-test .taken) (omega arith)
+    declaring-past (a .rows .now) (packed (a .name)) (so .p) (so .out) (so .inv) (c .before .before .before .before .loop-test .taken) (omega arith)
 
 shl-out : tie.Need-shl-out Inv-loop μ-loop
 shl-out c = omega arith
@@ -60,12 +60,12 @@ loop-again-3 c = let a = c .before .before .before .before .before .before .befo
     let at = ap (λ (row : DeclarationRow). row .at) (c .before .before .before .declaration-row .ensures) in
     let few = c .if2 .left in
     rw at
-    (declaring-noted (a .rows .now) (record { high = a .high; low = a .low }) (so .p) (so .out) (so .inv) (c .before .before .before .before .loop-test .taken)
-    (sym (c .before .before .has-name .ensures ∙ ap (λ (row : DeclarationRow). eqb (row .high) (a .high) && eqb (row .low) (a .low)) (c .before .before .before .declaration-row .ensures)) ∙ not-false (c .before .before .has-name .result) (c .before .if1 .left))
+    (declaring-noted (a .rows .now) (packed (a .name)) (so .p) (so .out) (so .inv) (c .before .before .before .before .loop-test .taken)
+    (sym (c .before .before .same-name .ensures ∙ ap (λ (row : DeclarationRow). sameName (packed (row .name)) (packed (a .name))) (c .before .before .before .declaration-row .ensures)) ∙ not-false (c .before .before .same-name .result) (c .before .if1 .left))
     (omega arith))
 
 returns : tie.Need-returns Inv-loop μ-loop
-returns c = let a = c .before .before .before .args in declaring-all (a .rows .now) (record { high = a .high; low = a .low }) (c .before .loop .p) (c .before .loop .out) (c .before .loop .inv) (c .loop-test .left)
+returns c = let a = c .before .before .before .args in declaring-all (a .rows .now) (packed (a .name)) (c .before .loop .p) (c .before .loop .out) (c .before .loop .inv) (c .loop-test .left)
 
 pub declaring-spec : {M : Type 1} → statement M
 declaring-spec =
@@ -77,7 +77,7 @@ declaring-spec =
     sub-loop
     declaration-row-requires
     add-p
-    has-name-requires
+    same-name-requires
     loop-less
     loop-again
     loop-less-2

@@ -1,8 +1,8 @@
-use native.Mathlib.Omega.{arith}
+use mathlib.Core.Path.{sym}
 use borrow.Author.Tests.{le-leb, lt-leb}
 use Rattle.graph_file.specs.Admission.{contentInRange}
 use Rattle.graph_file.specs.Table.{contentOf}
-use Rattle.graph_file.proofs.FormatLaws.{content-name}
+use Rattle.graph_file.proofs.FormatLaws.{content-free}
 use Rattle.graph_file.proofs.admission.content_in_range.Statement.{statement}
 use Rattle.graph_file.proofs.admission.content_in_range.Tie as tie
 use Rattle.graph_file.proofs.admission.content_in_range.Reads as reads
@@ -42,7 +42,7 @@ returns-8 c = rw (c .match .keys7)
 
 returns-9 : tie.Need-returns-9
 unfolding contentInRange contentOf
-returns-9 c = let r = c .match .rest in rw (content-name (c .before .args .content) (r .0 .0 .0 .0 .0 .0 .1) (r .0 .0 .0 .0 .0 .1) (r .0 .0 .0 .0 .1) (r .0 .0 .0 .1) (r .0 .0 .1) (r .0 .1) (r .1))
+returns-9 c = let r = c .match .rest in sym (content-free _ _ (c .before .args .content) _ (r .0 .0 .0 .0 .0 .0 .1) (r .0 .0 .0 .0 .0 .1) (r .0 .0 .0 .0 .1) (r .0 .0 .0 .1) (r .0 .0 .1) (r .0 .1) (r .1))
 
 pub content-in-range-spec : {M : Type 1} → statement M
 content-in-range-spec =

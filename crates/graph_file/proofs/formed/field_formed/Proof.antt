@@ -1,10 +1,10 @@
-use Rattle.graph_file.proofs.FormatLaws.{content-name}
-use Rattle.text_field.specs.Bytes.{within, isCapital}
-use Rattle.graph_file.specs.Table.{contentOf}
-use Rattle.graph_file.specs.Line.{fieldFormed}
-use borrow.Author.Tests.{le-leb, lt-leb}
-use native.Mathlib.Omega.{arith}
 use mathlib.Core.Path.{sym, _∙_}
+use native.Mathlib.Omega.{arith}
+use borrow.Author.Tests.{le-leb, lt-leb}
+use Rattle.text_field.specs.Bytes.{within, isCapital, isLower}
+use Rattle.graph_file.specs.Line.{fieldFormed}
+use Rattle.graph_file.specs.Table.{contentOf}
+use Rattle.graph_file.proofs.FormatLaws.{content-plain}
 use Rattle.graph_file.proofs.WriteLaws.{formed-number}
 use borrow.Author.Needs.{needs}
 use Rattle.graph_file.proofs.formed.field_formed.Statement.{statement}
@@ -37,8 +37,31 @@ returns-5 c = rw (c .match .keys3)
 
 returns-6 : tie.Need-returns-6
 unfolding fieldFormed contentOf
-returns-6 c = let r = c .before .match .rest in c .is-name .ensures ∙ sym (rw (content-name (c .before .before .before .args .content) (omega arith) (omega arith) (omega arith) (omega arith) (r .0 .0 .1) (r .0 .1) (r .1)))
+returns-6 c = c .is-name .ensures ∙ sym (rw (c .before .match .keys4))
+
+returns-7 : tie.Need-returns-7
+unfolding fieldFormed contentOf within isLower
+returns-7 c = rw (c .before .match .keys5, le-leb _ _ (c .if3 .taken))
+
+returns-8 : tie.Need-returns-8
+unfolding fieldFormed contentOf within isLower
+returns-8 c = rw (c .before .match .keys5, lt-leb _ _ (c .if3 .left))
+
+returns-9 : tie.Need-returns-9
+unfolding fieldFormed
+returns-9 c = let r = c .match .rest in sym (rw (content-plain (c .before .before .args .content) (omega (arith, c .before .if1 .left, r .0 .0 .0 .0 .1, r .0 .0 .0 .1, r .0 .0 .1, r .0 .1, r .1))))
 
 pub field-formed-spec : {M : Type 1} → statement M
 field-formed-spec =
-    tie.close (tie.spec returns is-name-requires returns-2 returns-3 returns-4 returns-5 returns-6)
+    tie.close
+    (tie.spec
+    returns
+    is-name-requires
+    returns-2
+    returns-3
+    returns-4
+    returns-5
+    returns-6
+    returns-7
+    returns-8
+    returns-9)

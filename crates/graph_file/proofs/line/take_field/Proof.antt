@@ -1,9 +1,10 @@
 use mathlib.Core.Path.{sym, _∙_}
-use Rattle.graph_file.proofs.LineLaws.{field-number, first-at}
-use Rattle.graph_file.proofs.FormatLaws.{content-name}
 use native.Mathlib.Omega.{arith}
 use Rattle.graph_file.specs.Line.{readField}
 use Rattle.graph_file.specs.Table.{contentOf}
+use Rattle.graph_file.specs.Reader.{took}
+use Rattle.graph_file.proofs.FormatLaws.{content-plain}
+use Rattle.graph_file.proofs.LineLaws.{field-number, first-at}
 use borrow.Author.Needs.{needs}
 use Rattle.graph_file.proofs.line.take_field.Statement.{statement}
 use Rattle.graph_file.proofs.line.take_field.Tie as tie
@@ -16,6 +17,7 @@ use Rattle.graph_file.proofs.line.take_number.Reads as take-number-read
 use Rattle.graph_file.proofs.rows.label_place.Reads as label-place-reads
 use Rattle.text_field.proofs.byte_at.Reads as byte-at-reads
 use Rattle.text_field.proofs.is_capital.Reads as is-capital-reads
+use Rattle.text_field.proofs.is_lower.Reads as is-lower-reads
 
 take-number-requires : tie.Need-take-number-requires
 take-number-requires c κs = search needs
@@ -56,6 +58,15 @@ take-end-requires c κs = search needs
 take-name-requires : tie.Need-take-name-requires
 take-name-requires c κs = search needs
 
+is-lower-requires : tie.Need-is-lower-requires
+is-lower-requires c κs = search needs
+
+cast-take-byte-3 : tie.Need-cast-take-byte-3
+cast-take-byte-3 c = search needs
+
+take-byte-requires-3 : tie.Need-take-byte-requires-3
+take-byte-requires-3 c κs = search needs
+
 returns-2 : tie.Need-returns-2
 unfolding readField contentOf
 returns-2 c = let a = c .before .before .before .before .before .before .before .args in c .take-byte .ensures ∙ sym (rw (c .before .before .match .keys1, first-at (a .text .now) (a .at), ← c .before .before .before .byte-at .ensures, ← c .before .is-capital .ensures))
@@ -69,8 +80,16 @@ unfolding readField contentOf
 returns-4 c = let a = c .before .before .before .before .before .before .args in c .take-end .ensures ∙ sym (rw (c .before .match .keys3, first-at (a .text .now) (a .at), ← c .before .before .byte-at .ensures))
 
 returns-5 : tie.Need-returns-5
-unfolding readField
-returns-5 c = let a = c .before .before .before .before .before .before .args in let r = c .before .match .rest in c .take-name .ensures ∙ sym (rw (content-name (a .content) (omega arith) (omega arith) (omega arith) (omega arith) (r .0 .0 .1) (r .0 .1) (r .1)))
+unfolding readField contentOf
+returns-5 c = c .take-name .ensures ∙ sym (rw (c .before .match .keys4))
+
+returns-6 : tie.Need-returns-6
+unfolding readField contentOf
+returns-6 c = let a = c .before .before .before .before .before .before .before .args in c .take-byte3 .ensures ∙ sym (rw (c .before .before .match .keys5, first-at (a .text .now) (a .at), ← c .before .before .before .byte-at .ensures, ← c .before .is-lower .ensures))
+
+returns-7 : tie.Need-returns-7
+unfolding readField took
+returns-7 c = let a = c .before .before .before .before .before .args in let r = c .match .rest in sym (rw (content-plain (a .content) (omega (arith, c .before .before .if1 .left, r .0 .0 .0 .0 .1, r .0 .0 .0 .1, r .0 .0 .1, r .0 .1, r .1))))
 
 pub take-field-spec : {M : Type 1} → statement M
 take-field-spec =
@@ -89,7 +108,12 @@ take-field-spec =
     take-byte-requires-2
     take-end-requires
     take-name-requires
+    is-lower-requires
+    cast-take-byte-3
+    take-byte-requires-3
     returns-2
     returns-3
     returns-4
-    returns-5)
+    returns-5
+    returns-6
+    returns-7)

@@ -1,12 +1,12 @@
 use Prim.Native.Nat.{_%_}
-use Rattle.graph_file.specs.Table.{lettersAt}
-use lib.ListN.{drop}
-use Rattle.graph_file.proofs.WriteLaws.{put-text, text-letter, text-label, text-end, text-name}
-use Rattle.graph_file.proofs.FormatLaws.{content-name}
-use Rattle.text_field.specs.Buffer.{puts}
+use mathlib.Core.Path.{sym, ap, _∙_}
 use native.Mathlib.Omega.{arith}
-use mathlib.Core.Path.{_∙_, ap}
-use Rattle.graph_file.proofs.WriteLaws.{text-number}
+use lib.ListN.{drop}
+use Rattle.text_field.specs.Buffer.{puts}
+use Rattle.text_field.proofs.BufferLaws.{puts-none}
+use Rattle.graph_file.specs.Table.{lettersAt}
+use Rattle.graph_file.proofs.FormatLaws.{content-plain}
+use Rattle.graph_file.proofs.WriteLaws.{put-text, text-number, text-letter, text-label, text-end, text-name, text-kind, text-plain}
 use borrow.Author.Needs.{needs}
 use Rattle.graph_file.proofs.line_text.put_field.Statement.{statement}
 use Rattle.graph_file.proofs.line_text.put_field.Tie as tie
@@ -52,6 +52,12 @@ put-byte-requires-3 c κs = search needs
 put-name-requires : tie.Need-put-name-requires
 put-name-requires c κs = search needs
 
+byte-of-requires-3 : tie.Need-byte-of-requires-3
+byte-of-requires-3 c κs = search needs
+
+put-byte-requires-4 : tie.Need-put-byte-requires-4
+put-byte-requires-4 c κs = search needs
+
 same-length-2 : tie.Need-same-length-2
 same-length-2 c = search needs
 
@@ -74,7 +80,16 @@ same-length-5 : tie.Need-same-length-5
 same-length-5 c = search needs
 
 returns-5 : tie.Need-returns-5
-returns-5 c = let a = c .before .before .before .before .before .before .before .before .args in let r = c .before .before .before .before .match .rest in c .before .before .put-name .ensures ∙ ap (puts _) (text-name (lettersAt (a .labels) (drop 1 (a .table .now))) (a .content) (a .v) (a .w) (content-name (a .content) (omega arith) (omega arith) (omega arith) (omega arith) (r .0 .0 .1) (r .0 .1) (r .1)))
+returns-5 c = let a = c .before .before .before .before .before .before .before .before .args in c .before .before .put-name .ensures ∙ ap (puts _) (text-name (lettersAt (a .labels) (drop 1 (a .table .now))) (a .content) (a .v) (a .w) (c .before .before .before .before .match .keys4))
+
+same-length-6 : tie.Need-same-length-6
+same-length-6 c = search needs
+
+returns-6 : tie.Need-returns-6
+returns-6 c = let a = c .before .before .before .before .before .before .before .before .before .args in put-text _ _ _ _ _ (c .before .before .put-byte4 .ensures) (c .before .before .before .byte-of3 .ensures) (text-kind (lettersAt (a .labels) (drop 1 (a .table .now))) (a .content) (a .v) (a .w) (c .before .before .before .before .before .match .keys5))
+
+returns-7 : tie.Need-returns-7
+returns-7 c = let a = c .before .before .before .before .args in let r = c .match .rest in puts-none _ _ (sym (text-plain (lettersAt (a .labels) (drop 1 (a .table .now))) (a .content) (a .v) (a .w) (content-plain (a .content) (omega (arith, c .before .if1 .left, r .0 .0 .0 .0 .1, r .0 .0 .0 .1, r .0 .0 .1, r .0 .1, r .1)))))
 
 pub put-field-spec : {M : Type 1} → statement M
 put-field-spec =
@@ -91,6 +106,8 @@ put-field-spec =
     end-byte-requires
     put-byte-requires-3
     put-name-requires
+    byte-of-requires-3
+    put-byte-requires-4
     same-length-2
     returns-2
     same-length-3
@@ -98,4 +115,7 @@ put-field-spec =
     same-length-4
     returns-4
     same-length-5
-    returns-5)
+    returns-5
+    same-length-6
+    returns-6
+    returns-7)

@@ -18,7 +18,7 @@ use Rattle.graph_file.proofs.admission.admitted.Reads as admitted-reads
 use Rattle.graph_file.proofs.cells.put_row.Reads as put-row-reads
 use Rattle.graph_file.proofs.format.row_place.Reads as row-place-reads
 use Rattle.graph_file.proofs.line.read_line.Reads as read-line-reads
-use Rattle.graph_file.proofs.reader.counts_after.Reads as counts-after-reads
+use Rattle.graph_file.proofs.rows.counts_after.Reads as counts-after-reads
 
 row-place-requires : tie.Need-row-place-requires
 row-place-requires c κs = search needs
@@ -44,7 +44,7 @@ same-length-2 c = search needs
 
 returns-2 : tie.Need-returns-2
 unfolding partOutcome
-returns-2 c = let a = c .before .before .before .before .before .before .before .before .before .before .before .before .before .before .before .before .args in let q = c .before .before .before .before .before .before .before .before .before .before .before .before .before .before .before .before .pre .1 in let l = c .before .before .before .before .before .before .before .before .before .before .read-line .result in let w : length (l .row) ≡ 5 = line-length _ _ blank _ (a .part .now) l (c .before .before .before .before .before .before .before .before .before .before .read-line .ensures) (not-false _ (c .before .before .before .before .before .before .before .before .if1 .left)) in (one-not (a .form) (a .k) (a .n) (a .table .now) (a .part .now) (a .at) (a .c) l (c .before .before .before .before .before .before .before .before .before .before .read-line .ensures ∙ ap (λ (o : ℕ). readItems (lettersAt (a .c .labels) (drop 1 (a .table .now))) (itemsAt o) blank (drop (a .at) (a .part .now))) (c .before .before .before .before .before .before .before .before .before .before .before .row-place .ensures)) (q .2) (not-false _ (c .before .before .before .before .before .before .before .before .if1 .left)) (q .0) w (c .before .before .before .before .before .put-row .last .0) (put-grown _ _ _ _ _ _ (q .0) w (c .before .before .before .before .before .put-row .ensures)) (c .before .admitted .result) _ (c .before .admitted .ensures) (c .if2 .taken), λ z. absurd (c .if2 .taken z))
+returns-2 c = let a = c .before .before .before .before .before .before .before .before .before .before .before .before .before .before .before .before .args in let q = c .before .before .before .before .before .before .before .before .before .before .before .before .before .before .before .before .pre .1 in let l = c .before .before .before .before .before .before .before .before .before .before .read-line .result in let w : length (l .row) ≡ 5 = line-length _ _ blank _ (a .part .now) l (c .before .before .before .before .before .before .before .before .before .before .read-line .ensures) (not-false _ (c .before .before .before .before .before .before .before .before .if1 .left)) in (one-not (a .form) (a .k) (a .n) (a .table .now) (a .part .now) (a .at) (a .c) l (c .before .before .before .before .before .before .before .before .before .before .read-line .ensures ∙ ap (λ (o : ℕ). readItems (lettersAt (a .c .labels) (drop 1 (a .table .now))) (itemsAt o) blank (drop (a .at) (a .part .now))) (c .before .before .before .before .before .before .before .before .before .before .before .row-place .ensures)) (q .2) (not-false _ (c .before .before .before .before .before .before .before .before .if1 .left)) (q .0) w (c .before .before .before .before .before .put-row .last .0) (put-grown _ _ _ _ _ _ (q .0) w (c .before .before .before .before .before .put-row .ensures)) (c .before .admitted .result) _ (c .before .admitted .ensures (a .form)) (c .if2 .taken), λ z. absurd (c .if2 .taken z))
 
 array-read-counts-after : tie.Need-array-read-counts-after
 array-read-counts-after c = search needs
@@ -60,7 +60,7 @@ same-length-3 c = search needs
 
 returns-3 : tie.Need-returns-3
 unfolding partOutcome countsAfter
-returns-3 c = let a = c .before .before .before .before .before .before .before .before .before .before .before .before .before .before .before .before .before .args in let q = c .before .before .before .before .before .before .before .before .before .before .before .before .before .before .before .before .before .pre .1 in let l = c .before .before .before .before .before .before .before .before .before .before .before .read-line .result in let w : length (l .row) ≡ 5 = line-length _ _ blank _ (a .part .now) l (c .before .before .before .before .before .before .before .before .before .before .before .read-line .ensures) (not-false _ (c .before .before .before .before .before .before .before .before .before .if1 .left)) in let f : c .counts-after .result ≡ countsAfter (a .k) (a .c) (value (l .row) 0) = c .counts-after .ensures in (rw f (one-taken (a .form) (a .k) (a .n) (a .table .now) (a .part .now) (a .at) (a .c) l (c .before .before .before .before .before .before .before .before .before .before .before .read-line .ensures ∙ ap (λ (o : ℕ). readItems (lettersAt (a .c .labels) (drop 1 (a .table .now))) (itemsAt o) blank (drop (a .at) (a .part .now))) (c .before .before .before .before .before .before .before .before .before .before .before .before .row-place .ensures)) (q .2) (not-false _ (c .before .before .before .before .before .before .before .before .before .if1 .left)) (q .0) w (c .before .before .before .before .before .before .put-row .last .0) (put-grown _ _ _ _ _ _ (q .0) w (c .before .before .before .before .before .before .put-row .ensures)) (c .before .before .admitted .result) (c .before .before .admitted .ensures) (c .before .if2 .left)), λ z. rw f (record { room = one-room (a .form) (a .k) (a .n) (a .table .now) (a .part .now) (a .at) (a .c) l (c .before .before .before .before .before .before .before .before .before .before .before .read-line .ensures ∙ ap (λ (o : ℕ). readItems (lettersAt (a .c .labels) (drop 1 (a .table .now))) (itemsAt o) blank (drop (a .at) (a .part .now))) (c .before .before .before .before .before .before .before .before .before .before .before .before .row-place .ensures)) (q .2) (not-false _ (c .before .before .before .before .before .before .before .before .before .if1 .left)) (q .0) w (c .before .before .before .before .before .before .put-row .last .0) (put-grown _ _ _ _ _ _ (q .0) w (c .before .before .before .before .before .before .put-row .ensures)) (c .before .before .admitted .result) (c .before .before .admitted .ensures) (c .before .if2 .left); longer = refl; more = refl; placed = placed-after (a .k) (a .n) (a .c) (value (l .row) 0) (q .2) }))
+returns-3 c = let a = c .before .before .before .before .before .before .before .before .before .before .before .before .before .before .before .before .before .args in let q = c .before .before .before .before .before .before .before .before .before .before .before .before .before .before .before .before .before .pre .1 in let l = c .before .before .before .before .before .before .before .before .before .before .before .read-line .result in let w : length (l .row) ≡ 5 = line-length _ _ blank _ (a .part .now) l (c .before .before .before .before .before .before .before .before .before .before .before .read-line .ensures) (not-false _ (c .before .before .before .before .before .before .before .before .before .if1 .left)) in let f : c .counts-after .result ≡ countsAfter (a .k) (a .c) (value (l .row) 0) = c .counts-after .ensures in (rw f (one-taken (a .form) (a .k) (a .n) (a .table .now) (a .part .now) (a .at) (a .c) l (c .before .before .before .before .before .before .before .before .before .before .before .read-line .ensures ∙ ap (λ (o : ℕ). readItems (lettersAt (a .c .labels) (drop 1 (a .table .now))) (itemsAt o) blank (drop (a .at) (a .part .now))) (c .before .before .before .before .before .before .before .before .before .before .before .before .row-place .ensures)) (q .2) (not-false _ (c .before .before .before .before .before .before .before .before .before .if1 .left)) (q .0) w (c .before .before .before .before .before .before .put-row .last .0) (put-grown _ _ _ _ _ _ (q .0) w (c .before .before .before .before .before .before .put-row .ensures)) (c .before .before .admitted .result) (c .before .before .admitted .ensures (a .form)) (c .before .if2 .left)), λ z. rw f (record { room = one-room (a .form) (a .k) (a .n) (a .table .now) (a .part .now) (a .at) (a .c) l (c .before .before .before .before .before .before .before .before .before .before .before .read-line .ensures ∙ ap (λ (o : ℕ). readItems (lettersAt (a .c .labels) (drop 1 (a .table .now))) (itemsAt o) blank (drop (a .at) (a .part .now))) (c .before .before .before .before .before .before .before .before .before .before .before .before .row-place .ensures)) (q .2) (not-false _ (c .before .before .before .before .before .before .before .before .before .if1 .left)) (q .0) w (c .before .before .before .before .before .before .put-row .last .0) (put-grown _ _ _ _ _ _ (q .0) w (c .before .before .before .before .before .before .put-row .ensures)) (c .before .before .admitted .result) (c .before .before .admitted .ensures (a .form)) (c .before .if2 .left); longer = refl; more = refl; placed = placed-after (a .k) (a .n) (a .c) (value (l .row) 0) (q .2) }))
 
 pub read-row-spec : {M : Type 1} → statement M
 read-row-spec =

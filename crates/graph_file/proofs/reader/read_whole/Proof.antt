@@ -2,8 +2,8 @@ use mathlib.Core.Path.{refl, sym, _∙_}
 use native.Mathlib.Omega.{arith}
 use Rattle.graph_file.specs.Reader.{partOutcome, refusedOr}
 use Rattle.graph_file.proofs.SectionLaws.{whole-long, whole-refused, whole-fault, whole-done}
-use Rattle.graph_file.specs.Format.{labels, pairs, transitions, accepts, scopeCount, edges, declarations, openPairs, queries, pastLast, sections, shapesOf}
-use Rattle.graph_file.specs.Table.{contentNumber, code, layout, layouts, formatBytes}
+use Rattle.graph_file.specs.Format.{labels, pairs, transitions, accepts, scopeCount, edges, declarations, openPairs, queries, pastLast, sections, hasKinds, declarationShape, queryShape, shapesOf}
+use Rattle.graph_file.specs.Table.{contentNumber, code, shapeBytes, hasRange, keptRanged, ranged, layout, layouts, formatBytes}
 use borrow.Author.Needs.{needs}
 use Rattle.graph_file.proofs.reader.read_whole.Statement.{statement}
 use Rattle.graph_file.proofs.reader.read_whole.Tie as tie
@@ -14,20 +14,20 @@ use Rattle.graph_file.proofs.reader.read_sections.Reads as read-section
 
 returns : tie.Need-returns
 unfolding partOutcome refusedOr
-returns c = (whole-long (c .before .before .before .args .text .now) (c .if1 .taken), λ z. absurd (omega arith))
+returns c = (whole-long (c .before .before .before .args .text .now) (c .if1 .taken), (λ z. absurd (omega arith), λ z. absurd (omega arith)))
 
 slice-aggregate-read-sections : tie.Need-slice-aggregate-read-sections
 slice-aggregate-read-sections c = search needs
 
 read-sections-requires : tie.Need-read-sections-requires
-unfolding labels pairs transitions accepts scopeCount edges declarations openPairs queries pastLast sections shapesOf contentNumber code layout layouts formatBytes
+unfolding labels pairs transitions accepts scopeCount edges declarations openPairs queries pastLast sections hasKinds declarationShape queryShape shapesOf contentNumber code shapeBytes hasRange keptRanged ranged layout layouts formatBytes
 read-sections-requires c κs = (refl, c .before .before .before .before .before .pre)
 
 same-length : tie.Need-same-length
 same-length c = search needs
 
 returns-2 : tie.Need-returns-2
-returns-2 c = let a = c .before .before .before .before .before .before .before .before .before .before .args in (whole-refused (a .text .now) (c .before .before .before .before .read-sections .last .1 .1 .0) (c .before .before .before .before .before .before .before .if1 .left) (c .before .before .before .before .read-sections .result) (c .before .before .before .before .read-sections .ensures .0) (c .if2 .taken), λ z. absurd (c .if2 .taken z))
+returns-2 c = let a = c .before .before .before .before .before .before .before .before .before .before .args in (whole-refused (a .text .now) (c .before .before .before .before .read-sections .last .1 .1 .0) (c .before .before .before .before .before .before .before .if1 .left) (c .before .before .before .before .read-sections .result) (c .before .before .before .before .read-sections .ensures .0) (c .if2 .taken), (λ z. absurd (c .if2 .taken z), λ z. absurd (c .if2 .taken z)))
 
 order-fault-requires : tie.Need-order-fault-requires
 order-fault-requires c κs = search needs
@@ -37,7 +37,7 @@ same-length-2 c = search needs
 
 returns-3 : tie.Need-returns-3
 unfolding partOutcome refusedOr
-returns-3 c = let a = c .before .before .before .before .before .before .before .before .before .before .before .before .before .before .args in (whole-fault (a .text .now) (c .before .before .before .before .before .before .before .before .read-sections .last .1 .1 .0) (c .before .before .before .before .before .before .before .before .before .before .before .if1 .left) (c .before .before .before .before .before .before .before .before .read-sections .result) (c .before .before .before .before .before .before .before .before .read-sections .ensures .0) (c .before .before .before .before .if2 .left) (sym (c .before .order-fault .ensures) ∙ c .if3 .taken), λ z. absurd (omega arith))
+returns-3 c = let a = c .before .before .before .before .before .before .before .before .before .before .before .before .before .before .args in (whole-fault (a .text .now) (c .before .before .before .before .before .before .before .before .read-sections .last .1 .1 .0) (c .before .before .before .before .before .before .before .before .before .before .before .if1 .left) (c .before .before .before .before .before .before .before .before .read-sections .result) (c .before .before .before .before .before .before .before .before .read-sections .ensures .0) (c .before .before .before .before .if2 .left) (sym (c .before .order-fault .ensures) ∙ c .if3 .taken), (λ z. absurd (omega arith), λ z. absurd (omega arith)))
 
 same-length-3 : tie.Need-same-length-3
 same-length-3 c = search needs

@@ -1,53 +1,38 @@
-use mathlib.Core.Path.{_≡_, sym, _∙_}
-use lib.ListN.{drop}
-use Rattle.text_field.specs.declared.NumberRead.the-variants.{Number}
-use Rattle.text_field.specs.Number.{numberHere, numberPlaced}
-use Rattle.graph_file.proofs.SoughtLaws.{no-number, ends-there, no-space, spaced}
+use Rattle.graph_file.proofs.SoughtStart.{start-plain, start-kinds}
 use borrow.Author.Needs.{needs}
 use Rattle.graph_file.proofs.sought.name_start.Statement.{statement}
 use Rattle.graph_file.proofs.sought.name_start.Tie as tie
 use Rattle.graph_file.proofs.sought.name_start.Reads as reads
 use Rattle.graph_file.proofs.sought.name_start.Lts as lts
-use Rattle.text_field.proofs.byte_at.Reads as byte-at-reads
-use Rattle.text_field.proofs.read_number.Reads as read-number-reads
+use Rattle.graph_file.proofs.sought.past_kind.Reads as past-kind-reads
+use Rattle.graph_file.proofs.sought.past_number.Reads as past-number-reads
+use Rattle.graph_file.proofs.sought.past_space.Reads as past-space-reads
 
-read-number-requires : tie.Need-read-number-requires
-read-number-requires c κs = search needs
+past-number-requires : tie.Need-past-number-requires
+past-number-requires c κs = search needs
 
-enum-known-a : tie.Need-enum-known-a
-enum-known-a c = search needs
-
-enum-told : tie.Need-enum-told
-enum-told c = search needs
+past-space-requires : tie.Need-past-space-requires
+past-space-requires c κs = search needs
 
 returns : tie.Need-returns
-returns c = no-number (c .before .before .before .before .args .form) (c .before .before .before .before .args .text .now) (c .before .before .before .before .args .at) (sym (c .enum-told .given .1) ∙ c .before .before .read-number .ensures)
+returns c = let a = c .before .before .before .before .args in start-plain (a .text .now) (a .at) (c .before .before .past-number .result) (c .before .past-space .result) (c .before .before .past-number .ensures .0) (c .before .past-space .ensures .0) (a .form) (c .if1 .taken) (c .before .past-space .ensures .1)
+
+past-kind-requires : tie.Need-past-kind-requires
+past-kind-requires c κs = search needs
+
+past-space-requires-2 : tie.Need-past-space-requires-2
+past-space-requires-2 c κs = search needs
 
 returns-2 : tie.Need-returns-2
-returns-2 c = let t = c .before .before .before .before .before .before .args .text .now in let at = c .before .before .before .before .before .before .args .at in let v = c .before .before .a .given .0 .0 in let a = c .before .before .a .given .0 .1 .0 in let e : Number v a ≡ numberPlaced at (numberHere (drop at t)) = sym (c .before .before .a .given .1) ∙ c .before .before .before .before .read-number .ensures in ends-there (c .before .before .before .before .before .before .args .form) t at v a e (c .if1 .taken)
-
-byte-at-requires : tie.Need-byte-at-requires
-byte-at-requires c κs = search needs
-
-returns-3 : tie.Need-returns-3
-returns-3 c = let t = c .before .before .before .before .before .before .before .before .args .text .now in let at = c .before .before .before .before .before .before .before .before .args .at in let v = c .before .before .before .before .a .given .0 .0 in let a = c .before .before .before .before .a .given .0 .1 .0 in let e : Number v a ≡ numberPlaced at (numberHere (drop at t)) = sym (c .before .before .before .before .a .given .1) ∙ c .before .before .before .before .before .before .read-number .ensures in no-space (c .before .before .before .before .before .before .before .before .args .form) t at v a e (c .before .before .if1 .left) (λ z. c .if2 .taken (c .before .byte-at .ensures ∙ z))
-
-add-result : tie.Need-add-result
-add-result c = search needs
-
-returns-4 : tie.Need-returns-4
-returns-4 c = let t = c .before .before .before .before .before .before .before .before .args .text .now in let at = c .before .before .before .before .before .before .before .before .args .at in let v = c .before .before .before .before .a .given .0 .0 in let a = c .before .before .before .before .a .given .0 .1 .0 in let e : Number v a ≡ numberPlaced at (numberHere (drop at t)) = sym (c .before .before .before .before .a .given .1) ∙ c .before .before .before .before .before .before .read-number .ensures in spaced (c .before .before .before .before .before .before .before .before .args .form) t at v a e (c .before .before .if1 .left) (sym (c .before .byte-at .ensures) ∙ c .if2 .left)
+returns-2 c = let a = c .before .before .before .before .before .before .args in start-kinds (a .text .now) (a .at) (c .before .before .before .before .past-number .result) (c .before .before .before .past-space .result) (c .before .before .before .before .past-number .ensures .0) (c .before .before .before .past-space .ensures .0) (a .form) (c .before .past-kind .result) (c .past-space2 .result) (c .before .before .if1 .left) (c .before .past-kind .ensures .0) (c .past-space2 .ensures .0) (c .past-space2 .ensures .1)
 
 pub name-start-spec : {M : Type 1} → statement M
 name-start-spec =
     tie.close
     (tie.spec
-    read-number-requires
-    enum-known-a
-    enum-told
+    past-number-requires
+    past-space-requires
     returns
-    returns-2
-    byte-at-requires
-    returns-3
-    add-result
-    returns-4)
+    past-kind-requires
+    past-space-requires-2
+    returns-2)

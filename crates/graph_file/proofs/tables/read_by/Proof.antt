@@ -28,10 +28,10 @@ same-length-2 c = search needs
 
 returns-2 : tie.Need-returns-2
 unfolding answerOf
-returns-2 c = let a = c .before .before .before .before .before .before .before .before .before .before .args in let r = c .before .before .before .before .before .read-whole .result in let u = c .before .before .before .before .before .read-whole .last .1 .0 in let e = cells-done (c .before .before .before .before .before .read-whole .result) (c .before .before .before .before .before .read-whole .last .1 .0) (a .text .now) (c .before .before .before .before .before .read-whole .ensures .0) (c .before .if1 .left) in let l : length (take (r .cells) u) ≡ r .cells = length-take-le (r .cells) u (omega (arith, c .before .before .before .before .before .read-whole .ensures .1 (c .before .if1 .left), c .before .before .before .before .before .read-whole .kept .1 .0)) in (answer-short _ _ e (length (a .table .now)) (omega (arith, l, c .if2 .taken)), leaves-short _ _ e (a .table .now) (omega (arith, l, c .if2 .taken)))
+returns-2 c = let a = c .before .before .before .before .before .before .before .before .before .before .args in let r = c .before .before .before .before .before .read-whole .result in let u = c .before .before .before .before .before .read-whole .last .1 .0 in let e = cells-done (c .before .before .before .before .before .read-whole .result) (c .before .before .before .before .before .read-whole .last .1 .0) (a .text .now) (c .before .before .before .before .before .read-whole .ensures .0) (c .before .if1 .left) in let l : length (take (r .cells) u) ≡ r .cells = length-take-le (r .cells) u (omega (arith, c .before .before .before .before .before .read-whole .ensures .1 .0 (c .before .if1 .left), c .before .before .before .before .before .read-whole .kept .1 .0)) in (answer-short _ _ e (length (a .table .now)) (omega (arith, l, c .if2 .taken)), leaves-short _ _ e (a .table .now) (omega (arith, l, c .if2 .taken)))
 
 copy-cells-requires : tie.Need-copy-cells-requires
-copy-cells-requires c κs = let w = c .before .before .before .before .before .before .before .read-whole in (omega (arith, w .ensures .1 (c .before .before .before .if1 .left), w .kept .1 .0), c .before .before .if2 .left)
+copy-cells-requires c κs = let w = c .before .before .before .before .before .before .before .read-whole in (omega (arith, w .ensures .1 .0 (c .before .before .before .if1 .left), w .kept .1 .0), c .before .before .if2 .left)
 
 same-length-3 : tie.Need-same-length-3
 same-length-3 c = search needs
@@ -41,7 +41,7 @@ same-length-4 c = search needs
 
 returns-3 : tie.Need-returns-3
 unfolding answerOf
-returns-3 c = let a = c .before .before .before .before .before .before .before .before .before .before .before .before .before .before .before .args in let r = c .before .before .before .before .before .before .before .before .before .before .read-whole .result in let u = c .before .before .before .before .before .before .before .before .before .before .read-whole .last .1 .0 in let e = cells-done (c .before .before .before .before .before .before .before .before .before .before .read-whole .result) (c .before .before .before .before .before .before .before .before .before .before .read-whole .last .1 .0) (a .text .now) (c .before .before .before .before .before .before .before .before .before .before .read-whole .ensures .0) (c .before .before .before .before .before .before .if1 .left) in let l : length (take (r .cells) u) ≡ r .cells = length-take-le (r .cells) u (omega (arith, c .before .before .before .before .before .before .before .before .before .before .read-whole .ensures .1 (c .before .before .before .before .before .before .if1 .left), c .before .before .before .before .before .before .before .before .before .before .read-whole .kept .1 .0)) in (answer-fits _ _ e (length (a .table .now)) (r .cells) l (c .before .before .before .before .before .if2 .left), leaves-fits _ _ e (a .table .now) (c .before .before .copy-cells .last .1 .1 .0) (r .cells) (omega (arith, l, c .before .before .before .before .before .if2 .left)) (c .before .before .copy-cells .ensures))
+returns-3 c = let a = c .before .before .before .before .before .before .before .before .before .before .before .before .before .before .before .args in let r = c .before .before .before .before .before .before .before .before .before .before .read-whole .result in let u = c .before .before .before .before .before .before .before .before .before .before .read-whole .last .1 .0 in let e = cells-done (c .before .before .before .before .before .before .before .before .before .before .read-whole .result) (c .before .before .before .before .before .before .before .before .before .before .read-whole .last .1 .0) (a .text .now) (c .before .before .before .before .before .before .before .before .before .before .read-whole .ensures .0) (c .before .before .before .before .before .before .if1 .left) in let l : length (take (r .cells) u) ≡ r .cells = length-take-le (r .cells) u (omega (arith, c .before .before .before .before .before .before .before .before .before .before .read-whole .ensures .1 .0 (c .before .before .before .before .before .before .if1 .left), c .before .before .before .before .before .before .before .before .before .before .read-whole .kept .1 .0)) in (answer-fits _ _ e (length (a .table .now)) (r .cells) l (c .before .before .before .before .before .if2 .left), leaves-fits _ _ e (a .table .now) (c .before .before .copy-cells .last .1 .1 .0) (r .cells) (omega (arith, l, c .before .before .before .before .before .if2 .left)) (c .before .before .copy-cells .ensures))
 
 pub read-by-spec : {M : Type 1} → statement M
 read-by-spec =

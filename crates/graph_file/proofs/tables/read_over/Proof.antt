@@ -25,7 +25,7 @@ same-length-2 c = search needs
 
 returns-2 : tie.Need-returns-2
 unfolding tableRead
-returns-2 c = (sym (cells-done (c .before .before .before .before .read-whole .result) (c .before .before .before .before .read-whole .last .1 .0) (c .before .before .before .before .before .before .before .before .args .text .now) (c .before .before .before .before .read-whole .ensures .0) (c .if1 .left)), λ n e. let z = written-same _ n e in omega (arith, z, c .before .before .before .before .read-whole .ensures .1 (c .if1 .left), c .before .before .before .before .read-whole .kept .1 .0))
+returns-2 c = (sym (cells-done (c .before .before .before .before .read-whole .result) (c .before .before .before .before .read-whole .last .1 .0) (c .before .before .before .before .before .before .before .before .args .text .now) (c .before .before .before .before .read-whole .ensures .0) (c .if1 .left)), λ n e. let z = written-same _ n e in omega (arith, z, c .before .before .before .before .read-whole .ensures .1 .0 (c .if1 .left), c .before .before .before .before .read-whole .kept .1 .0))
 
 pub read-over-spec : {M : Type 1} → statement M
 read-over-spec =

@@ -19,7 +19,7 @@ use Rattle.graph_file.proofs.admission.admitted.Reads as admitted-reads
 use Rattle.graph_file.proofs.format.row_place.Reads as row-place-reads
 use Rattle.graph_file.proofs.formed.is_formed.Reads as is-formed-reads
 use Rattle.graph_file.proofs.line_text.put_line.Reads as put-line-reads
-use Rattle.graph_file.proofs.reader.counts_after.Reads as counts-after-reads
+use Rattle.graph_file.proofs.rows.counts_after.Reads as counts-after-reads
 use Rattle.graph_file.proofs.rows.row_at.Reads as row-at-reads
 
 add-if1 : tie.Need-add-if1
@@ -47,7 +47,7 @@ admitted-requires c κs = search needs
 
 returns-3 : tie.Need-returns-3
 unfolding partWritten
-returns-3 c = let a = c .before .before .before .before .before .before .before .before .before .before .args in (row-refused (a .form) (a .k) (a .table .now) (a .p) (a .c) (a .out .now, a .n) (sym (row-long (a .form) (a .k) (a .table .now) (a .p) (c .before .before .before .before .before .before .if1 .left) _ (c .before .before .before .is-formed .ensures ∙ ap (formed (shapeAt (a .form) (a .k) .row)) (c .before .before .before .before .before .row-at .ensures))) ∙ not-false _ (c .before .before .if2 .left)) (c .before .admitted .result) (c .before .admitted .ensures) _ (c .if3 .taken), λ z. absurd (c .if3 .taken z))
+returns-3 c = let a = c .before .before .before .before .before .before .before .before .before .before .args in (row-refused (a .form) (a .k) (a .table .now) (a .p) (a .c) (a .out .now, a .n) (sym (row-long (a .form) (a .k) (a .table .now) (a .p) (c .before .before .before .before .before .before .if1 .left) _ (c .before .before .before .is-formed .ensures ∙ ap (formed (shapeAt (a .form) (a .k) .row)) (c .before .before .before .before .before .row-at .ensures))) ∙ not-false _ (c .before .before .if2 .left)) (c .before .admitted .result) (c .before .admitted .ensures (a .form)) _ (c .if3 .taken), λ z. absurd (c .if3 .taken z))
 
 row-place-requires : tie.Need-row-place-requires
 row-place-requires c κs = search needs
@@ -72,7 +72,7 @@ same-length c = search needs
 
 returns-4 : tie.Need-returns-4
 unfolding partWritten refusedOrPoured
-returns-4 c = let a = c .before .before .before .before .before .before .before .before .before .before .before .before .before .before .before .before .before .args in let f : c .counts-after .result ≡ countsAfter (a .k) (a .c) (value (rowOf (drop (a .p) (a .table .now))) 0) = c .counts-after .ensures ∙ ap (λ (row : Row). countsAfter (a .k) (a .c) (value row 0)) (c .before .before .before .before .before .before .before .before .before .before .before .before .row-at .ensures) in (rw f (row-taken (a .form) (a .k) (a .table .now) (a .p) (a .c) (a .out .now, a .n) (sym (row-long (a .form) (a .k) (a .table .now) (a .p) (c .before .before .before .before .before .before .before .before .before .before .before .before .before .if1 .left) _ (c .before .before .before .before .before .before .before .before .before .before .is-formed .ensures ∙ ap (formed (shapeAt (a .form) (a .k) .row)) (c .before .before .before .before .before .before .before .before .before .before .before .before .row-at .ensures))) ∙ not-false _ (c .before .before .before .before .before .before .before .before .before .if2 .left)) (c .before .before .before .before .before .before .before .before .admitted .result) (c .before .before .before .before .before .before .before .before .admitted .ensures) (c .before .before .before .before .before .before .before .before .before .before .before .before .before .before .before .before .before .pre .1 .1) (c .before .before .before .before .before .before .before .if3 .left) _ _ (c .before .before .before .put-line .ensures ∙ rw (c .before .before .before .before .before .before .row-place .ensures, c .before .before .before .before .before .before .before .before .before .before .before .before .row-at .ensures))), λ z. rw f (record { room = room-of (a .form) (a .k) (a .table .now) (a .p) (a .c) (sym (c .before .before .before .before .before .before .before .before .admitted .ensures) ∙ c .before .before .before .before .before .before .before .if3 .left); longer = refl; more = rows-after (a .k) (a .c) _; placed = placed-after (a .k) (a .p) (a .c) (value (rowOf (drop (a .p) (a .table .now))) 0) (c .before .before .before .before .before .before .before .before .before .before .before .before .before .before .before .before .before .pre .1 .1) }))
+returns-4 c = let a = c .before .before .before .before .before .before .before .before .before .before .before .before .before .before .before .before .before .args in let f : c .counts-after .result ≡ countsAfter (a .k) (a .c) (value (rowOf (drop (a .p) (a .table .now))) 0) = c .counts-after .ensures ∙ ap (λ (row : Row). countsAfter (a .k) (a .c) (value row 0)) (c .before .before .before .before .before .before .before .before .before .before .before .before .row-at .ensures) in (rw f (row-taken (a .form) (a .k) (a .table .now) (a .p) (a .c) (a .out .now, a .n) (sym (row-long (a .form) (a .k) (a .table .now) (a .p) (c .before .before .before .before .before .before .before .before .before .before .before .before .before .if1 .left) _ (c .before .before .before .before .before .before .before .before .before .before .is-formed .ensures ∙ ap (formed (shapeAt (a .form) (a .k) .row)) (c .before .before .before .before .before .before .before .before .before .before .before .before .row-at .ensures))) ∙ not-false _ (c .before .before .before .before .before .before .before .before .before .if2 .left)) (c .before .before .before .before .before .before .before .before .admitted .result) (c .before .before .before .before .before .before .before .before .admitted .ensures (a .form)) (c .before .before .before .before .before .before .before .before .before .before .before .before .before .before .before .before .before .pre .1 .1) (c .before .before .before .before .before .before .before .if3 .left) _ _ (c .before .before .before .put-line .ensures ∙ rw (c .before .before .before .before .before .before .row-place .ensures, c .before .before .before .before .before .before .before .before .before .before .before .before .row-at .ensures))), λ z. rw f (record { room = room-of (a .form) (a .k) (a .table .now) (a .p) (a .c) (sym (c .before .before .before .before .before .before .before .before .admitted .ensures (a .form)) ∙ c .before .before .before .before .before .before .before .if3 .left); longer = refl; more = rows-after (a .k) (a .c) _; placed = placed-after (a .k) (a .p) (a .c) (value (rowOf (drop (a .p) (a .table .now))) 0) (c .before .before .before .before .before .before .before .before .before .before .before .before .before .before .before .before .before .pre .1 .1) }))
 
 pub write-row-spec : {M : Type 1} → statement M
 write-row-spec =

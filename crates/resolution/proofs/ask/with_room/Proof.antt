@@ -1,4 +1,5 @@
--- `with_room` meets its contract. The loop's invariant: the cells before i are copied. Assumes nothing.
+-- `with_room` meets its contract. The loop's invariant: the cells before i are copied. Assumes
+-- nothing.
 use Prim.Native.Nat.{ℕ, _-_, _<_}
 use mathlib.Core.Path.{_≡_, refl}
 use native.Mathlib.Omega.{arith}
@@ -8,7 +9,7 @@ use Rattle.resolution.proofs.ask.with_room.Statement.{statement}
 use Rattle.resolution.proofs.ask.with_room.Tie as tie
 
 abbrev Inv-loop : tie.InvT-loop
-Inv-loop tables ask₀ i₀ ask i = (length ask ≡ 196) × ((j : ℕ) → j < i → getD ask j 0 ≡ getD tables j 0)
+Inv-loop tables ask₀ i₀ ask i = (length ask ≡ 197) × ((j : ℕ) → j < i → getD ask j 0 ≡ getD tables j 0)
 
 abbrev μ-loop : tie.MeasureT-loop
 μ-loop tables ask₀ i₀ ask i = 192 - i

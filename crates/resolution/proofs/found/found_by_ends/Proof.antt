@@ -15,17 +15,14 @@ returns c = let a = c .before .before .before .before .before .args in let p = c
 part-requires : tie.Need-part-requires
 part-requires c κs = search needs
 
-ask-high-requires : tie.Need-ask-high-requires
-ask-high-requires c κs = search needs
-
-ask-low-requires : tie.Need-ask-low-requires
-ask-low-requires c κs = search needs
+name-asked-requires : tie.Need-name-asked-requires
+name-asked-requires c κs = search needs
 
 has-second-requires : tie.Need-has-second-requires
 has-second-requires c κs = search needs
 
 returns-2 : tie.Need-returns-2
-returns-2 c = let a = c .before .before .before .before .before .before .before .before .before .before .args in let p = c .before .before .before .before .before .before .before .before .before .before .pre in ends-second (a .table .now) (a .block .now) (a .ask .now) p _ (c .before .before .before .before .before .before .next-end .ensures) (omega arith) (second-seen (a .table .now) (a .block .now) (a .ask .now) p _ _ _ _ (c .before .before .before .before .part .ensures) (c .before .before .before .ask-high .ensures) (c .before .before .ask-low .ensures) _ (c .before .has-second .ensures) ∙ c .if2 .taken)
+returns-2 c = let a = c .before .before .before .before .before .before .before .before .before .args in let p = c .before .before .before .before .before .before .before .before .before .pre in ends-second (a .table .now) (a .block .now) (a .ask .now) p _ (c .before .before .before .before .before .next-end .ensures) (omega arith) (second-seen (a .table .now) (a .block .now) (a .ask .now) p _ _ _ (c .before .before .before .part .ensures) (c .before .before .name-asked .ensures) _ (c .before .has-second .ensures) ∙ c .if2 .taken)
 
 add-next-end : tie.Need-add-next-end
 add-next-end c = search needs
@@ -34,10 +31,10 @@ next-end-requires-2 : tie.Need-next-end-requires-2
 next-end-requires-2 c κs = search needs
 
 returns-3 : tie.Need-returns-3
-returns-3 c = let a = c .before .before .before .before .before .before .before .before .before .before .before .before .args in let p = c .before .before .before .before .before .before .before .before .before .before .before .before .pre in ends-two (a .table .now) (a .block .now) (a .ask .now) p _ (c .before .before .before .before .before .before .before .before .next-end .ensures) (omega arith) _ (c .before .next-end2 .ensures) (omega arith)
+returns-3 c = let a = c .before .before .before .before .before .before .before .before .before .before .before .args in let p = c .before .before .before .before .before .before .before .before .before .before .before .pre in ends-two (a .table .now) (a .block .now) (a .ask .now) p _ (c .before .before .before .before .before .before .before .next-end .ensures) (omega arith) _ (c .before .next-end2 .ensures) (omega arith)
 
 returns-4 : tie.Need-returns-4
-returns-4 c = let a = c .before .before .before .before .before .before .before .before .before .before .before .before .args in let p = c .before .before .before .before .before .before .before .before .before .before .before .before .pre in ends-one (a .table .now) (a .block .now) (a .ask .now) p _ (c .before .before .before .before .before .before .before .before .next-end .ensures) (omega arith) _ (c .before .next-end2 .ensures) (omega arith) (second-seen (a .table .now) (a .block .now) (a .ask .now) p _ _ _ _ (c .before .before .before .before .before .before .part .ensures) (c .before .before .before .before .before .ask-high .ensures) (c .before .before .before .before .ask-low .ensures) _ (c .before .before .before .has-second .ensures) ∙ c .before .before .if2 .left)
+returns-4 c = let a = c .before .before .before .before .before .before .before .before .before .before .before .args in let p = c .before .before .before .before .before .before .before .before .before .before .before .pre in ends-one (a .table .now) (a .block .now) (a .ask .now) p _ (c .before .before .before .before .before .before .before .next-end .ensures) (omega arith) _ (c .before .next-end2 .ensures) (omega arith) (second-seen (a .table .now) (a .block .now) (a .ask .now) p _ _ _ (c .before .before .before .before .before .part .ensures) (c .before .before .before .before .name-asked .ensures) _ (c .before .before .before .has-second .ensures) ∙ c .before .before .if2 .left)
 
 pub found-by-ends-spec : {M : Type 1} → statement M
 found-by-ends-spec =
@@ -46,8 +43,7 @@ found-by-ends-spec =
     next-end-requires
     returns
     part-requires
-    ask-high-requires
-    ask-low-requires
+    name-asked-requires
     has-second-requires
     returns-2
     add-next-end

@@ -1,9 +1,9 @@
 use Rattle.graph_file.proofs.ReadLaws.{after-label, after-pair, after-count, after-other}
 use borrow.Author.Needs.{needs}
-use Rattle.graph_file.proofs.reader.counts_after.Statement.{statement}
-use Rattle.graph_file.proofs.reader.counts_after.Tie as tie
-use Rattle.graph_file.proofs.reader.counts_after.Reads as reads
-use Rattle.graph_file.proofs.reader.counts_after.Lts as lts
+use Rattle.graph_file.proofs.rows.counts_after.Statement.{statement}
+use Rattle.graph_file.proofs.rows.counts_after.Tie as tie
+use Rattle.graph_file.proofs.rows.counts_after.Reads as reads
+use Rattle.graph_file.proofs.rows.counts_after.Lts as lts
 
 add-rows : tie.Need-add-rows
 add-rows c = search needs

@@ -1,0 +1,23 @@
+-- What holds of a file's form (document 02, K8): it is told by the text, kept by reading and
+-- writing, and does not change what stands above the first names line that shows it. These are the
+-- statements; their proofs are in proofs/. Assumes nothing: these are definitions.
+use Prim.Native.Nat.{ℕ}
+use mathlib.Core.Path.{_≡_}
+use mathlib.Core.List.{List, []}
+use Rattle.text_field.specs.Outcome.{done}
+use Rattle.graph_file.specs.Format.{oldForm, labelSection, declarationSection}
+use Rattle.graph_file.specs.File.{throughSome, atStart, reading, formOf, readCells, formIn, writeText}
+
+-- what stands above the names line of declarations is read the same way, whatever the form
+abbrev pub ReadAlike : Type 0
+ReadAlike = (form : ℕ) (text : List ℕ)
+    → throughSome (reading form) declarationSection labelSection (atStart [] text)
+    ≡ throughSome (reading oldForm) declarationSection labelSection (atStart [] text)
+
+-- a graph has the form of the text that it was read from
+abbrev pub FormRead : Type 0
+FormRead = (text cells : List ℕ) → readCells text ≡ done cells → formIn cells ≡ formOf text
+
+-- a text has the form of the graph that it was written of
+abbrev pub FormWritten : Type 0
+FormWritten = (cells text : List ℕ) → writeText cells ≡ done text → formOf text ≡ formIn cells
