@@ -12,7 +12,8 @@ use Rattle.graph_file.specs.Admission.{Row, Sofar, nothing, begun, taken}
 use Rattle.graph_file.specs.Decode.{rowsIn, rulesOf, graphOf}
 use Rattle.graph_file.specs.Accepted.{EndListed, AcceptedTable}
 use Rattle.graph_file.specs.Format.{edges, sections, sectionAt, edgeSection}
-use Rattle.graph_file.proofs.DecodeWay.{AdmittedRows, takenAll, cellsOf, tableCells, AdmittedSections, AdmittedTable, read-admitted, written-admitted}
+use Rattle.graph_file.proofs.DecodeWay.{AdmittedRows, takenAll, cellsOf, tableCells, AdmittedSections, AdmittedTable}
+use Rattle.graph_file.proofs.DecodeWritten.{read-admitted, written-admitted}
 use Rattle.graph_file.proofs.DecodeAccepted.{read-accepted, written-accepted}
 use Rattle.graph_table.proofs.Promises.{ascending-all}
 use Rattle.search.specs.Tables.{endNumber}

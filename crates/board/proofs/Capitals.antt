@@ -3,6 +3,7 @@ use Prim.Native.Nat.{ℕ}
 use mathlib.Core.Path.{_≡_}
 use mathlib.Core.Bool.{true}
 use mathlib.Core.List.{List}
+use native.Mathlib.Omega.{arith}
 use Rattle.scope_graph.specs.Language.{_∈_}
 use Rattle.scope_graph.proofs.Lists.{here}
 use Rattle.text_field.specs.Bytes.{isCapital}
@@ -12,8 +13,8 @@ use Rattle.graph_file.specs.Admission.{Row, value}
 use Rattle.graph_file.specs.Line.{fieldFormed, itemFormed}
 use Rattle.graph_file.specs.File.{readCells}
 use Rattle.graph_file.specs.Decode.{rowsIn}
-use Rattle.graph_file.proofs.DecodeFormed.{read-formed}
+use Rattle.graph_file.proofs.DecodeFormed.{items-formed}
 
 pub capitals : (text cells : List ℕ) → readCells text ≡ done cells → (row : Row) → row ∈ rowsIn labelSection cells → isCapital (value row 0) ≡ true
 unfolding shapeAt shapesOf itemFormed fieldFormed
-capitals text cells e row m = read-formed labelSection text cells e row m (field letter 0) here
+capitals text cells e row m = items-formed labelSection (omega arith) text cells e row m (field letter 0) here

@@ -16,14 +16,14 @@ use Rattle.graph_file.specs.Admission.{Row, value}
 use Rattle.graph_file.specs.Line.{fieldFormed, itemFormed}
 use Rattle.graph_file.specs.File.{formIn, readCells}
 use Rattle.graph_file.specs.Decode.{rowsIn}
-use Rattle.graph_file.proofs.DecodeFormed.{read-formed, plain-lower}
+use Rattle.graph_file.proofs.DecodeFormed.{items-formed, plain-lower}
 use Rattle.graph_table.specs.Values.{rowQuery}
 
 module _ (text cells : List ℕ) (e : readCells text ≡ done cells) (row : Row) (m : row ∈ rowsIn querySection cells) where
   lower : (t : Bool) → hasKinds (formIn cells) ≡ t → isLower (rowQuery row .name .kind) ≡ true
   unfolding shapeAt shapesOf queryShape itemFormed fieldFormed
-  lower true h = read-formed querySection text cells e row m (field kind 1) (rw h (there (there here)))
-  lower false h = plain-lower (value row 1) (read-formed querySection text cells e row m (field plain 1) (rw h (there (there here))))
+  lower true h = items-formed querySection (omega arith) text cells e row m (field kind 1) (rw h (there (there here)))
+  lower false h = plain-lower (value row 1) (items-formed querySection (omega arith) text cells e row m (field plain 1) (rw h (there (there here))))
 
   pub query-kinds : rowQuery row .name .kind < 256
   unfolding isLower within

@@ -20,7 +20,8 @@ use Rattle.graph_file.specs.Format.{Content, state, scope, mark, count, 
 use Rattle.graph_file.specs.Admission.{Row, value, blank, contentInRange, itemInRange, inRange}
 use Rattle.graph_file.specs.Decode.{rowsIn, lettersOf, orderPairOf, transitionOf, rulesOf, nameAt, edgeOf, declarationOf, openPairOf, queryOf, scopesOf, graphOf, opensOf, queriesOf}
 use Rattle.graph_file.specs.Accepted.{EndListed, TransitionBefore, AcceptedTable, ReadAccepted, WrittenAccepted}
-use Rattle.graph_file.proofs.DecodeWay.{AdmittedTable, read-admitted, written-admitted}
+use Rattle.graph_file.proofs.DecodeWay.{AdmittedTable}
+use Rattle.graph_file.proofs.DecodeWritten.{read-admitted, written-admitted}
 use Rattle.graph_file.proofs.DecodeRows.{item-in, KeyBefore}
 use Rattle.graph_file.proofs.DecodeTable.{table-limit, table-count, table-in-range, table-ascends, table-order, table-letters}
 use Rattle.graph_file.proofs.DecodePlaces.{table-rows, table-length, table-most}

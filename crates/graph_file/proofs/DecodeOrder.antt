@@ -37,18 +37,18 @@ endOf-listed zero labels h = tt
 endOf-listed (suc a) labels h = omega arith
 
 -- what a test of some row says
-or-false : (a b : Bool) → (a || b) ≡ false → (a ≡ false) × (b ≡ false)
+pub or-false : (a b : Bool) → (a || b) ≡ false → (a ≡ false) × (b ≡ false)
 or-false true b h = absurd (true≢false h)
 or-false false b h = (refl, h)
 
-some-none : (test : Row → Bool) (rows : List Row) → someRow test rows ≡ false → (p : Row) → p ∈ rows → test p ≡ false
+pub some-none : (test : Row → Bool) (rows : List Row) → someRow test rows ≡ false → (p : Row) → p ∈ rows → test p ≡ false
 unfolding someRow
 some-none test [] h p m = absurd (List·Memᴰ·not-nil m)
 some-none test (q ∷ rows) h p m =
     let c = or-false _ _ h in
     ⊎-elim (λ e. ap test e ∙ c .0) (λ n. some-none test rows (c .1) p n) (List·Memᴰ·cases-cons m)
 
-some-row : (test : Row → Bool) (rows : List Row) → someRow test rows ≡ true → (p : Row) × (p ∈ rows) × (test p ≡ true)
+pub some-row : (test : Row → Bool) (rows : List Row) → someRow test rows ≡ true → (p : Row) × (p ∈ rows) × (test p ≡ true)
 unfolding someRow
 some-row test [] h = absurd (false≢true h)
 some-row test (p ∷ rows) h =

@@ -23,7 +23,7 @@ cells-length form k st (row ∷ rows) h =
     let five = h .1 in
     omega (arith, cells-length form k (taken k st row) rows (h .2), length-append row (cellsOf k rows))
 
-row-first : (k : ℕ) (row more : List ℕ) → length row ≡ 5 → rowOf (k ∷ (row ++ more)) ≡ row
+pub row-first : (k : ℕ) (row more : List ℕ) → length row ≡ 5 → rowOf (k ∷ (row ++ more)) ≡ row
 unfolding rowOf
 row-first k [] more h = absurd (omega arith)
 row-first k (a ∷ []) more h = absurd (omega arith)
@@ -41,7 +41,7 @@ rows-first form k st (row ∷ rows) more h =
     (ap (λ (l : List Row). row ∷ l) (rows-first form k (taken k st row) rows more (h .2)))
 
 -- the lists hold section k's rows at place k
-gathered-at : (j k i : ℕ) (sections : List (List Row)) → j ≡ k + i → gathered j k sections ≡ getD sections i []
+pub gathered-at : (j k i : ℕ) (sections : List (List Row)) → j ≡ k + i → gathered j k sections ≡ getD sections i []
 unfolding gathered joinedIf
 gathered-at j k i [] e = refl
 gathered-at j k zero (rows ∷ rest) e =
@@ -49,7 +49,7 @@ gathered-at j k zero (rows ∷ rest) e =
 gathered-at j k (suc i) (rows ∷ rest) e = rw (ne-eqb k j (λ s. omega arith)) (gathered-at j (suc k) i rest (omega arith))
 
 module _ (cells : List ℕ) (t : AdmittedTable cells) where
-  listed-at : (k : ℕ) → getD (t .sections) k [] ≡ rowsIn k cells
+  pub listed-at : (k : ℕ) → getD (t .sections) k [] ≡ rowsIn k cells
   listed-at k = sym (gathered-at k 0 k (t .sections) (omega arith)) ∙ rows-are cells t k
 
   -- from a section's place on: its rows' cells, and those of the sections after it

@@ -33,6 +33,15 @@ map-itself : (rows : List Row) → map (λ (row : Row). row) rows ≡ rows
 map-itself [] = refl
 map-itself (row ∷ rows) = ap (λ (l : List Row). row ∷ l) (map-itself rows)
 
+-- the order pairs at the end are the rows of their section
+pub pairs-gathered : (sections : List (List Row)) → sofarAfter 0 nothing sections .pairs ≡ gathered pairSection 0 sections
+unfolding nothing begun taken joined
+pairs-gathered sections =
+    folded (λ (st : Sofar). st .pairs) (λ xs row. xs ++ (row ∷ [])) pairSection
+    (λ k st row e. rw e) (λ k st row e. rw e) (λ st. refl) 0 nothing sections
+    ∙ fold-end (λ (row : Row). row) [] (gathered pairSection 0 sections)
+    ∙ map-itself (gathered pairSection 0 sections)
+
 module _ (cells : List ℕ) (t : AdmittedTable cells) where
   -- what the rows leave at the table's end
   pub atEnd : Sofar
@@ -59,13 +68,8 @@ module _ (cells : List ℕ) (t : AdmittedTable cells) where
       ∙ ap (map (λ (row : Row). value row 0)) (rows-are labelSection)
 
   end-pairs : atEnd .pairs ≡ rowsIn pairSection cells
-  unfolding atEnd nothing begun taken joined
-  end-pairs =
-      folded (λ (st : Sofar). st .pairs) (λ xs row. xs ++ (row ∷ [])) pairSection
-      (λ k st row e. rw e) (λ k st row e. rw e) (λ st. refl) 0 nothing (t .sections)
-      ∙ fold-end (λ (row : Row). row) [] (gathered pairSection 0 (t .sections))
-      ∙ map-itself (gathered pairSection 0 (t .sections))
-      ∙ rows-are pairSection
+  unfolding atEnd
+  end-pairs = pairs-gathered (t .sections) ∙ rows-are pairSection
 
   -- a section has no more rows than its limit
   pub table-limit : (k : ℕ) → k < 9 → length (rowsIn k cells) ≤ sectionAt k .most

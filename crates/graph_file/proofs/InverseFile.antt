@@ -8,7 +8,6 @@ use native.Mathlib.Omega.{arith}
 use lib.Dec.{ltb, leb}
 use lib.ListN.{length, drop}
 use borrow.Author.Tests.{leb-true, le-ltb}
-use Rattle.text_field.proofs.ByteLaws.{clash}
 use Rattle.graph_file.specs.Format.{kindForm}
 use Rattle.text_field.specs.Outcome.{Outcome, refused, done, andThen}
 use Rattle.graph_file.specs.File.{Stage, whole, reading, writing, formOf, readStage, madeOf, readCells, hasForm, formIn, writeText}
@@ -20,6 +19,7 @@ use Rattle.graph_file.proofs.InverseWays.{whole-back}
 use Rattle.graph_file.proofs.InverseReading.{reading-mirrored}
 use Rattle.graph_file.proofs.InverseWriting.{writing-mirrored, written-fits}
 use Rattle.graph_file.proofs.FormLaws.{form-told, form-known}
+use Rattle.graph_file.proofs.DecodeWay.{form-first, known-form}
 
 stage-long : (text : List ℕ) → ltb 32768 (length text) ≡ true → readStage text ≡ refused 1
 unfolding readStage
@@ -37,16 +37,6 @@ text-unformed : (cells : List ℕ) → hasForm cells ≡ false → writeText cel
 unfolding writeText
 text-unformed cells h = rw (h, writeText)
 
-form-first : (cells : List ℕ) → hasForm cells ≡ true → cells ≡ formIn cells ∷ drop 1 cells
-unfolding hasForm formIn
-form-first [] h = absurd (clash h refl)
-form-first (x ∷ cells) h = refl
-
-known-form : (cells : List ℕ) → hasForm cells ≡ true → formIn cells ≤ kindForm
-unfolding hasForm formIn
-known-form [] h = absurd (clash h refl)
-known-form (x ∷ cells) h = leb-true x kindForm h
-
 -- a stage whose product was made
 record Made (o : Outcome Stage) (s : List ℕ) : Type 0 where
   stage : Stage
@@ -57,12 +47,12 @@ made : (o : Outcome Stage) (s : List ℕ) → madeOf o ≡ done s → Made o s
 unfolding madeOf
 made o s e = let a = went o (λ g. done (g .made)) s e in record { stage = a .gained; came = a .before; product = done-same (a .gained .made) s (a .after) }
 
-made-of : (o : Outcome Stage) (g : Stage) → o ≡ done g → madeOf o ≡ done (g .made)
+pub made-of : (o : Outcome Stage) (g : Stage) → o ≡ done g → madeOf o ≡ done (g .made)
 unfolding madeOf andThen
 made-of o g e = rw e
 
 -- a table's cells: their form, and the rows
-cells-written : (form : ℕ) (rows : List ℕ) → leb form kindForm ≡ true → writeText (form ∷ rows) ≡ madeOf (whole (writing form) [] rows)
+pub cells-written : (form : ℕ) (rows : List ℕ) → leb form kindForm ≡ true → writeText (form ∷ rows) ≡ madeOf (whole (writing form) [] rows)
 unfolding hasForm formIn
 cells-written form rows h = text-formed (form ∷ rows) h
 

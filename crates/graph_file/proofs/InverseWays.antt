@@ -53,11 +53,11 @@ pub record Mirror (w v : Way) : Type 1 where
 
 -- One turn of the rows, by what the way finds there: no row, or a row that was admitted. Nothing
 -- below looks into `throughRows`.
-rows-stop : (w : Way) (n k : ℕ) (g : Stage) → w .more k (g .rest) ≡ false → throughRows w (suc n) k g ≡ done g
+pub rows-stop : (w : Way) (n k : ℕ) (g : Stage) → w .more k (g .rest) ≡ false → throughRows w (suc n) k g ≡ done g
 unfolding throughRows
 rows-stop w n k g h = rw (h, throughRows)
 
-rows-take : (w : Way) (n k : ℕ) (g : Stage) (p : Piece) → w .more k (g .rest) ≡ true → w .row k (g .sofar .letters) (g .rest) ≡ done p
+pub rows-take : (w : Way) (n k : ℕ) (g : Stage) (p : Piece) → w .more k (g .rest) ≡ true → w .row k (g .sofar .letters) (g .rest) ≡ done p
     → admission (w .form) k (g .sofar) (p .row) ≡ 0 → throughRows w (suc n) k g ≡ throughRows w n k (afterRow k g p)
 unfolding throughRows oneRow andThen ifAdmitted
 rows-take w n k g p h e a = rw (h, throughRows) (rw (e, a))
@@ -81,7 +81,7 @@ unfolding throughRows
 rows-out w k g g′ e = not-done 5 g′ e
 
 -- a stage that makes t of what is left
-abbrev at : Sofar → List ℕ → List ℕ → Stage
+abbrev pub at : Sofar → List ℕ → List ℕ → Stage
 at st m s = record { sofar = st; made = m; rest = s }
 
 module _ (w v : Way) (M : Mirror w v) where

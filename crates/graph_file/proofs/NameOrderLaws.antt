@@ -22,10 +22,10 @@ use Rattle.graph_file.specs.Line.{itemFormed, fieldFormed}
 use Rattle.graph_file.specs.File.{formIn, readCells}
 use Rattle.graph_file.specs.Decode.{rowsIn}
 use Rattle.graph_file.specs.NameOrder.{nameIn, NamedBefore, DeclaredBefore, DeclarationsAscend, ReadDeclarationsAscend}
-use Rattle.graph_file.proofs.DecodeWay.{read-admitted}
+use Rattle.graph_file.proofs.DecodeWritten.{read-admitted}
 use Rattle.graph_file.proofs.DecodeRows.{KeyBefore, key-before}
 use Rattle.graph_file.proofs.DecodeTable.{table-ascends}
-use Rattle.graph_file.proofs.DecodeFormed.{read-formed, plain-lower}
+use Rattle.graph_file.proofs.DecodeFormed.{items-formed, plain-lower}
 
 -- what is before by the key passes the test
 before-key : (key : List ℕ) (a b : Row) → KeyBefore key a b → keyLess key a b ≡ true
@@ -114,11 +114,11 @@ name-formed false row h = h (field name 2) (there (there (there here)))
 
 kinds-read : (text cells : List ℕ) → readCells text ≡ done cells → (row : Row) → row ∈ rowsIn declarationSection cells → isLower (value row 1) ≡ true
 unfolding shapeAt shapesOf
-kinds-read text cells e row m = kind-formed (hasKinds (formIn cells)) row (read-formed declarationSection text cells e row m)
+kinds-read text cells e row m = kind-formed (hasKinds (formIn cells)) row (items-formed declarationSection (omega arith) text cells e row m)
 
 names-read : (text cells : List ℕ) → readCells text ≡ done cells → (row : Row) → row ∈ rowsIn declarationSection cells → isNameCells (value row 2) (value row 3) ≡ true
 unfolding shapeAt shapesOf
-names-read text cells e row m = name-formed (hasKinds (formIn cells)) row (read-formed declarationSection text cells e row m)
+names-read text cells e row m = name-formed (hasKinds (formIn cells)) row (items-formed declarationSection (omega arith) text cells e row m)
 
 pub read-declarations-ascend : ReadDeclarationsAscend
 unfolding sectionAt sections declarations

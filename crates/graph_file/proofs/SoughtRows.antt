@@ -23,7 +23,7 @@ use Rattle.graph_file.specs.Decode.{keptIf, rowsAmong, rowsIn}
 use Rattle.graph_file.proofs.DecodeWay.{andThen-done, refuseIf-done, done-is, either-done, row-split, section-split, empty-nil, whole-split}
 use Rattle.graph_file.proofs.DecodeSections.{joinedIf, among-row, kept-joined, joined-none}
 use Rattle.graph_file.proofs.DecodeRows.{item-in}
-use Rattle.graph_file.proofs.DecodeFormed.{read-formed, plain-lower}
+use Rattle.graph_file.proofs.DecodeFormed.{items-formed, plain-lower}
 use Rattle.graph_file.proofs.InverseField.{lower-byte}
 use Rattle.graph_file.proofs.InverseFile.{form-read}
 use Rattle.graph_file.proofs.InverseWays.{whole-back}
@@ -55,7 +55,7 @@ rows-named (row ∷ rows) h = (h row here, rows-named rows (λ later m. h later 
 
 read-named : (text cells : List ℕ) → readCells text ≡ done cells → AllNamed (rowsIn querySection cells)
 unfolding shapeAt shapesOf
-read-named text cells e = rows-named (rowsIn querySection cells) (λ row m. named (hasKinds (formIn cells)) row (read-formed querySection text cells e row m))
+read-named text cells e = rows-named (rowsIn querySection cells) (λ row m. named (hasKinds (formIn cells)) row (items-formed querySection (omega arith) text cells e row m))
 
 -- one row of section k written: what it leaves of the query rows, and for a query its line
 record OneWritten (form k : ℕ) (rest : List ℕ) (p : Piece) : Type 0 where

@@ -14,7 +14,8 @@ use Rattle.graph_file.specs.Line.{startsWith}
 use Rattle.graph_file.specs.Table.{rowsAt}
 use Rattle.graph_file.specs.Decode.{rowsIn, lettersOf, orderPairOf, rulesOf, sectionPlace, WasRead}
 use Rattle.graph_file.specs.Accepted.{AcceptedTable}
-use Rattle.graph_file.proofs.DecodeWay.{takenAll, AdmittedRows, cellsOf, tableCells, AdmittedSections, AdmittedTable, read-admitted}
+use Rattle.graph_file.proofs.DecodeWay.{takenAll, AdmittedRows, cellsOf, tableCells, AdmittedSections, AdmittedTable}
+use Rattle.graph_file.proofs.DecodeWritten.{read-admitted}
 use Rattle.graph_file.proofs.DecodeSections.{joinedIf, gathered, gathered-later}
 use Rattle.graph_file.proofs.DecodeTable.{rows-are}
 use Rattle.graph_file.proofs.DecodePlaces.{cells-length}

@@ -160,21 +160,30 @@ fn entries_due(counts: &mut [u64], g: &[u8], text: &[u8], i: usize, seen: usize,
     compare_settled(counts, text, rows, pair, all);
 }
 
+// Query i, whose reached paths are the table's first n; the declarations that it sees.
+fn query_due(counts: &mut [u64], g: &[u8], text: &[u8], i: usize, table: &[u8], n: usize) -> usize {
+    let mut rows = [0u8; ROWS];
+    let m = rows::put_rows(&mut rows, g, i % 2, table, n);
+    if ROWS < m {
+        say::add(counts, say::LEFT_OUT, 1);
+        return usize::MAX;
+    }
+    let seen = paths::seen(g, i % 2, table, n);
+    entries_due(counts, g, text, i, seen, part(&rows, 0, m));
+    seen
+}
+
 // Query i; the declarations that it sees, or the largest number where there are too many paths.
 fn query(counts: &mut [u64], g: &[u8], text: &[u8], i: usize) -> usize {
     let mut table = [0u8; ROOM];
     let n = paths::resolve(g, i / 2, i % 2, &mut table);
-    let mut rows = [0u8; ROWS];
-    let m = rows::put_rows(&mut rows, g, i % 2, &table, n);
-    if MOST < n || ROWS < m {
+    if MOST < n {
         say::add(counts, say::LEFT_OUT, 1);
         return usize::MAX;
     }
     say::add(counts, say::PATHS, n);
     say::add(counts, say::ENTRIES, paths::entries(g, i % 2, &table, n));
-    let seen = paths::seen(g, i % 2, &table, n);
-    entries_due(counts, g, text, i, seen, part(&rows, 0, m));
-    seen
+    query_due(counts, g, text, i, &table, n)
 }
 
 fn queries(counts: &mut [u64], g: &[u8], text: &[u8]) -> Found {
@@ -214,16 +223,21 @@ fn judge_some(counts: &mut [u64], g: &[u8], text: &[u8], x: usize) {
     }
 }
 
+// A gym, whose last number drawn is x.
+fn gym_due(counts: &mut [u64], g: &[u8], text: &[u8], x: usize) {
+    say::add(counts, say::GYMS, 1);
+    let f = queries(counts, g, text);
+    summary_due(counts, text, f);
+    judge_some(counts, g, text, x);
+}
+
 // The gym that is drawn from a number on; the last number drawn.
 fn one_gym(counts: &mut [u64], seed: usize) -> usize {
     let mut g = [0u8; SIZE];
     let x = drawn::draw(&mut g, seed);
     let mut text = [0u8; TEXT];
     let n = text::put_gym(&mut text, &g);
-    say::add(counts, say::GYMS, 1);
-    let f = queries(counts, &g, part(&text, 0, n));
-    summary_due(counts, part(&text, 0, n), f);
-    judge_some(counts, &g, part(&text, 0, n), x);
+    gym_due(counts, &g, part(&text, 0, n), x);
     x
 }
 

@@ -103,21 +103,33 @@ fn line(counts: &[u64], i: usize, name: &[u8]) {
     word(b"\n");
 }
 
-pub fn all(counts: &[u64]) {
-    line(counts, GYMS, b"gyms ");
-    line(counts, SUMMARIES, b"summaries compared ");
+fn queries(counts: &[u64]) {
     line(counts, QUERIES, b"listings compared ");
     line(counts, PATHS, b"reached paths ");
     line(counts, ENTRIES, b"entries ");
     line(counts, FOUND, b"found none ");
     line(counts, FOUND + 1, b"found one ");
     line(counts, FOUND + 2, b"found several ");
+}
+
+fn awaited(counts: &[u64]) {
     line(counts, SETTLED, b"settled ");
     line(counts, END, b"awaiting the end mark ");
     line(counts, LABEL, b"awaiting a label ");
+}
+
+fn judged(counts: &[u64]) {
     line(counts, JUDGED, b"rows judged visible ");
     line(counts, JUDGED + 1, b"rows judged shadowed ");
     line(counts, JUDGED + 2, b"rows judged unreached ");
+}
+
+pub fn all(counts: &[u64]) {
+    line(counts, GYMS, b"gyms ");
+    line(counts, SUMMARIES, b"summaries compared ");
+    queries(counts);
+    awaited(counts);
+    judged(counts);
     line(counts, LEFT_OUT, b"left out, too many paths ");
     line(counts, DIFFERENCES, b"differences ");
     line(counts, SUM, b"sum of all that was written ");

@@ -117,34 +117,47 @@ fn put_query(out: &mut [u8], n: usize, g: &[u8], scope: usize, name: usize) -> u
     put_name(out, m, g, name, 10)
 }
 
-// The row of a section's place, which holds v.
-fn put_row(out: &mut [u8], n: usize, g: &[u8], s: usize, i: usize, v: usize) -> usize {
+// The row of a section's place, which holds v: a section of the rules, or one of the graph.
+fn put_rule(out: &mut [u8], n: usize, g: &[u8], s: usize, i: usize, v: usize) -> usize {
     match s {
         LETTERS => put_letter(out, n, g, i, 10),
         PAIRS => put_pair(out, n, g, i / 4, i % 4),
         MOVES => put_move(out, n, g, i / 4, i % 4, minus(v, 1)),
         ACCEPTS => put_field(out, n, i, 10),
+        _ => n,
+    }
+}
+
+fn put_row(out: &mut [u8], n: usize, g: &[u8], s: usize, i: usize, v: usize) -> usize {
+    match s {
         SCOPES => put_field(out, n, v, 10),
         EDGES => put_move(out, n, g, i / 64, label_of(i), scope_of(i)),
         MARKS => put_declaration(out, n, g, i / 8, i / 4 % 2, i % 4),
         OPEN => put_open(out, n, g, i / 4, i % 4),
         QUERIES => put_query(out, n, g, i / 2, i % 2),
+        _ => put_rule(out, n, g, s, i, v),
+    }
+}
+
+// The names line of the section that begins at a place, if one does.
+fn put_rule_names(out: &mut [u8], n: usize, k: usize) -> usize {
+    match k {
+        LETTERS => put_all(out, n, b"label\n"),
+        PAIRS => put_all(out, n, b"less more\n"),
+        MOVES => put_all(out, n, b"state label next\n"),
+        ACCEPTS => put_all(out, n, b"accept\n"),
         _ => n,
     }
 }
 
 fn put_names(out: &mut [u8], n: usize, k: usize) -> usize {
     match k {
-        LETTERS => put_all(out, n, b"label\n"),
-        PAIRS => put_all(out, n, b"less more\n"),
-        MOVES => put_all(out, n, b"state label next\n"),
-        ACCEPTS => put_all(out, n, b"accept\n"),
         SCOPES => put_all(out, n, b"scopes\n"),
         EDGES => put_all(out, n, b"from label to\n"),
         MARKS => put_all(out, n, b"at name mark\n"),
         OPEN => put_all(out, n, b"at open\n"),
         QUERIES => put_all(out, n, b"start seek\n"),
-        _ => n,
+        _ => put_rule_names(out, n, k),
     }
 }
 

@@ -1,0 +1,135 @@
+-- The graph tables that are written are the formed ones (specs/Formed). Assumes nothing.
+use Prim.Native.Nat.{ℕ, zero, suc, _+_, _<_}
+use mathlib.Core.Path.{_≡_, refl, sym, ap, subst, _∙_}
+use mathlib.Core.Bool.{true}
+use mathlib.Core.Logic.{inl, inr, ⊎-elim}
+use mathlib.Core.List.{List, [], _∷_, List·Memᴰ·not-nil, List·Memᴰ·cases-cons}
+use native.Mathlib.Omega.{arith}
+use lib.Dec.{ltb}
+use lib.ListN.{length, getD, length-map}
+use borrow.Author.Tests.{eqb-true, lt-ltb, eq-eqb}
+use Rattle.scope_graph.specs.Language.{_∈_}
+use Rattle.scope_graph.proofs.Lists.{and-both, or-left, or-right, pairwise-weaken}
+use Rattle.graph_file.specs.Format.{Sequence, ascending, once, free, sectionAt, shapeAt, labelSection, pairSection}
+use Rattle.graph_file.specs.Admission.{Row, value, Sofar, begun, taken, keyLess}
+use Rattle.graph_file.specs.Line.{formed}
+use Rattle.graph_file.specs.File.{formIn}
+use Rattle.graph_file.specs.Decode.{rowsIn, lettersOf, scopesOf}
+use Rattle.graph_file.specs.Formed.{cellsFrom, tableOf, scopesIn, InTurn, FormedSection, FormedRows, FormedTable, FormedWritten, WrittenFormed, ReadFormed, TableFormed}
+use Rattle.graph_file.proofs.InverseFile.{written-then-read}
+use Rattle.graph_file.proofs.DecodeWay.{AdmittedRows, tableCells, AdmittedTable}
+use Rattle.graph_file.proofs.DecodeWritten.{read-admitted, written-admitted}
+use Rattle.graph_file.proofs.DecodeRows.{KeyBefore}
+use Rattle.graph_file.proofs.DecodeTable.{pairs-gathered, section-in, table-limit, table-in-range, table-ascends, table-order, table-letters}
+use Rattle.graph_file.proofs.DecodePlaces.{gathered-at, listed-at}
+use Rattle.graph_file.proofs.FormedWriting.{admitted-written}
+use Rattle.graph_file.proofs.FormedAdmitted.{onceFirst, once-first, listOf, all-admitted}
+
+-- the lists of rows by their sections' numbers
+list-at : (left k i j : ℕ) (rows : ℕ → List Row) → j ≡ k + i → i < left → getD (listOf left k rows) i [] ≡ rows j
+unfolding listOf
+list-at zero k i j rows e h = absurd (omega arith)
+list-at (suc left) k zero j rows e h = ap rows (omega arith)
+list-at (suc left) k (suc i) j rows e h = list-at left (suc k) i j rows (omega arith) (omega arith)
+
+list-length : (left k : ℕ) (rows : ℕ → List Row) → length (listOf left k rows) ≡ left
+unfolding listOf
+list-length zero k rows = refl
+list-length (suc left) k rows = ap suc (list-length left (suc k) rows)
+
+cells-listed : (left k : ℕ) (rows : ℕ → List Row) (lists : List (List Row)) → length lists ≡ left → ((i j : ℕ) → j ≡ k + i → i < left → getD lists i [] ≡ rows j)
+    → tableCells k lists ≡ cellsFrom left k rows
+unfolding tableCells cellsFrom
+cells-listed zero k rows [] n h = refl
+cells-listed zero k rows (list ∷ lists) n h = absurd (omega arith)
+cells-listed (suc left) k rows [] n h = absurd (omega arith)
+cells-listed (suc left) k rows (list ∷ lists) n h =
+    let first : list ≡ rows k = h 0 k (omega arith) (omega arith) in
+    rw (first, cells-listed left (suc k) rows lists (omega arith) (λ i j e l. h (suc i) j (omega arith) (omega arith)))
+
+-- formed rows make an admitted table
+rows-table : (form : ℕ) (rows : ℕ → List Row) → FormedRows form rows → AdmittedTable (tableOf form rows)
+unfolding tableOf
+rows-table form rows f = record {
+  form = form;
+  known = f .known;
+  sections = listOf 9 0 rows;
+  count = list-length 9 0 rows;
+  cells-are = ap (λ (l : List ℕ). form ∷ l) (sym (cells-listed 9 0 rows (listOf 9 0 rows) (list-length 9 0 rows) (λ i j e h. list-at 9 0 i j rows e h)));
+  admitted = all-admitted form rows f;
+  order = rw (pairs-gathered (listOf 9 0 rows), gathered-at pairSection 0 1 (listOf 9 0 rows) refl, list-at 9 0 1 1 rows refl (omega arith)) (f .order);
+}
+
+-- a formed table is written, and its text is read back as the table
+pub formed-written : FormedWritten
+formed-written cells t =
+    let w = admitted-written cells (subst (λ (c : List ℕ). AdmittedTable c) (sym (t .in-turn)) (rows-table (formIn cells) (λ k. rowsIn k cells) (t .rows))) in
+    (w .0, w .1, written-then-read cells (w .0) (w .1))
+
+-- The converse. Each admitted row has its five values, with a text.
+rows-stand : (form k : ℕ) (st : Sofar) (rows : List Row) → AdmittedRows form k st rows → (row : Row) → row ∈ rows
+    → (length row ≡ 5) × (formed (shapeAt form k .row) row ≡ true)
+rows-stand form k st [] h row m = absurd (List·Memᴰ·not-nil m)
+rows-stand form k st (first ∷ rows) h row m =
+    ⊎-elim (λ e. rw e (h .1, h .3)) (λ n. rows-stand form k (taken k st first) rows (h .2) row n) (List·Memᴰ·cases-cons m)
+
+-- before by the key, as a test
+key-less : (key : List ℕ) (a b : Row) → KeyBefore key a b → keyLess key a b ≡ true
+unfolding keyLess
+key-less [] a b h = absurd h
+key-less (c ∷ key) a b (inl h) = or-left _ _ (lt-ltb (value a c) (value b c) h)
+key-less (c ∷ key) a b (inr h) = or-right (ltb (value a c) (value b c)) _ (and-both _ _ (eq-eqb (value a c) (value b c) (h .0)) (key-less key a b (h .1)))
+
+module _ (cells : List ℕ) (t : AdmittedTable cells) where
+  turn-of : (k : ℕ) → k < 9 → (q : Sequence) → sectionAt k .sequence ≡ q → onceFirst k q ≡ true → InTurn q (sectionAt k .key) (rowsIn k cells)
+  unfolding onceFirst lettersOf
+  turn-of k h ascending e o = pairwise-weaken (KeyBefore (sectionAt k .key)) (λ (a b : Row). keyLess (sectionAt k .key) a b ≡ true) (rowsIn k cells) (λ a b m n p. key-less (sectionAt k .key) a b p) (table-ascends cells t k h e)
+  turn-of k h once e o = rw (eqb-true k labelSection o) (table-letters cells t)
+  turn-of k h free e o = tt
+
+  section-formed : (k : ℕ) → k < 9 → FormedSection (length (rowsIn labelSection cells)) (scopesOf cells) (t .form) k (rowsIn k cells)
+  unfolding lettersOf
+  section-formed k h =
+      let s = section-in cells t k h in
+      let stand = rows-stand (t .form) k (begun (s .before)) (rowsIn k cells) (s .admitted) in
+      record {
+        each = λ row m. record {
+          five = stand row m .0;
+          formed = stand row m .1;
+          in-range = rw (length-map (rowsIn labelSection cells) (λ (r : Row). value r 0)) at (table-in-range cells t k h row m);
+        };
+        in-turn = turn-of k h (sectionAt k .sequence) refl (once-first k h);
+        least = s .enough;
+        most = table-limit cells t k h;
+      }
+
+  form-in : t .form ≡ formIn cells
+  unfolding formIn
+  form-in = sym (ap (λ (l : List ℕ). formIn l) (t .cells-are))
+
+  rows-formed : FormedRows (t .form) (λ k. rowsIn k cells)
+  unfolding scopesIn scopesOf
+  rows-formed = record { known = t .known; sections = section-formed; order = table-order cells t }
+
+  pub admitted-formed : FormedTable cells
+  unfolding tableOf
+  admitted-formed = record {
+    in-turn =
+        t .cells-are
+        ∙ ap (λ (l : List ℕ). t .form ∷ l) (cells-listed 9 0 (λ k. rowsIn k cells) (t .sections) (t .count) (λ i j e h. listed-at cells t i ∙ ap (λ n. rowsIn n cells) (omega arith)))
+        ∙ ap (λ (f : ℕ). f ∷ cellsFrom 9 0 (λ k. rowsIn k cells)) form-in;
+    rows = subst (λ (f : ℕ). FormedRows f (λ k. rowsIn k cells)) form-in rows-formed;
+  }
+
+pub written-formed : WrittenFormed
+written-formed cells text e = admitted-formed cells (written-admitted cells text e)
+
+pub read-formed : ReadFormed
+read-formed text cells e = admitted-formed cells (read-admitted text cells e)
+
+-- formed rows make a formed table
+pub table-formed : TableFormed
+unfolding rows-table
+table-formed form rows f =
+    let t = rows-table form rows f in
+    (admitted-formed (tableOf form rows) t, λ k h. sym (listed-at (tableOf form rows) t k) ∙ list-at 9 0 k k rows (omega arith) h)
