@@ -35,7 +35,7 @@ extern "C" {
 #endif
 
 /* Refusals. The sender of a file causes 1 to 6 (the host, where a table of its own is written), the writer of a path row
- * 8, the host 7 and 9. */
+ * 8, the host 7, 9 and 14. */
 #define TEWHORANU_TOO_LONG 1      /* the file is longer than 32,768 bytes */
 #define TEWHORANU_MALFORMED 2     /* a line, or a row of a graph table, not of its section's form; a missing section */
 #define TEWHORANU_OUT_OF_RANGE 3  /* a value that the file has no room for, or a label that it does not list */
@@ -45,6 +45,7 @@ extern "C" {
 #define TEWHORANU_NO_QUERY 7      /* the file has no query of this number */
 #define TEWHORANU_NO_PATH_ROW 8   /* a path row not of its form */
 #define TEWHORANU_NO_ROOM 9       /* an output longer than the memory lent for it, or more steps than records */
+#define TEWHORANU_NO_OLD_FORM 14  /* a declaration or a query of a kind other than `v`, which the old form cannot say */
 
 /* An answer of this and more is no refusal. Cases are as far apart. */
 #define TEWHORANU_DONE 64
@@ -118,6 +119,8 @@ static inline const char *tewhoranu_refusal_text(uint64_t answer)
         return "a path row is not of its form";
     case TEWHORANU_NO_ROOM:
         return "the memory lent is too short for the output or the steps";
+    case TEWHORANU_NO_OLD_FORM:
+        return "the old form has no kinds, and a declaration or a query is of another than v";
     default:
         return "no refusal that this header knows";
     }
@@ -169,6 +172,18 @@ uint64_t tewhoranu_compare(const uint8_t *text, size_t text_length, const uint8_
  * Answers 64 and the number of bytes, at most TEWHORANU_SUMMARY; bytes behind them stay as they were.
  * Refuses by 1 to 6 as tewhoranu_read does, then 9. */
 uint64_t tewhoranu_summary(const uint8_t *text, size_t text_length, uint8_t *out, size_t out_length);
+
+/* Writes the file in the old form, without kinds. A file in that form comes out as it is; any other converts back to
+ * the same bytes by tewhoranu_to_new, and its listings have the same entries, found and awaits.
+ * Answers 64 and the number of bytes, at most TEWHORANU_TEXT; bytes behind them stay as they were.
+ * Refuses by 1 to 6 as tewhoranu_read does, then 14 where a declaration or a query is of a kind other than `v`, then 9. */
+uint64_t tewhoranu_to_old(const uint8_t *text, size_t text_length, uint8_t *out, size_t out_length);
+
+/* Writes the file in the form with kinds, each being `v` where it is in the old form. A file in that form comes out as it
+ * is; any other converts back to the same bytes by tewhoranu_to_old.
+ * Answers 64 and the number of bytes, at most TEWHORANU_TEXT; bytes behind them stay as they were.
+ * Refuses by 1 to 6 as tewhoranu_read does, then 9. */
+uint64_t tewhoranu_to_new(const uint8_t *text, size_t text_length, uint8_t *out, size_t out_length);
 
 #ifdef __cplusplus
 }

@@ -54,16 +54,35 @@ static int refused_with(size_t length, const char *old, const char *new, uint64_
     out[0] = 'x';
     return tewhoranu_read(changed, length, table, TEWHORANU_CELLS) == number
         && tewhoranu_summary(changed, length, out, TEWHORANU_SUMMARY) == number
+        && tewhoranu_to_old(changed, length, out, sizeof out) == number
+        && tewhoranu_to_new(changed, length, out, sizeof out) == number
         && tewhoranu_compare(changed, length, bytes("1 2"), 3, bytes("1 2"), 3, steps, 1, others, 1) == number
         && tewhoranu_name_sought(changed, length, 0, &place) == 0 && place == 7 && out[0] == 'x';
 }
 
+typedef uint64_t conversion(const uint8_t *text, size_t text_length, uint8_t *out, size_t out_length);
+
+/* Does a conversion of one text give the other, in a buffer of its length, and 9 in one a byte less, which it leaves alone? */
+static int converts(conversion *convert, const char *from, const char *to)
+{
+    size_t length = strlen(to);
+
+    memset(out, 'x', length + 1);
+    if (convert(bytes(from), strlen(from), out, length - 1) != TEWHORANU_NO_ROOM || out[0] != 'x')
+        return 0;
+    return convert(bytes(from), strlen(from), out, length) == TEWHORANU_DONE + length && memcmp(out, to, length) == 0
+        && out[length] == 'x';
+}
+
+/* Each refusal that the header has words for. */
 static int print_words(void)
 {
+    const char *unknown = tewhoranu_refusal_text(0);
     uint64_t number;
 
-    for (number = TEWHORANU_TOO_LONG; number <= TEWHORANU_NO_ROOM; number++)
-        printf("refused %d: %s\n", (int)number, tewhoranu_refusal_text(number));
+    for (number = 1; number < TEWHORANU_DONE; number++)
+        if (strcmp(tewhoranu_refusal_text(number), unknown) != 0)
+            printf("refused %d: %s\n", (int)number, tewhoranu_refusal_text(number));
     return 0;
 }
 
@@ -73,6 +92,10 @@ int main(int argc, char **argv)
     static const char summary[] = "queries one several none share\n3 3 0 0 100\n";
     static const char kinds[] = "label\nless more\nstate label next\naccept\n0\nscopes\n1\nfrom label to\n"
                                 "at kind name mark\n0 c x 1\n0 v x 2\nat open\n0 $\nstart kind seek\n0 c x\n0 v x\n";
+    static const char usual[] = "label\nless more\nstate label next\naccept\n0\nscopes\n1\nfrom label to\n"
+                                "at kind name mark\n0 v x 1\nat open\n0 $\nstart kind seek\n0 v x\n";
+    static const char old[] = "label\nless more\nstate label next\naccept\n0\nscopes\n1\nfrom label to\n"
+                              "at name mark\n0 x 1\nat open\n0 $\nstart seek\n0 x\n";
     static const char limit[] = "start kind seek found awaits\n0 v x one 0$\nmark path\n2 0\n";
     static const char visible[] = "21 2", shadowed[] = "10 2P1", unreached[] = "5 2P1P0";
     FILE *file = argc == 2 ? fopen(argv[1], "rb") : NULL;
@@ -159,6 +182,19 @@ int main(int argc, char **argv)
     EXPECT(is_case(answer, TEWHORANU_VISIBLE));
     answer = tewhoranu_judge(bytes(kinds), length, 1, bytes("1 0"), 3, steps, 0);
     EXPECT(is_case(answer, TEWHORANU_UNREACHED));
+
+    /* one file in both forms: each way, as it is, a byte less; and kinds that the old form cannot say */
+    EXPECT(converts(tewhoranu_to_old, usual, old) && converts(tewhoranu_to_old, old, old));
+    EXPECT(converts(tewhoranu_to_new, old, usual) && converts(tewhoranu_to_new, usual, usual));
+    EXPECT(converts(tewhoranu_to_new, kinds, kinds));
+    out[0] = 'x';
+    EXPECT(tewhoranu_to_old(bytes(kinds), length, out, sizeof out) == TEWHORANU_NO_OLD_FORM);
+    EXPECT(tewhoranu_to_old(bytes(kinds), length, out, 0) == TEWHORANU_NO_OLD_FORM);
+    EXPECT(tewhoranu_to_old(bytes(kinds), length - 1, out, 0) == TEWHORANU_MALFORMED);
+    EXPECT(tewhoranu_to_new(bytes(kinds), length - 1, out, 0) == TEWHORANU_MALFORMED);
+    EXPECT(tewhoranu_to_old(text, TEWHORANU_TEXT + 1, out, sizeof out) == TEWHORANU_TOO_LONG);
+    EXPECT(tewhoranu_to_new(text, TEWHORANU_TEXT + 1, out, sizeof out) == TEWHORANU_TOO_LONG);
+    EXPECT(out[0] == 'x');
     puts("calls: ok");
     return 0;
 }

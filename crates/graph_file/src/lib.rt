@@ -13,6 +13,8 @@ mod tables;
 mod writer;
 
 pub use format::KIND_FORM;
+pub use format::OLD_FORM;
+pub use format::PLAIN_KIND;
 pub use rows::OWN_CELLS;
 pub use rows::SHORT_CELLS;
 pub use sought::NamePlace;

@@ -2,12 +2,12 @@
 -- nothing.
 use mathlib.Core.Path.{_≡_, refl, sym, ap, _∙_}
 use mathlib.Core.Bool.{Bool, true, false, and-false}
-use mathlib.Core.List.{List}
+use mathlib.Core.List.{List, [], _∷_}
 use Prim.Native.Nat.{ℕ, zero, suc, _+_, _≤_, _<_}
 use native.Mathlib.Omega.{arith}
 use borrow.Author.Tests.{ltb-true, ltb-false, eq-eqb, ne-eqb}
 use lib.Dec.{eqb, ltb}
-use lib.ListN.{length, getD, drop, drop-of-length-le, List·getD-eq-default}
+use lib.ListN.{length, getD, drop, set, drop-of-length-le, List·getD-eq-default}
 use lib.Seq.{drop-cons, getD-drop}
 use Rattle.text_field.proofs.ByteLaws.{clash}
 use Rattle.graph_file.specs.Format.{hasKinds}
@@ -24,7 +24,7 @@ use Rattle.graph_table.specs.Values.{packed, declarationRow, queryRow, r
 use Rattle.graph_table.specs.declared.rows.DeclarationRow.{DeclarationRow}
 use Rattle.graph_table.specs.declared.sections.Form.{Form}
 use Rattle.graph_table.specs.declared.sections.Form.the-variants.{Old, Kinds}
-use Rattle.graph_table.specs.Sections.{tableForm}
+use Rattle.graph_table.specs.Sections.{tableForm, formNumber, withForm}
 use Rattle.graph_table.proofs.Tests.{and-true}
 
 -- does a row stand there?
@@ -108,3 +108,14 @@ module _ (cells : List ℕ) where
       at zero k = refl
       at (suc zero) k = absurd (k refl)
       at (suc (suc n)) k = refl
+
+-- the first cell set to a form's number
+pub form-kept : (form : Form) (cells : List ℕ) → length cells ≡ 0 → cells ≡ withForm form cells
+unfolding withForm
+form-kept form [] h = refl
+form-kept form (old ∷ rows) h = absurd (omega arith)
+
+pub form-set : (form : Form) (n : ℕ) (cells : List ℕ) → n ≡ formNumber form → (length cells ≡ 0 → ⊥) → set cells 0 n ≡ withForm form cells
+unfolding withForm
+form-set form n [] e h = absurd (h refl)
+form-set form n (old ∷ rows) e h = rw e

@@ -6,7 +6,7 @@ use mathlib.Core.List.{List, [], _∷_}
 use mathlib.Core.Bool.{true, false}
 use lib.Dec.{ltb}
 use lib.ListN.{getD, take, drop}
-use Rattle.graph_file.specs.Format.{hasKinds}
+use Rattle.graph_file.specs.Format.{hasKinds, oldForm, kindForm}
 use Rattle.graph_file.specs.Admission.{Row}
 use Rattle.graph_file.specs.File.{formIn}
 use Rattle.graph_table.specs.declared.sections.Form.{Form}
@@ -15,6 +15,16 @@ use Rattle.graph_table.specs.declared.sections.Form.the-variants.{Old, K
 -- the form of the file that a table stands for: with kinds (02, K8), or the old one
 unfoldable pub tableForm : List ℕ → Form
 tableForm cells = elim (hasKinds (formIn cells)) [ true ↦ Kinds | false ↦ Old ]
+
+-- the number that stands for a form
+unfoldable pub formNumber : Form → ℕ
+formNumber Old = oldForm
+formNumber Kinds = kindForm
+
+-- the table with another form and the same rows (02, K9); one without cells stays as it is
+unfoldable pub withForm : Form → List ℕ → List ℕ
+withForm form [] = []
+withForm form (old ∷ rows) = formNumber form ∷ rows
 
 -- how many cells the rows have that stand before the first one whose cell c is k or more
 unfoldable pub leading : ℕ → ℕ → List ℕ → ℕ

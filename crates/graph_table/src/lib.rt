@@ -41,3 +41,4 @@ pub use sections::first_row;
 pub use sections::form_of;
 pub use sections::row_count;
 pub use sections::rows_from;
+pub use sections::set_form;

@@ -1,9 +1,10 @@
 // A graph table's form, and where the sections' rows stand in it.
 use graph_file::KIND_FORM;
+use graph_file::OLD_FORM;
 ghost use mathlib.Core.Path.{_≡_};
 ghost use Prim.Native.Nat.{_+_, _≤_, _<_};
 ghost use lib.ListN.{length, drop};
-ghost use Rattle.graph_table.specs.Sections.{tableForm, leading, firstRow, rowsOf};
+ghost use Rattle.graph_table.specs.Sections.{tableForm, formNumber, withForm, leading, firstRow, rowsOf};
 
 // The nine sections by their numbers (01, "The gym file").
 pub const LABELS: usize = 0;
@@ -50,6 +51,26 @@ pub fn form_of(table: &[u64]) -> Form
         return Form::Kinds;
     }
     Form::Old
+}
+
+// The number that stands for a form.
+fn form_number(form: Form) -> u64
+    ensures answer { λ r. ⌜ r ≡ formNumber form ⌝ }
+{
+    match form {
+        Form::Old => OLD_FORM,
+        Form::Kinds => KIND_FORM,
+    }
+}
+
+// The table gets another form and keeps its rows. One without cells stays as it is.
+pub fn set_form(table: &mut [u64], form: Form)
+    ensures memory { λ _. ⌜ now (table .exit) ≡ withForm form (now (table .entry)) ⌝ }
+{
+    if table.len() == 0 {
+        return;
+    }
+    table[0] = form_number(form);
 }
 
 // From place p on, the place of the first row whose cell c is k or more; where the whole rows end,

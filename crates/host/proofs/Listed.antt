@@ -1,5 +1,5 @@
--- Every refusal of every call has a number of document 01's list, so it is below 64 and the number
--- of an answer tells it. Assumes nothing.
+-- Every refusal of every call has a number of document 01's list or is the call's own, so it is
+-- below 64 and the number of an answer tells it. Assumes nothing.
 use Prim.Native.Nat.{ℕ, zero, suc, _+_, _-_, _*_, _/_, _%_, _≤_, _<_}
 use mathlib.Core.Path.{_≡_, refl, sym, ap, _∙_}
 use mathlib.Core.List.{List, [], _∷_, map}
@@ -16,19 +16,21 @@ use Rattle.text_field.specs.declared.NameRead.the-variants.{Name, NoName}
 use Rattle.text_field.specs.Bytes.{isCapital}
 use Rattle.text_field.specs.Number.{numberHere, numberPlaced, numberMeaning}
 use Rattle.text_field.specs.Name.{nameHere, nameMeaning}
-use Rattle.graph_file.specs.Format.{Item, byte, field, state, scope, mark, count, letter, label, end, name, kind, plain, sectionAt, shapeAt}
+use Rattle.graph_file.specs.Format.{Item, byte, field, state, scope, mark, count, letter, label, end, name, kind, plain, sectionAt, shapeAt, oldForm, kindForm}
 use Rattle.text_field.specs.Outcome.{Outcome, refused, done, andThen, refuseIf}
 use Rattle.graph_file.specs.Admission.{Row, Sofar, blank, rowOf, unless, inRange, follows, admission}
 use Rattle.graph_file.specs.Line.{Reading, numberTaken, nameTaken, byteTaken, place, endTaken, readField, startsWith, readItem, placeOf, readItems, lineText, formed}
 use Rattle.graph_file.specs.Order.{orderFault}
 use Rattle.graph_file.specs.File.{Piece, Way, Stage, ifAdmitted, afterRow, oneRow, throughRows, afterNames, enough, throughSection, isEmpty, throughSections, ordered, atStart, whole, readNames, readRow, reading, formOf, readStage, madeOf, readCells, writeNames, writeRow, writing, hasForm, formIn, writeText}
 use Rattle.text_field.specs.Answer.{answer}
+use Rattle.graph_file.specs.Formed.{otherKinds, inForm}
 use Rattle.path_row.specs.Form.{PathRow, mostMark, mostScope, numberUpTo, Front, startBy, spaceBy, markBy, headHere, rowBy, rowHere}
 use Rattle.path_row.specs.Compare.{Comparison, compareRows, compareAnswer}
 use Rattle.resolution.specs.Listing.{listingOf, listingFor, summaryFor}
 use Rattle.judge.specs.Judge.{judgeOf, judgeAnswer}
+use Rattle.conversion.specs.Conversion.{oldText, newText, textIn, textOf, oldOf, newOf}
 use Rattle.host.specs.Numbers.{told, amountNumber, caseNumber, noSteps, written, comparisonCase, compared, standingCase, judged}
-use Rattle.host.specs.Listed.{lastRefusal, Listed, listed, carried, heard, amountIn, caseIn, numbered, Output, Cases, Numbers}
+use Rattle.host.specs.Listed.{lastRefusal, Listed, listed, carried, ListedWith, its-own, as-others, heard, amountIn, caseIn, numbered, Output, OutputWith, Cases, Numbers}
 
 -- what refuses by a number of the list, and goes on so
 then-listed : {A B : Type 0} (o : Outcome A) (f : A → Outcome B) → Listed o → ((a : A) → Listed (f a)) → Listed (andThen o f)
@@ -196,6 +198,20 @@ summary-listed : (text : List ℕ) → Listed (summaryFor text)
 unfolding summaryFor
 summary-listed text = then-listed (readCells text) _ (read-listed text) (λ cells. carried _)
 
+-- a file in the other form
+new-listed : (text : List ℕ) → Listed (newOf text)
+unfolding newOf textOf textIn newText
+new-listed text = then-listed (readCells text) _ (read-listed text) (λ cells. write-listed (inForm kindForm cells))
+
+old-listed : (o : Outcome (List ℕ)) (room : ℕ) → Listed o → ListedWith 14 (answer (andThen o oldText) room)
+unfolding andThen oldText refuseIf answer
+old-listed _ room (listed n low high) = as-others _ (listed n low high)
+old-listed _ room (carried cells) = by-kinds (otherKinds cells)
+  where
+    by-kinds : (b : Bool) → ListedWith 14 (answer (refuseIf b 14 (writeText (inForm oldForm cells))) room)
+    by-kinds true = its-own
+    by-kinds false = as-others _ (answer-listed (writeText (inForm oldForm cells)) room (write-listed (inForm oldForm cells)))
+
 -- path rows
 start-listed : (m before : ℕ) (r : NumberRead) → Listed (startBy m before r)
 unfolding startBy numberMeaning numberPlaced andThen
@@ -258,6 +274,11 @@ unfolding told written amountNumber
 output _ (listed n low high) = (listed n low high, heard-low amountIn n high)
 output _ (carried a) = (carried a, heard-high amountIn (amountNumber a) (omega arith) ∙ ap done (amount-in a))
 
+output-with : (own : ℕ) (o : Outcome ℕ) → own < 64 → ListedWith own o → OutputWith own o
+unfolding told written heard
+output-with own _ h its-own = (its-own, rw (lt-ltb own 64 h, heard))
+output-with own o h (as-others _ l) = (as-others o l, output o l .1)
+
 cases : {A : Type 0} (case : A → ℕ) (o : Outcome A) → Listed o → Cases case (told (λ a. caseNumber (case a) noSteps)) o
 unfolding told numbered caseNumber noSteps
 cases case _ (listed n low high) = (listed n low high, heard-low caseIn n high)
@@ -265,7 +286,7 @@ cases case _ (carried a) =
     (carried a, heard-high caseIn (caseNumber (case a) noSteps) (omega arith) ∙ ap done (case-in (case a) noSteps (omega arith)))
 
 pub numbers : Numbers
-unfolding compared judged
+unfolding compared judged oldOf textOf textIn
 numbers = record {
   read = λ text room. output (answer (readCells text) room) (answer-listed (readCells text) room (read-listed text));
   write = λ cells room. output (answer (writeText cells) room) (answer-listed (writeText cells) room (write-listed cells));
@@ -273,4 +294,6 @@ numbers = record {
   summary = λ text room. output (answer (summaryFor text) room) (answer-listed (summaryFor text) room (summary-listed text));
   judge = λ text query row room. cases standingCase (judgeAnswer text query row room) (judge-listed text query row room);
   compare = λ text a b n m. cases comparisonCase (compareAnswer text a b n m) (compare-listed text a b n m);
+  toOld = λ text room. output-with 14 (answer (oldOf text) room) (omega arith) (old-listed (readCells text) room (read-listed text));
+  toNew = λ text room. output (answer (newOf text) room) (answer-listed (newOf text) room (new-listed text));
 }

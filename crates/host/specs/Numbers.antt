@@ -10,7 +10,7 @@ use Rattle.text_field.specs.Outcome.{Outcome, refused, done}
 use Rattle.graph_file.specs.NameSought.{nameSought, placeSought}
 use Rattle.path_row.specs.Compare.{Comparison, first, second, neither}
 
--- A refusal is told by its number in document 01 ("Who can cause a refusal"), any other answer by
+-- A refusal is told by its number (01, "Who can cause a refusal"; 14, 02, K9), any other answer by
 -- the number that is given for it.
 unfoldable pub told : {A : Type 0} → (A → ℕ) → Outcome A → ℕ
 told number (refused n) = n

@@ -5,6 +5,8 @@ mod numbers;
 use crate::numbers::compared_number;
 use crate::numbers::judged_number;
 use crate::numbers::written_number;
+use conversion::to_new;
+use conversion::to_old;
 use graph_file::name_place;
 use graph_file::read;
 use graph_file::write;
@@ -21,6 +23,7 @@ ghost use Rattle.graph_file.specs.NameSought.{nameSought};
 ghost use Rattle.path_row.specs.Compare.{compareAnswer, stepsLeft};
 ghost use Rattle.resolution.specs.Listing.{listingFor, summaryFor};
 ghost use Rattle.judge.specs.Judge.{judgeAnswer};
+ghost use Rattle.conversion.specs.Conversion.{oldOf, newOf};
 ghost use Rattle.host.specs.Numbers.{written, compared, judged, placeLeft};
 
 // A gym file's text read into the lent table.
@@ -117,4 +120,22 @@ pub extern "C" fn tewhoranu_summary(text: &[u8], out: &mut [u8]) -> u64
     ensures memory { λ _. ⌜ now (out .exit) ≡ leaves (summaryFor (now (text .entry))) (now (out .entry)) ⌝ }
 {
     written_number(summary(text, out))
+}
+
+// A gym file's text in the old form, written into the lent buffer.
+#[no_mangle]
+pub extern "C" fn tewhoranu_to_old(text: &[u8], out: &mut [u8]) -> u64
+    ensures answer { λ r. ⌜ r ≡ written (answer (oldOf (now (text .entry))) (length (now (out .entry)))) ⌝ }
+    ensures memory { λ _. ⌜ now (out .exit) ≡ leaves (oldOf (now (text .entry))) (now (out .entry)) ⌝ }
+{
+    written_number(to_old(text, out))
+}
+
+// A gym file's text in the form with kinds, written into the lent buffer.
+#[no_mangle]
+pub extern "C" fn tewhoranu_to_new(text: &[u8], out: &mut [u8]) -> u64
+    ensures answer { λ r. ⌜ r ≡ written (answer (newOf (now (text .entry))) (length (now (out .entry)))) ⌝ }
+    ensures memory { λ _. ⌜ now (out .exit) ≡ leaves (newOf (now (text .entry))) (now (out .entry)) ⌝ }
+{
+    written_number(to_new(text, out))
 }

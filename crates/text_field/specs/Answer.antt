@@ -9,7 +9,7 @@ use Rattle.text_field.specs.declared.answer.Answer.{Answer}
 use Rattle.text_field.specs.declared.answer.Answer.the-variants.{Refused, Written}
 use Rattle.text_field.specs.Outcome.{Outcome, refused, done, andThen, refuseIf}
 
--- the answer by document 01's number, or how much was written
+-- the answer: a refusal by its number, or how much was written
 unfoldable pub answerOf : Answer → Outcome ℕ
 answerOf (Refused n) = refused n
 answerOf (Written n) = done n

@@ -2,7 +2,7 @@
 use Prim.Native.Nat.{ℕ}
 use mathlib.Core.Bool.{Bool, true, false}
 
--- a refusal, by its number in document 01, or what was asked for
+-- a refusal, by its number in document 01 or 02, or what was asked for
 pub data Outcome (A : Type 0) : Type 0 where
   refused : ℕ → Outcome A
   done : A → Outcome A

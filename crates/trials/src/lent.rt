@@ -1,4 +1,5 @@
-// Memory that is lent: the mark it holds before a call, whether it still stands after it, and a sum of what was put there.
+// Memory that is lent: the mark it holds before a call, whether it still stands after it, and a sum
+// of what was put there.
 const CELL: u64 = 12297829382473034410;
 
 const BYTE: u8 = 165;

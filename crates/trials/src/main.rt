@@ -1,5 +1,7 @@
-// Reads cases from standard input and prints for each what a public function answers, and what became of the memory lent to it. The programs in
-// tests/trials write the cases and, by a reference of their own, the output that is due.
+// Reads cases from standard input and prints for each what a public function answers, and what
+// became of the memory lent to it. The programs in tests/trials write the cases and, by a reference
+// of their own, the output that is due.
+mod converted;
 mod edges;
 mod files;
 mod input;
@@ -9,13 +11,15 @@ mod listings;
 mod rows;
 mod say;
 
+use graph_table::Form;
 use input::Head;
 use input::head_of;
 use input::plus;
 use input::read_part;
 use lent::bytes;
 
-// A case of its kind. Its bytes are a text, then a first and a second path row where its kind has them.
+// A case of its kind. Its bytes are a text, then a first and a second path row where its kind has
+// them.
 fn case(h: Head, body: &[u8], given: &mut [u64], table: &mut [u64], out: &mut [u8]) {
     let kind = h.kind;
     let room = h.room;
@@ -35,11 +39,14 @@ fn case(h: Head, body: &[u8], given: &mut [u64], table: &mut [u64], out: &mut [u
         b's' => listings::summed(text, room, out),
         b'a' => listings::whole(text, number, room, out),
         b'e' => edges::finding(text, number, given),
+        b'o' => converted::converting(Form::Old, text, room, out),
+        b'k' => converted::converting(Form::Kinds, text, room, out),
         _ => say::unknown(),
     }
 }
 
-// The title and the bytes of a case, each followed by LF; the bytes go behind those that stay of the case before.
+// The title and the bytes of a case, each followed by LF; the bytes go behind those that stay of
+// the case before.
 fn one_case(
     h: Head,
     title: &mut [u8],
@@ -76,7 +83,8 @@ fn next_case(
     one_case(head_of(line), title, space, given, table, out)
 }
 
-// Nothing says that the input ends, so the loop counts its turns down from a number that no run uses up.
+// Nothing says that the input ends, so the loop counts its turns down from a number that no run
+// uses up.
 fn cases(
     line: &mut [u8],
     title: &mut [u8],

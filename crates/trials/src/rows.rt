@@ -1,4 +1,5 @@
-// Path rows: one taken apart and written again, one written from parts that may make none, two compared by a file.
+// Path rows: one taken apart and written again, one written from parts that may make none, two
+// compared by a file.
 use crate::input::plus;
 use crate::input::table_of;
 use crate::lent;
@@ -107,8 +108,8 @@ fn reads_as(row: &[u8], mark: u64, start: u64, count: usize) -> bool {
     m == mark && s == start && n == count
 }
 
-// Parts in hexadecimal, written into a lent buffer of `room` bytes: the mark, the start, how many steps, how many letters and how many scopes are lent,
-// then 80 letters and 80 scopes.
+// Parts in hexadecimal, written into a lent buffer of `room` bytes: the mark, the start, how many
+// steps, how many letters and how many scopes are lent, then 80 letters and 80 scopes.
 fn parts(body: &[u8], room: usize, out: &mut [u8]) {
     let mut table = [0u64; 200];
     table_of(body, &mut table);

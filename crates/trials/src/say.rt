@@ -54,6 +54,11 @@ pub fn back(same: bool) {
     }
 }
 
+// Is what came out what went in?
+pub fn as_it_was() {
+    word(b", as it was\n");
+}
+
 pub fn name(s: &[u8]) {
     word(b"seeks <");
     word(s);

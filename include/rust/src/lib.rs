@@ -46,10 +46,11 @@ pub enum Refusal {
     NoQuery = 7,
     NoPathRow = 8,
     NoRoom = 9,
+    NoOldForm = 14,
 }
 
 impl Refusal {
-    pub const ALL: [Refusal; 9] = [
+    pub const ALL: [Refusal; 10] = [
         Refusal::TooLong,
         Refusal::Malformed,
         Refusal::OutOfRange,
@@ -59,6 +60,7 @@ impl Refusal {
         Refusal::NoQuery,
         Refusal::NoPathRow,
         Refusal::NoRoom,
+        Refusal::NoOldForm,
     ];
 
     pub fn number(self) -> u8 {
@@ -86,6 +88,7 @@ impl fmt::Display for Refusal {
             Refusal::NoQuery => "there is no query of this number",
             Refusal::NoPathRow => "a path row is not of its form",
             Refusal::NoRoom => "the memory lent is too short for the output or the steps",
+            Refusal::NoOldForm => "the old form has no kinds, and a declaration or a query is of another than v",
         })
     }
 }
@@ -140,6 +143,8 @@ mod library {
             second_steps_length: usize,
         ) -> u64;
         pub fn tewhoranu_summary(text: *const u8, text_length: usize, out: *mut u8, out_length: usize) -> u64;
+        pub fn tewhoranu_to_old(text: *const u8, text_length: usize, out: *mut u8, out_length: usize) -> u64;
+        pub fn tewhoranu_to_new(text: *const u8, text_length: usize, out: *mut u8, out_length: usize) -> u64;
     }
 }
 
@@ -252,4 +257,16 @@ pub fn compare(
 pub fn summary(text: &[u8], out: &mut [u8]) -> Result<usize, Refusal> {
     // SAFETY: as said above.
     written(unsafe { library::tewhoranu_summary(text.as_ptr(), text.len(), out.as_mut_ptr(), out.len()) })
+}
+
+/// Writes the file in the old form and answers how many bytes were written. A kind other than `v` is refused.
+pub fn to_old(text: &[u8], out: &mut [u8]) -> Result<usize, Refusal> {
+    // SAFETY: as said above.
+    written(unsafe { library::tewhoranu_to_old(text.as_ptr(), text.len(), out.as_mut_ptr(), out.len()) })
+}
+
+/// Writes the file in the form with kinds and answers how many bytes were written.
+pub fn to_new(text: &[u8], out: &mut [u8]) -> Result<usize, Refusal> {
+    // SAFETY: as said above.
+    written(unsafe { library::tewhoranu_to_new(text.as_ptr(), text.len(), out.as_mut_ptr(), out.len()) })
 }

@@ -12,7 +12,7 @@ use std::fmt::Debug;
 pub struct Tally(pub BTreeMap<(&'static str, String), usize>);
 
 impl Tally {
-    fn count(&mut self, call: &'static str, answer: String) {
+    pub fn count(&mut self, call: &'static str, answer: String) {
         *self.0.entry((call, answer)).or_default() += 1;
     }
 }
@@ -33,13 +33,13 @@ fn case<T: Debug>(result: &Result<T, u8>) -> String {
 }
 
 /// Memory lent to both sides with the same arbitrary content.
-fn lent<T>(rng: &mut Rng, length: usize, make: impl Fn(usize) -> T) -> Vec<T> {
+pub fn lent<T>(rng: &mut Rng, length: usize, make: impl Fn(usize) -> T) -> Vec<T> {
     let from = rng.below(200);
     (0..length).map(|i| make(from + i)).collect()
 }
 
 /// A length for lent memory where `due` is needed: exact, one less, some more, any, none.
-fn length(rng: &mut Rng, due: usize, most: usize) -> usize {
+pub fn length(rng: &mut Rng, due: usize, most: usize) -> usize {
     match rng.below(6) {
         0 | 1 => due,
         2 => due.saturating_sub(1),
@@ -56,7 +56,7 @@ pub struct Test {
 
 impl Test {
     /// One call on both sides: the same result and the same memory.
-    fn same<T: Debug + PartialEq, C: Clone + PartialEq>(
+    pub fn same<T: Debug + PartialEq, C: Clone + PartialEq>(
         &mut self,
         call: &'static str,
         text: &[u8],
@@ -216,6 +216,7 @@ impl Test {
             self.write(&table[..n]);
         }
         self.summary(text);
+        self.conversions(text);
         let (queries, scopes, letters) = match plain::gym::Gym::parse(text) {
             Ok(gym) => (gym.queries.len(), gym.scopes as usize, gym.labels.clone()),
             Err(_) => (1, 5, b"AB".to_vec()),
@@ -246,7 +247,7 @@ impl Test {
     }
 }
 
-fn number(refusal: tewhoranu::Refusal) -> u8 {
+pub fn number(refusal: tewhoranu::Refusal) -> u8 {
     refusal.number()
 }
 

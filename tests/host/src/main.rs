@@ -7,6 +7,7 @@
 //! what the wrapper says of each refusal.
 
 mod calls;
+mod converting;
 mod files;
 mod programs;
 
@@ -25,7 +26,7 @@ fn differ(call: &str, text: &[u8], detail: String) -> ! {
 }
 
 /// What each call must have answered at least once; and accepted files of each form.
-const DUE: [(&str, &[&str]); 8] = [
+const DUE: [(&str, &[&str]); 11] = [
     ("form", &["0", "1"]),
     ("read", &["written", "refused 1", "refused 2", "refused 3", "refused 4", "refused 5", "refused 6", "refused 9"]),
     ("write", &["written", "refused 2", "refused 3", "refused 4", "refused 5", "refused 6", "refused 9"]),
@@ -34,6 +35,9 @@ const DUE: [(&str, &[&str]); 8] = [
     ("judge", &["visible", "shadowed", "unreached", "refused 1", "refused 2", "refused 7", "refused 8", "refused 9"]),
     ("compare", &["first", "second", "neither", "refused 1", "refused 2", "refused 8", "refused 9"]),
     ("summary", &["written", "refused 1", "refused 2", "refused 3", "refused 4", "refused 5", "refused 6", "refused 9"]),
+    ("to_old", &["written", "refused 1", "refused 2", "refused 3", "refused 4", "refused 5", "refused 6", "refused 14", "refused 9"]),
+    ("to_new", &["written", "refused 1", "refused 2", "refused 3", "refused 4", "refused 5", "refused 6", "refused 9"]),
+    ("converted", &["to_old as it was", "to_old and back", "to_new as it was", "to_new and back"]),
 ];
 
 fn run(args: &[String]) {

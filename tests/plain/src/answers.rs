@@ -1,6 +1,6 @@
-//! Listing, judge and summary.
+//! Listing, judge and summary, and a file in the other form.
 
-use crate::gym::{push_end, push_name, push_number, Form, Gym, Query, Refusal};
+use crate::gym::{in_form, push_end, push_name, push_number, Form, Gym, Query, Refusal};
 use crate::path_row::{fill, PathRow, Step};
 use crate::search::{Go, Rules, Search};
 
@@ -171,6 +171,16 @@ pub fn summary(text: &[u8], out: &mut [u8]) -> Result<usize, Refusal> {
     let mut summary = Vec::new();
     push_summary(&figures, &mut summary);
     put(&summary, out)
+}
+
+/// Writes a text in the old form; answers the bytes written.
+pub fn to_old(text: &[u8], out: &mut [u8]) -> Result<usize, Refusal> {
+    put(&in_form(text, Form::Old)?, out)
+}
+
+/// Writes a text in the form with kinds; answers the bytes written.
+pub fn to_new(text: &[u8], out: &mut [u8]) -> Result<usize, Refusal> {
+    put(&in_form(text, Form::Kinds)?, out)
 }
 
 pub fn judge_row(gym: &Gym, rules: &Rules, query: Query, row: &PathRow) -> Standing {

@@ -592,6 +592,25 @@ pub fn write(table: &[u64], out: &mut [u8]) -> Result<usize, Refusal> {
     Ok(text.len())
 }
 
+/// A text in a form of file. Where that is the old one, 14 is a kind that it does not show.
+pub fn in_form(text: &[u8], form: Form) -> Result<Vec<u8>, Refusal> {
+    let mut sections: [Vec<Row>; 9] = Default::default();
+    read_rows(text, |section, row| sections[section].push(*row))?;
+    let mut named = sections[DECLARATIONS].iter().chain(&sections[QUERIES]);
+    if form == Form::Old && named.any(|row| row[1] != u64::from(USUAL)) {
+        return Err(14);
+    }
+    let labels: Vec<u8> = sections[LABELS].iter().map(|row| row[0] as u8).collect();
+    let mut out = Vec::new();
+    for (section, rows) in sections.iter().enumerate() {
+        push_title(&mut out, form, section);
+        for row in rows {
+            push_line(&mut out, form, section, row, &labels);
+        }
+    }
+    Ok(out)
+}
+
 /// The part of the text that is a query's name; empty if the file or the query is refused.
 pub fn name_sought(text: &[u8], query: usize) -> &[u8] {
     let mut queries = 0;

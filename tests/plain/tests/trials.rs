@@ -201,6 +201,47 @@ fn forms() {
     }
 }
 
+/// A file in the other form (02, K9): there and back, 14 after 1 to 6 and before 9.
+#[test]
+fn conversions() {
+    let convert = |to_old: bool, text: &str, room: usize| {
+        let mut out = vec![b'#'; room];
+        let f = if to_old {
+            answers::to_old
+        } else {
+            answers::to_new
+        };
+        let n = f(text.as_bytes(), &mut out)?;
+        assert!(out[n..].iter().all(|&b| b == b'#'));
+        Ok(String::from_utf8(out[..n].to_vec()).unwrap())
+    };
+    let (old, two) = (lines(EXAMPLE), two_kinds());
+    let new = lines(
+        &EXAMPLE
+            .replace("at name mark", "at kind name mark")
+            .replace("start seek", "start kind seek")
+            .replace(" hours", " v hours")
+            .replace(" service", " v service"),
+    );
+    for text in [&old, &new] {
+        assert_eq!(convert(true, text, 1000), Ok(old.clone()));
+        assert_eq!(convert(false, text, 1000), Ok(new.clone()));
+        assert_eq!(convert(true, text, old.len()), Ok(old.clone()));
+        assert_eq!(convert(false, text, new.len()), Ok(new.clone()));
+        assert_eq!(convert(true, text, old.len() - 1), Err(9));
+        assert_eq!(convert(false, text, new.len() - 1), Err(9));
+    }
+    assert_eq!(convert(true, &two, 1000), Err(14));
+    assert_eq!(convert(false, &two, 1000), Ok(two));
+    // a kind in the last query alone, with no room; and a fault in the line above it
+    let last = new.replace("2 v hours", "2 l hours");
+    assert_eq!(convert(true, &last, 0), Err(14));
+    assert_eq!(convert(false, &last, 0), Err(9));
+    let fault = last.replace("3 v service", "5 v service");
+    assert_eq!(convert(true, &fault, 0), Err(3));
+    assert_eq!(convert(true, &last.replace("I P", "I I"), 0), Err(6));
+}
+
 #[test]
 fn unmarked() {
     let none = example("accept / 0 / 1 / ", "accept / ");

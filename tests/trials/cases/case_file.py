@@ -13,7 +13,12 @@ them are its text, the next ROW its first path row, and the rest its second.
   s  the summary of the text, in a lent buffer of ROOM bytes
   e  the text is cells in hexadecimal, edge rows: where the rows stand that leave scope NUMBER
   a  the listings of the first NUMBER queries of the text and then its summary, each in a lent buffer of ROOM bytes
+  o  the text is converted to the old form into a lent buffer of ROOM bytes, and what comes out to the form with kinds
+  k  the text is converted to the form with kinds into a lent buffer of ROOM bytes, and what comes out to the old form
 """
+
+# the cases whose text is a gym file's, those of converting left out
+OF_FILES = b"rncjlsa"
 
 CASES = []
 TITLES = set()
@@ -29,6 +34,17 @@ def case(kind, title, due, text=b"", first=b"", second=b"", number=0, room=0):
     assert len(text) + len(first) + len(second) < 65000 and len(first) < 4096 and room < 98305, title
     TITLES.add(title)
     CASES.append((kind, bytes_of(title), due, text, first, second, number, room))
+
+
+def after_each_file(add):
+    """Lets `add` make cases behind each that has a gym file: it is given the case's title and its text. The text behind the same text costs nothing."""
+    there = CASES[:]
+    CASES.clear()
+    for before in there:
+        CASES.append(before)
+        kind, title, _, text = before[:4]
+        if kind in OF_FILES:
+            add(title.decode("latin-1"), text)
 
 
 def common(a, b):

@@ -52,6 +52,27 @@ fn read(text: &[u8], room: usize) -> String {
     }
 }
 
+type Conversion = fn(&[u8], &mut [u8]) -> Result<usize, u8>;
+
+/// A text converted, and what comes out converted back by `other`.
+fn convert(text: &[u8], room: usize, there: Conversion, other: Conversion) -> String {
+    let mut out = vec![b'#'; room];
+    match there(text, &mut out) {
+        Err(number) => format!("refused {number}, all {}\n", kept(&out, b'#')),
+        Ok(len) => {
+            let mut again = vec![0; text.len()];
+            let same = other(&out[..len], &mut again) == Ok(text.len()) && again == text;
+            let (sum, rest) = (byte_sum(&out[..len]), kept(&out[len..], b'#'));
+            let back = if out[..len] == *text {
+                "as it was"
+            } else {
+                back(same)
+            };
+            format!("converted {len} sum {sum}, rest {rest}, {back}\n")
+        }
+    }
+}
+
 /// Numbers in hexadecimal.
 fn numbers(body: &[u8]) -> Vec<u64> {
     let text = std::str::from_utf8(body).expect("numbers");
@@ -212,6 +233,8 @@ fn main() -> io::Result<()> {
             "c" => compare(text, first, second, number, room),
             "l" => listing(number),
             "s" => summary(),
+            "o" => convert(text, room, answers::to_old, answers::to_new),
+            "k" => convert(text, room, answers::to_new, answers::to_old),
             "a" => (0..number).map(listing).chain([summary()]).collect(),
             _ => "A KIND UNKNOWN HERE\n".to_string(),
         };

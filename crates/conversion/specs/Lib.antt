@@ -1,0 +1,5 @@
+-- A gym file in the other form, in reading order: what it is, what is promised of it, and how the
+-- code looks for kinds. Assumes nothing.
+pub mod Conversion
+pub mod Promises
+pub mod Rows

@@ -1,0 +1,172 @@
+-- What is read of the words and of the input is enough. Assumes nothing.
+use Prim.Native.Nat.{ℕ, zero, suc, _≤_, _<_}
+use mathlib.Core.Path.{_≡_, refl, sym, ap, _∙_}
+use mathlib.Core.Bool.{Bool, true, false, _&&_}
+use mathlib.Core.List.{List, [], _∷_}
+use native.Mathlib.Omega.{arith}
+use lib.Dec.{eqb, ltb}
+use lib.ListN.{length, getD, take}
+use lib.Seq.{take-all, length-take-le}
+use borrow.Author.Tests.{ltb-true, ltb-false, lt-ltb, ne-eqb}
+use Rattle.text_field.specs.declared.NumberRead.{NumberRead}
+use Rattle.text_field.specs.declared.NumberRead.the-variants.{Number, NoNumber}
+use Rattle.text_field.specs.Number.{numberHere}
+use Rattle.text_field.specs.Outcome.{Outcome, refused, done, andThen, refuseIf}
+use Rattle.text_field.proofs.NumberLaws.{number-found}
+use Rattle.graph_file.specs.File.{readCells, madeOf}
+use Rattle.graph_file.proofs.SectionLaws.{whole-long}
+use Rattle.path_row.specs.Form.{PathRow, rowHere}
+use Rattle.path_row.specs.Compare.{compareRows, compareAnswer}
+use Rattle.judge.specs.Judge.{judgeOf, judgeAnswer}
+use Rattle.conversion.specs.Conversion.{textOf, oldOf, newOf}
+use Rattle.printing.specs.Printed.{programText, outcomeText}
+use Rattle.gym.specs.Words.{Asked, list, old, new, judge, compare, usage, Word, alone, withTwo, queryAsked, judgeAsked, listWord, oldWord, newWord, judgeWord, compareWord, words, sameBytes, askedOf, asked}
+use Rattle.gym.specs.Said.{Said, judgeLine, compareLine, answered, said}
+use Rattle.gym.specs.Handed.{arguments, handed}
+use Rattle.gym.specs.Promises.{wordBytes, inputBytes, wordsRead, ReadEnough}
+
+-- a text is as long as that, or cut there
+pub data Cut (k : ℕ) (s : List ℕ) : Type 0 where
+  whole : take k s ≡ s → Cut k s
+  cut : k < length s → length (take k s) ≡ k → Cut k s
+
+cut-or-whole : (k : ℕ) (s : List ℕ) → Cut k s
+cut-or-whole k s = by (ltb k (length s)) refl
+  where
+    by : (t : Bool) → ltb k (length s) ≡ t → Cut k s
+    by true e = let h = ltb-true k (length s) e in cut h (length-take-le k s (omega arith))
+    by false e = whole (take-all k s (ltb-false k (length s) e))
+
+-- the input: past 32,768 bytes it is refused by 1, however it goes on
+module _ (input : List ℕ) where
+  long : (s : List ℕ) → 32768 < length s → readCells s ≡ madeOf (refused 1)
+  unfolding readCells
+  long s h = ap madeOf (sym (whole-long s h))
+
+  input-read : readCells (take inputBytes input) ≡ readCells input
+  input-read = by (cut-or-whole inputBytes input)
+    where
+      by : Cut inputBytes input → readCells (take inputBytes input) ≡ readCells input
+      by (whole e) = ap readCells e
+      by (cut h e) = long (take inputBytes input) (omega arith) ∙ sym (long input (omega arith))
+
+  pub input-enough : (x : Asked) → answered x (take inputBytes input) ≡ answered x input
+  unfolding answered programText oldOf newOf textOf judgeLine judgeAnswer compareLine compareAnswer
+  input-enough list = rw input-read
+  input-enough old = rw input-read
+  input-enough new = rw input-read
+  input-enough (judge i row) = rw input-read
+  input-enough (compare a b) = rw input-read
+  input-enough usage = refl
+
+-- a row: past 256 bytes it is refused by 8
+module _ (row : List ℕ) where
+  row-long : (s : List ℕ) → 256 < length s → rowHere s ≡ refused 8
+  unfolding rowHere refuseIf
+  row-long s h = rw (lt-ltb 256 (length s) h)
+
+  row-read : rowHere (take wordBytes row) ≡ rowHere row
+  row-read = by (cut-or-whole wordBytes row)
+    where
+      by : Cut wordBytes row → rowHere (take wordBytes row) ≡ rowHere row
+      by (whole e) = ap rowHere e
+      by (cut h e) = row-long (take wordBytes row) (omega arith) ∙ sym (row-long row (omega arith))
+
+-- a query's number has five bytes at most
+query-long : (q row : List ℕ) → 5 < length q → queryAsked (numberHere q) q row ≡ usage
+unfolding queryAsked
+query-long q row h = by (numberHere q) refl
+  where
+    by : (x : NumberRead) → numberHere q ≡ x → queryAsked x q row ≡ usage
+    by (Number i w) e =
+        let n = number-found q i w e .most in
+        rw (ne-eqb w (length q) (λ (z : w ≡ length q). omega arith), queryAsked)
+    by NoNumber e = refl
+
+-- of a word's name
+same-cut : (k : ℕ) (a b : List ℕ) → length b < k → sameBytes (take k a) b ≡ sameBytes a b
+unfolding sameBytes
+same-cut zero a b h = absurd (omega arith)
+same-cut (suc k) [] b h = refl
+same-cut (suc k) (x ∷ a) [] h = refl
+same-cut (suc k) (x ∷ a) (y ∷ b) h = ap (λ (t : Bool). eqb x y && t) (same-cut k a b (omega arith))
+
+module _ (input : List ℕ) where
+  abbrev saying : Asked → Said
+  saying x = answered x input
+
+  judge-row : (i : ℕ) (row : List ℕ) → saying (judge i (take wordBytes row)) ≡ saying (judge i row)
+  unfolding answered judgeLine judgeAnswer judgeOf
+  judge-row i row = rw (row-read row)
+
+  compare-rows : (a b : List ℕ) → saying (compare (take wordBytes a) (take wordBytes b)) ≡ saying (compare a b)
+  unfolding answered compareLine compareAnswer compareRows
+  compare-rows a b = rw (row-read a, row-read b)
+
+  query-row : (x : NumberRead) (q row : List ℕ) → saying (queryAsked x q (take wordBytes row)) ≡ saying (queryAsked x q row)
+  unfolding queryAsked
+  query-row NoNumber q row = refl
+  query-row (Number i w) q row = by (eqb w (length q)) (judge-row i row)
+    where
+      by : (t : Bool) → saying (judge i (take wordBytes row)) ≡ saying (judge i row)
+          → saying (elim t as (λ _. Asked) [ true ↦ judge i (take wordBytes row) | false ↦ usage ]) ≡ saying (elim t as (λ _. Asked) [ true ↦ judge i row | false ↦ usage ])
+      by true h = h
+      by false h = refl
+
+  query-read : (q row : List ℕ) → saying (judgeAsked (take wordBytes q) (take wordBytes row)) ≡ saying (judgeAsked q row)
+  unfolding judgeAsked
+  query-read q row = by (cut-or-whole wordBytes q)
+    where
+      by : Cut wordBytes q → saying (queryAsked (numberHere (take wordBytes q)) (take wordBytes q) (take wordBytes row)) ≡ saying (queryAsked (numberHere q) q row)
+      by (whole e) = ap (λ (s : List ℕ). saying (queryAsked (numberHere s) s (take wordBytes row))) e ∙ query-row (numberHere q) q row
+      by (cut h e) = ap saying (query-long (take wordBytes q) (take wordBytes row) (omega arith) ∙ sym (query-long q row (omega arith)))
+
+  -- the arguments that are read
+  abbrev read : List (List ℕ) → List (List ℕ)
+  read more = arguments (length more) (take wordBytes (getD more 0 [])) (take wordBytes (getD more 1 []))
+
+  alone-read : (x : Asked) (more : List (List ℕ)) → saying (alone x (read more)) ≡ saying (alone x more)
+  unfolding alone arguments
+  alone-read x [] = refl
+  alone-read x (a ∷ more) = refl
+
+  two-read : (x : List ℕ → List ℕ → Asked) → ((a b : List ℕ) → saying (x (take wordBytes a) (take wordBytes b)) ≡ saying (x a b))
+      → (more : List (List ℕ)) → saying (withTwo x (read more)) ≡ saying (withTwo x more)
+  unfolding withTwo arguments
+  two-read x e [] = refl
+  two-read x e (a ∷ []) = refl
+  two-read x e (a ∷ b ∷ []) = e a b
+  two-read x e (a ∷ b ∷ c ∷ more) = refl
+
+  -- one word after the other
+  module _ (name : List ℕ) (more : List (List ℕ)) where
+    abbrev Enough : List Word → Type 0
+    Enough ws = saying (askedOf ws (take wordBytes name) (read more)) ≡ saying (askedOf ws name more)
+
+    one-more : (w : Word) (ws : List Word) → length (w .name) < wordBytes → saying (w .asks (read more)) ≡ saying (w .asks more) → Enough ws → Enough (w ∷ ws)
+    unfolding askedOf
+    one-more w ws short here rest = rw (same-cut wordBytes name (w .name) short, askedOf) (by (sameBytes name (w .name)))
+      where
+        by : (t : Bool)
+            → saying (elim t as (λ _. Asked) [ true ↦ w .asks (read more) | false ↦ askedOf ws (take wordBytes name) (read more) ])
+            ≡ saying (elim t as (λ _. Asked) [ true ↦ w .asks more | false ↦ askedOf ws name more ])
+        by true = here
+        by false = rest
+
+    words-enough : Enough words
+    unfolding words listWord oldWord newWord judgeWord compareWord askedOf
+    words-enough =
+        one-more listWord (oldWord ∷ newWord ∷ judgeWord ∷ compareWord ∷ []) (omega arith) (alone-read list more)
+        (one-more oldWord (newWord ∷ judgeWord ∷ compareWord ∷ []) (omega arith) (alone-read old more)
+        (one-more newWord (judgeWord ∷ compareWord ∷ []) (omega arith) (alone-read new more)
+        (one-more judgeWord (compareWord ∷ []) (omega arith) (two-read judgeAsked query-read more)
+        (one-more compareWord [] (omega arith) (two-read compare compare-rows more) refl))))
+
+  words-read : (given : List (List ℕ)) → saying (asked (wordsRead given)) ≡ saying (asked given)
+  unfolding asked wordsRead handed
+  words-read [] = refl
+  words-read (name ∷ more) = words-enough name more
+
+pub read-enough : ReadEnough
+unfolding said
+read-enough given input = input-enough input (asked (wordsRead given)) ∙ words-read input given

@@ -1,0 +1,98 @@
+-- `gym::replies::put_reply` puts each reply, for its stream. Assumes nothing.
+use borrow.Author.Needs.{needs}
+use Rattle.gym.specs.declared.words.Reply.the-variants.{Old, New, Judge, Compare, Usage}
+use Rattle.gym.specs.Said.{answered}
+use Rattle.gym.specs.Handed.{replyMeaning}
+use Rattle.gym.proofs.ReplyLaws.{reply-is}
+use Rattle.gym.proofs.replies.put_reply.Statement.{statement}
+use Rattle.gym.proofs.replies.put_reply.Tie as tie
+
+enum-told : tie.Need-enum-told
+enum-told c = search needs
+
+put-old-requires : tie.Need-put-old-requires
+put-old-requires c κs = search needs
+
+enum-told-2 : tie.Need-enum-told-2
+enum-told-2 c = search needs
+
+put-new-requires : tie.Need-put-new-requires
+put-new-requires c κs = search needs
+
+enum-known-q : tie.Need-enum-known-q
+enum-known-q c = search needs
+
+put-judged-requires : tie.Need-put-judged-requires
+put-judged-requires c κs = search needs
+
+enum-told-3 : tie.Need-enum-told-3
+enum-told-3 c = search needs
+
+put-compared-requires : tie.Need-put-compared-requires
+put-compared-requires c κs = search needs
+
+enum-told-4 : tie.Need-enum-told-4
+enum-told-4 c = search needs
+
+put-usage-requires : tie.Need-put-usage-requires
+put-usage-requires c κs = search needs
+
+same-length : tie.Need-same-length
+same-length c = search needs
+
+returns : tie.Need-returns
+unfolding answered replyMeaning
+returns c = let a = c .before .before .before .before .before .before .before .before .before .before .args in reply-is _ _ _ (a .q) Old (a .first .now) (a .second .now) (a .text .now) (c .before .before .before .before .enum-told .given .1) (c .before .before .put-old .ensures)
+
+same-length-2 : tie.Need-same-length-2
+same-length-2 c = search needs
+
+returns-2 : tie.Need-returns-2
+unfolding answered replyMeaning
+returns-2 c = let a = c .before .before .before .before .before .before .before .before .before .before .args in reply-is _ _ _ (a .q) New (a .first .now) (a .second .now) (a .text .now) (c .before .before .before .before .enum-told2 .given .1) (c .before .before .put-new .ensures)
+
+same-length-3 : tie.Need-same-length-3
+same-length-3 c = search needs
+
+returns-3 : tie.Need-returns-3
+unfolding answered replyMeaning
+returns-3 c = let a = c .before .before .before .before .before .before .before .before .before .before .before .args in reply-is _ _ _ (a .q) (Judge _) (a .first .now) (a .second .now) (a .text .now) (c .before .before .before .before .before .q .given .1) (c .before .before .put-judged .ensures)
+
+same-length-4 : tie.Need-same-length-4
+same-length-4 c = search needs
+
+returns-4 : tie.Need-returns-4
+unfolding answered replyMeaning
+returns-4 c = let a = c .before .before .before .before .before .before .before .before .before .before .args in reply-is _ _ _ (a .q) Compare (a .first .now) (a .second .now) (a .text .now) (c .before .before .before .before .enum-told3 .given .1) (c .before .before .put-compared .ensures)
+
+same-length-5 : tie.Need-same-length-5
+same-length-5 c = search needs
+
+returns-5 : tie.Need-returns-5
+unfolding answered replyMeaning
+returns-5 c = let a = c .before .before .before .before .before .before .before .before .before .before .args in reply-is _ _ _ (a .q) Usage (a .first .now) (a .second .now) (a .text .now) (c .before .before .before .before .enum-told4 .given .1) (c .before .before .put-usage .ensures)
+
+pub put-reply-spec : {M : Type 1} → statement M
+put-reply-spec =
+    tie.close
+    (tie.spec
+    enum-told
+    put-old-requires
+    enum-told-2
+    put-new-requires
+    enum-known-q
+    put-judged-requires
+    enum-told-3
+    put-compared-requires
+    enum-told-4
+    put-usage-requires
+    same-length
+    returns
+    same-length-2
+    returns-2
+    same-length-3
+    returns-3
+    same-length-4
+    returns-4
+    same-length-5
+    returns-5)

@@ -1,0 +1,25 @@
+-- `gym::replies::put_usage` puts the usage text, which is made of the words. Assumes nothing.
+use borrow.Author.Needs.{needs}
+use mathlib.Core.List.{flatMap}
+use Rattle.gym.specs.Words.{listWord, oldWord, newWord, judgeWord, compareWord, words}
+use Rattle.gym.specs.Said.{usageHead, usageLine, usageText}
+use Rattle.gym.proofs.ReplyLaws.{usage-replied}
+use Rattle.gym.proofs.replies.put_usage.Statement.{statement}
+use Rattle.gym.proofs.replies.put_usage.Tie as tie
+
+slice-aggregate-put-bytes : tie.Need-slice-aggregate-put-bytes
+slice-aggregate-put-bytes c = search needs
+
+put-bytes-requires : tie.Need-put-bytes-requires
+put-bytes-requires c κs = search needs
+
+same-length : tie.Need-same-length
+same-length c = search needs
+
+returns : tie.Need-returns
+unfolding usageText usageHead flatMap words usageLine listWord oldWord newWord judgeWord compareWord
+returns c = usage-replied _ _ _ (c .before .before .put-bytes .ensures)
+
+pub put-usage-spec : {M : Type 1} → statement M
+put-usage-spec =
+    tie.close (tie.spec slice-aggregate-put-bytes put-bytes-requires same-length returns)

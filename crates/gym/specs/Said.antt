@@ -1,0 +1,81 @@
+-- What the program says: one text, on standard output or on standard error. Assumes nothing: these
+-- are definitions.
+use Prim.Native.Nat.{ℕ}
+use mathlib.Core.List.{List, [], _∷_, _++_, flatMap}
+use Rattle.scope_graph.specs.Computed.{Standing, is-visible, is-shadowed, is-unreached}
+use Rattle.text_field.specs.Outcome.{Outcome, done, andThen}
+use Rattle.path_row.specs.Form.{mostSteps}
+use Rattle.path_row.specs.Compare.{Comparison, first, second, neither, compareAnswer}
+use Rattle.judge.specs.Judge.{judgeAnswer}
+use Rattle.conversion.specs.Conversion.{oldOf, newOf}
+use Rattle.printing.specs.Printed.{inPlace, programText}
+use Rattle.gym.specs.declared.replies.Stream.{Stream}
+use Rattle.gym.specs.declared.replies.Stream.the-variants.{Out, Err}
+use Rattle.gym.specs.Words.{Asked, list, old, new, judge, compare, usage, Word, words, asked}
+
+-- the text, and the stream that gets it; the other one gets nothing
+pub record Said : Type 0 where
+  pub on : Stream
+  pub text : List ℕ
+
+abbrev pub spoken : Stream → List ℕ → Said
+spoken on text = record { on = on; text = text }
+
+-- the room that a reply is lent: a whole gym file fits it
+abbrev pub replyRoom : ℕ
+replyRoom = 32768
+
+-- a reply: its text, or the line of its refusal
+abbrev pub replied : Outcome (List ℕ) → Said
+replied o = spoken Out (inPlace replyRoom o)
+
+-- an answer's name as a line
+unfoldable pub lineOf : {A : Type 0} → (A → List ℕ) → Outcome A → Outcome (List ℕ)
+lineOf name o = andThen o (λ a. done (name a ++ (10 ∷ [])))
+
+-- `visible`, `shadowed`, `unreached`
+unfoldable pub standingName : Standing → List ℕ
+standingName is-visible = 118 ∷ 105 ∷ 115 ∷ 105 ∷ 98 ∷ 108 ∷ 101 ∷ []
+standingName is-shadowed = 115 ∷ 104 ∷ 97 ∷ 100 ∷ 111 ∷ 119 ∷ 101 ∷ 100 ∷ []
+standingName is-unreached = 117 ∷ 110 ∷ 114 ∷ 101 ∷ 97 ∷ 99 ∷ 104 ∷ 101 ∷ 100 ∷ []
+
+-- `first`, `second`, `neither`
+unfoldable pub comparisonName : Comparison → List ℕ
+comparisonName first = 102 ∷ 105 ∷ 114 ∷ 115 ∷ 116 ∷ []
+comparisonName second = 115 ∷ 101 ∷ 99 ∷ 111 ∷ 110 ∷ 100 ∷ []
+comparisonName neither = 110 ∷ 101 ∷ 105 ∷ 116 ∷ 104 ∷ 101 ∷ 114 ∷ []
+
+-- The standing of a row, and which of two rows is more specific (01, "Paths"). Records are lent for
+-- as many steps as a row may have.
+unfoldable pub judgeLine : List ℕ → ℕ → List ℕ → Outcome (List ℕ)
+judgeLine text i row = lineOf standingName (judgeAnswer text i row mostSteps)
+
+unfoldable pub compareLine : List ℕ → List ℕ → List ℕ → Outcome (List ℕ)
+compareLine text a b = lineOf comparisonName (compareAnswer text a b mostSteps mostSteps)
+
+-- `usage: gym WORD [ARGUMENT..] < FILE`
+unfoldable pub usageHead : List ℕ
+usageHead =
+    117 ∷ 115 ∷ 97 ∷ 103 ∷ 101 ∷ 58 ∷ 32 ∷ 103 ∷ 121 ∷ 109 ∷ 32 ∷ 87 ∷ 79 ∷ 82 ∷ 68 ∷ 32
+    ∷ 91 ∷ 65 ∷ 82 ∷ 71 ∷ 85 ∷ 77 ∷ 69 ∷ 78 ∷ 84 ∷ 46 ∷ 46 ∷ 93 ∷ 32 ∷ 60 ∷ 32 ∷ 70 ∷ 73 ∷ 76 ∷ 69 ∷ 10 ∷ []
+
+-- two spaces, the word and its arguments
+unfoldable pub usageLine : Word → List ℕ
+usageLine w = 32 ∷ 32 ∷ (w .name ++ w .shown ++ (10 ∷ []))
+
+-- that line, and one for each word
+unfoldable pub usageText : List ℕ
+usageText = usageHead ++ flatMap usageLine words
+
+-- what is said for a gym file's text
+unfoldable pub answered : Asked → List ℕ → Said
+answered list text = spoken Out (programText text)
+answered old text = replied (oldOf text)
+answered new text = replied (newOf text)
+answered (judge i row) text = replied (judgeLine text i row)
+answered (compare a b) text = replied (compareLine text a b)
+answered usage text = spoken Err usageText
+
+-- What the program says for a list of words, its own name left off, and an input.
+unfoldable pub said : List (List ℕ) → List ℕ → Said
+said given input = answered (asked given) input

@@ -1,0 +1,156 @@
+// Replies: each is one text, put at the front of lent memory.
+use crate::words::Reply;
+use conversion::to_new;
+use conversion::to_old;
+use judge::Judged;
+use judge::judge_text;
+use path_row::compare::Compared;
+use path_row::file::decide;
+use path_row::form::MOST_STEPS;
+use printing::put_answer;
+use printing::put_refused;
+use text_field::put_bytes;
+ghost use mathlib.Core.Path.{_≡_};
+ghost use lib.ListN.{length};
+ghost use Rattle.path_row.specs.Compare.{meaning as compared};
+ghost use Rattle.judge.specs.Judge.{meaning as judged};
+ghost use Rattle.conversion.specs.Conversion.{oldOf, newOf};
+ghost use Rattle.printing.specs.Printed.{inPlace};
+ghost use Rattle.gym.specs.Said.{replyRoom, lineOf, standingName, comparisonName, judgeLine, compareLine, usageText, answered};
+ghost use Rattle.gym.specs.Handed.{replyMeaning, Replied};
+
+// The room that a reply is lent: as much as a gym file may have.
+pub const ROOM: usize = 32768;
+
+// Standard output, standard error.
+pub enum Stream {
+    Out,
+    Err,
+}
+
+// A reply: its bytes at the front of what was lent, and the stream that gets them.
+pub struct Put {
+    pub on: Stream,
+    pub size: usize,
+}
+
+// The file in the old form, or its refusal.
+fn put_old<'s, 'o>(text: &'s [u8], out: &'o mut [u8]) -> usize
+    requires room { ⌜ length (now out) ≡ replyRoom ⌝ }
+    ensures written { λ r. ⌜ Replied (now (out .entry)) (now (out .exit)) r (inPlace replyRoom (oldOf (now (text .entry)))) ⌝ }
+{
+    let a = to_old(text, out);
+    put_answer(out, a)
+}
+
+// The file in the form with kinds, or its refusal.
+fn put_new<'s, 'o>(text: &'s [u8], out: &'o mut [u8]) -> usize
+    requires room { ⌜ length (now out) ≡ replyRoom ⌝ }
+    ensures written { λ r. ⌜ Replied (now (out .entry)) (now (out .exit)) r (inPlace replyRoom (newOf (now (text .entry)))) ⌝ }
+{
+    let a = to_new(text, out);
+    put_answer(out, a)
+}
+
+// A standing, or its refusal.
+fn put_standing(out: &mut [u8], j: Judged) -> usize
+    ensures written { λ r. ⌜ Replied (now (out .entry)) (now (out .exit)) r (inPlace replyRoom (lineOf standingName (judged j))) ⌝ }
+{
+    match j {
+        Judged::Visible => put_bytes(out, 0, b"visible\n"),
+        Judged::Shadowed => put_bytes(out, 0, b"shadowed\n"),
+        Judged::Unreached => put_bytes(out, 0, b"unreached\n"),
+        Judged::Refused(n) => put_refused(out, n),
+    }
+}
+
+// Which row is more specific, or the refusal.
+fn put_comparison(out: &mut [u8], c: Compared) -> usize
+    ensures written { λ r. ⌜ Replied (now (out .entry)) (now (out .exit)) r (inPlace replyRoom (lineOf comparisonName (compared c))) ⌝ }
+{
+    match c {
+        Compared::First => put_bytes(out, 0, b"first\n"),
+        Compared::Second => put_bytes(out, 0, b"second\n"),
+        Compared::Neither => put_bytes(out, 0, b"neither\n"),
+        Compared::Refused(n) => put_refused(out, n),
+    }
+}
+
+// The standing of a row for a query.
+fn put_judged<'s, 'o>(text: &'s [u8], query: usize, row: &'s [u8], out: &'o mut [u8]) -> usize
+    ensures written { λ r. ⌜ Replied (now (out .entry)) (now (out .exit)) r (inPlace replyRoom (judgeLine (now (text .entry)) query (now (row .entry)))) ⌝ }
+{
+    let j = judge_text(text, query, row, MOST_STEPS);
+    put_standing(out, j)
+}
+
+// Which of two rows is more specific.
+fn put_compared<'s, 'o>(text: &'s [u8], a: &'s [u8], b: &'s [u8], out: &'o mut [u8]) -> usize
+    ensures written { λ r. ⌜ Replied (now (out .entry)) (now (out .exit)) r (inPlace replyRoom (compareLine (now (text .entry)) (now (a .entry)) (now (b .entry)))) ⌝ }
+{
+    let c = decide(text, a, b, MOST_STEPS, MOST_STEPS);
+    put_comparison(out, c)
+}
+
+// The usage text: its first line, and one for each word.
+fn put_usage(out: &mut [u8]) -> usize
+    ensures written { λ r. ⌜ Replied (now (out .entry)) (now (out .exit)) r usageText ⌝ }
+{
+    put_bytes(
+        out,
+        0,
+        b"usage: gym WORD [ARGUMENT..] < FILE\n  list\n  old\n  new\n  judge QUERY ROW\n  compare ROW ROW\n",
+    )
+}
+
+// A reply for a gym file's text. A new word gets a line here, and a function of its own.
+pub fn put_reply<'s, 'o>(
+    q: Reply,
+    first: &'s [u8],
+    second: &'s [u8],
+    text: &'s [u8],
+    out: &'o mut [u8],
+) -> Put
+    requires room { ⌜ length (now out) ≡ replyRoom ⌝ }
+    ensures written { λ r. ⌜ Replied (now (out .entry)) (now (out .exit)) (r .size)
+        (answered (replyMeaning q (now (first .entry)) (now (second .entry))) (now (text .entry)) .text) ⌝ }
+    ensures stream { λ r. ⌜ r .on ≡ answered (replyMeaning q (now (first .entry)) (now (second .entry))) (now (text .entry)) .on ⌝ }
+{
+    match q {
+        Reply::Old => {
+            let size = put_old(text, out);
+            Put {
+                on: Stream::Out,
+                size,
+            }
+        }
+        Reply::New => {
+            let size = put_new(text, out);
+            Put {
+                on: Stream::Out,
+                size,
+            }
+        }
+        Reply::Judge(query) => {
+            let size = put_judged(text, query, second, out);
+            Put {
+                on: Stream::Out,
+                size,
+            }
+        }
+        Reply::Compare => {
+            let size = put_compared(text, first, second, out);
+            Put {
+                on: Stream::Out,
+                size,
+            }
+        }
+        Reply::Usage => {
+            let size = put_usage(out);
+            Put {
+                on: Stream::Err,
+                size,
+            }
+        }
+    }
+}

@@ -1,0 +1,99 @@
+// What the words of a command ask for.
+use text_field::NumberRead;
+use text_field::read_number;
+ghost use mathlib.Core.Path.{_≡_};
+ghost use mathlib.Core.List.{List};
+ghost use Prim.Native.Nat.{ℕ};
+ghost use Rattle.gym.specs.Words.{alone as aloneAsked, withTwo, judgeAsked, sameBytes, asked};
+ghost use Rattle.gym.specs.Handed.{arguments, handed, meaning};
+
+// What is answered by one text. `Judge` holds the query's number; rows stay where they are, the
+// judged one in the second argument.
+pub enum Reply {
+    Old,
+    New,
+    Judge(usize),
+    Compare,
+    Usage,
+}
+
+// A command: the listings, which are handed over in parts, or a reply.
+pub enum Command {
+    Listings,
+    One(Reply),
+}
+
+fn is_same(a: &[u8], b: &[u8]) -> bool
+    ensures answer { λ r. ⌜ r ≡ sameBytes (now (a .entry)) (now (b .entry)) ⌝ }
+{
+    if a.len() != b.len() {
+        return false;
+    }
+    let mut i: usize = 0;
+    while i < a.len() {
+        if a[i] != b[i] {
+            return false;
+        }
+        i += 1;
+    }
+    true
+}
+
+// A word without arguments, given so many.
+fn alone(count: usize, c: Command) -> Command
+    ensures answer { λ r. ⌜ ((a b : List ℕ) → meaning r a b ≡ aloneAsked (meaning c a b) (arguments count a b)) ⌝ }
+{
+    if count != 0 {
+        return Command::One(Reply::Usage);
+    }
+    c
+}
+
+// A word with two arguments, given so many.
+fn with_two(count: usize, c: Command) -> Command
+    ensures answer { λ r. ⌜ ((a b : List ℕ) → meaning r a b ≡ withTwo (meaning c) (arguments count a b)) ⌝ }
+{
+    if count != 2 {
+        return Command::One(Reply::Usage);
+    }
+    c
+}
+
+// `judge`, by its first argument.
+fn judge_asked(first: &[u8]) -> Command
+    ensures answer { λ r. ⌜ ((b : List ℕ) → meaning r (now (first .entry)) b ≡ judgeAsked (now (first .entry)) b) ⌝ }
+{
+    let NumberRead::Number(i, end) = read_number(first, 0) else {
+        return Command::One(Reply::Usage);
+    };
+    if end != first.len() {
+        return Command::One(Reply::Usage);
+    }
+    Command::One(Reply::Judge(i as usize))
+}
+
+// What so many words ask for, of which the name and the first argument are given. A new word gets
+// its line here.
+pub fn command_of(count: usize, name: &[u8], first: &[u8]) -> Command
+    ensures answer { λ r. ⌜ ((b : List ℕ) → meaning r (now (first .entry)) b ≡ asked (handed count (now (name .entry)) (now (first .entry)) b)) ⌝ }
+{
+    if count == 0 {
+        return Command::One(Reply::Usage);
+    }
+    if is_same(name, b"list") {
+        return alone(count - 1, Command::Listings);
+    }
+    if is_same(name, b"old") {
+        return alone(count - 1, Command::One(Reply::Old));
+    }
+    if is_same(name, b"new") {
+        return alone(count - 1, Command::One(Reply::New));
+    }
+    if is_same(name, b"judge") {
+        return with_two(count - 1, judge_asked(first));
+    }
+    if is_same(name, b"compare") {
+        return with_two(count - 1, Command::One(Reply::Compare));
+    }
+    Command::One(Reply::Usage)
+}
