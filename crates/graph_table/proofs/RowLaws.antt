@@ -1,5 +1,4 @@
--- Laws of reading a row: does one stand there, which order pair is it, which name has it? Assumes
--- nothing.
+-- Laws of reading a row: does one stand there, which name has it? Assumes nothing.
 use mathlib.Core.Path.{_≡_, refl, sym, ap, _∙_}
 use mathlib.Core.Bool.{Bool, true, false, and-false}
 use mathlib.Core.List.{List, [], _∷_}
@@ -14,10 +13,7 @@ use Rattle.graph_file.specs.Format.{hasKinds}
 use Rattle.graph_file.specs.Admission.{rowOf}
 use Rattle.graph_file.specs.File.{formIn}
 use Rattle.graph_file.specs.Line.{startsWith}
-use Rattle.scope_graph.specs.Order.{endOf, meaning, pairMeaning}
-use Rattle.scope_graph.specs.declared.End.{End as CodeEnd}
 use Rattle.scope_graph.specs.Rows.{PackedName, sameName}
-use Rattle.graph_file.specs.Decode.{orderPairOf}
 use Rattle.graph_file.proofs.RowLaws.{row-cells}
 use Rattle.graph_table.specs.declared.names.Name.{Name}
 use Rattle.graph_table.specs.Values.{packed, declarationRow, queryRow, rowDeclared, rowQuery, declares}
@@ -36,27 +32,6 @@ module _ (cells : List ℕ) (p k : ℕ) where
   pub row-test : p < length cells → startsWith k (drop p cells) ≡ eqb (getD cells p 0) k
   unfolding startsWith
   row-test h = rw (drop-cons cells p 0 h)
-
-  -- a row that stands there is in the table
-  pub row-inside : (t : Bool) → t ≡ startsWith k (drop p cells) → t ≡ true → p < length cells
-  row-inside t e f = by (ltb p (length cells)) refl
-    where
-      by : (u : Bool) → ltb p (length cells) ≡ u → p < length cells
-      by true g = ltb-true p (length cells) g
-      by false g = absurd (clash (sym e ∙ f) (row-none (ltb-false p (length cells) g)))
-
-pub pair-none : (cells : List ℕ) (at : ℕ) (e : CodeEnd) → length cells ≤ at → meaning e ≡ endOf 0 → pairMeaning (record { less = e; more = e }) ≡ orderPairOf (rowOf (drop at cells))
-unfolding pairMeaning orderPairOf rowOf
-pair-none cells at e h f = rw (drop-of-length-le cells {i = at} h, f)
-
-pub pair-made : (cells : List ℕ) (at x y : ℕ) (a b : CodeEnd) → x ≡ getD cells (at + 1) 0 → y ≡ getD cells (at + 2) 0 → meaning a ≡ endOf x → meaning b ≡ endOf y
-    → pairMeaning (record { less = a; more = b }) ≡ orderPairOf (rowOf (drop at cells))
-unfolding pairMeaning orderPairOf rowOf
-pair-made cells at x y a b e f g h = rw (g, h, getD-drop at cells 1 0, getD-drop at cells 2 0, e, f)
-
--- a cell past the end counts as 0
-pub letter-none : (cells : List ℕ) (at : ℕ) → length cells ≤ at → getD cells (at + 1) 0 ≡ 0
-letter-none cells at h = let past : length cells ≤ at + 1 = omega arith in List·getD-eq-default cells 0 {n = at + 1} past
 
 -- a declaration's and a query's row, by cells and by values
 pub declaration-cells : (rows : List ℕ) (p : ℕ) → declarationRow rows p ≡ rowDeclared (rowOf (drop p rows))

@@ -2,15 +2,9 @@
 // the section's number, then come the values.
 use crate::names::Name;
 use crate::names::same_name;
-use scope_graph::Pair;
-use scope_graph::end_of;
-use text_field::cell;
 ghost use mathlib.Core.Path.{_≡_};
 ghost use Prim.Native.Nat.{_+_, _≤_};
 ghost use lib.ListN.{length, getD, drop};
-ghost use Rattle.scope_graph.specs.Order.{pairMeaning};
-ghost use Rattle.graph_file.specs.Admission.{rowOf};
-ghost use Rattle.graph_file.specs.Decode.{orderPairOf};
 ghost use Rattle.graph_file.specs.Line.{startsWith};
 ghost use Rattle.graph_table.specs.Values.{packed, pairRow, transitionRow, edgeRow, declarationRow, openRow, queryRow, declares};
 
@@ -147,30 +141,4 @@ pub fn in_section(table: &[u64], at: usize, k: u64) -> bool
         return false;
     }
     table[at] == k
-}
-
-// The letter of the label whose row stands at a place.
-pub fn letter_at(table: &[u64], at: usize) -> u64
-    ensures answer { λ r. ⌜ r ≡ getD (now (table .entry)) (at + 1) 0 ⌝ }
-{
-    if table.len() <= at {
-        return 0;
-    }
-    cell(table, at + 1, 0)
-}
-
-// The order pair whose row stands at a place.
-pub fn order_pair(table: &[u64], at: usize) -> Pair
-    ensures answer { λ r. ⌜ pairMeaning r ≡ orderPairOf (rowOf (drop at (now (table .entry)))) ⌝ }
-{
-    if table.len() <= at {
-        let stop = end_of(0);
-        return Pair {
-            less: stop,
-            more: stop,
-        };
-    }
-    let less = end_of(cell(table, at + 1, 0));
-    let more = end_of(cell(table, at + 2, 0));
-    Pair { less, more }
 }

@@ -16,7 +16,7 @@ use Rattle.text_field.proofs.NumberLaws.{number-found}
 use Rattle.graph_file.specs.File.{readCells, madeOf}
 use Rattle.graph_file.proofs.SectionLaws.{whole-long}
 use Rattle.path_row.specs.Form.{PathRow, rowHere}
-use Rattle.path_row.specs.Compare.{compareRows, compareAnswer}
+use Rattle.comparison.specs.Compare.{compareRows, compareAnswer}
 use Rattle.judge.specs.Judge.{judgeOf, judgeAnswer}
 use Rattle.conversion.specs.Conversion.{textOf, oldOf, newOf}
 use Rattle.printing.specs.Printed.{programText, outcomeText}

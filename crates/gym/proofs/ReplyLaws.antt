@@ -24,7 +24,7 @@ use Rattle.text_field.proofs.AnswerLaws.{answer-refused}
 use Rattle.printing.specs.Printed.{refusedLine, inPlace}
 use Rattle.printing.specs.Parts.{answered as answeredIn}
 use Rattle.printing.proofs.Laws.{refused-short, in-place, done-fits, Stands, stands}
-use Rattle.path_row.specs.Compare.{Comparison, first, second, neither, compareAnswer}
+use Rattle.comparison.specs.Compare.{Comparison, first, second, neither, compareAnswer}
 use Rattle.judge.specs.Judge.{judgeAnswer}
 use Rattle.gym.specs.declared.words.Reply.{Reply}
 use Rattle.gym.specs.declared.words.Command.{Command}

@@ -5,7 +5,7 @@ use mathlib.Core.List.{List, [], _∷_, _++_, flatMap}
 use Rattle.scope_graph.specs.Computed.{Standing, is-visible, is-shadowed, is-unreached}
 use Rattle.text_field.specs.Outcome.{Outcome, done, andThen}
 use Rattle.path_row.specs.Form.{mostSteps}
-use Rattle.path_row.specs.Compare.{Comparison, first, second, neither, compareAnswer}
+use Rattle.comparison.specs.Compare.{Comparison, first, second, neither, compareAnswer}
 use Rattle.judge.specs.Judge.{judgeAnswer}
 use Rattle.conversion.specs.Conversion.{oldOf, newOf}
 use Rattle.printing.specs.Printed.{inPlace, programText}

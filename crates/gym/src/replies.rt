@@ -1,18 +1,18 @@
 // Replies: each is one text, put at the front of lent memory.
 use crate::words::Reply;
+use comparison::Compared;
+use comparison::decide;
 use conversion::to_new;
 use conversion::to_old;
 use judge::Judged;
 use judge::judge_text;
-use path_row::compare::Compared;
-use path_row::file::decide;
 use path_row::form::MOST_STEPS;
 use printing::put_answer;
 use printing::put_refused;
 use text_field::put_bytes;
 ghost use mathlib.Core.Path.{_≡_};
 ghost use lib.ListN.{length};
-ghost use Rattle.path_row.specs.Compare.{meaning as compared};
+ghost use Rattle.comparison.specs.Compare.{meaning as compared};
 ghost use Rattle.judge.specs.Judge.{meaning as judged};
 ghost use Rattle.conversion.specs.Conversion.{oldOf, newOf};
 ghost use Rattle.printing.specs.Printed.{inPlace};

@@ -25,7 +25,7 @@ use Rattle.graph_file.specs.File.{Piece, Way, Stage, ifAdmitted, afterRow, oneR
 use Rattle.text_field.specs.Answer.{answer}
 use Rattle.graph_file.specs.Formed.{otherKinds, inForm}
 use Rattle.path_row.specs.Form.{PathRow, mostMark, mostScope, numberUpTo, Front, startBy, spaceBy, markBy, headHere, rowBy, rowHere}
-use Rattle.path_row.specs.Compare.{Comparison, compareRows, compareAnswer}
+use Rattle.comparison.specs.Compare.{Comparison, compareRows, compareAnswer}
 use Rattle.resolution.specs.Listing.{listingOf, listingFor, summaryFor}
 use Rattle.judge.specs.Judge.{judgeOf, judgeAnswer}
 use Rattle.conversion.specs.Conversion.{oldText, newText, textIn, textOf, oldOf, newOf}

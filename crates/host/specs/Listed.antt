@@ -9,7 +9,7 @@ use lib.Dec.{ltb}
 use Rattle.text_field.specs.Outcome.{Outcome, refused, done}
 use Rattle.graph_file.specs.File.{readCells, writeText}
 use Rattle.text_field.specs.Answer.{answer}
-use Rattle.path_row.specs.Compare.{Comparison, compareAnswer}
+use Rattle.comparison.specs.Compare.{Comparison, compareAnswer}
 use Rattle.resolution.specs.Listing.{listingFor, summaryFor}
 use Rattle.judge.specs.Judge.{judgeAnswer}
 use Rattle.conversion.specs.Conversion.{oldOf, newOf}

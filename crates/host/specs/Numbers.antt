@@ -8,7 +8,7 @@ use lib.ListN.{length}
 use Rattle.scope_graph.specs.Computed.{Standing, is-visible, is-shadowed, is-unreached}
 use Rattle.text_field.specs.Outcome.{Outcome, refused, done}
 use Rattle.graph_file.specs.NameSought.{nameSought, placeSought}
-use Rattle.path_row.specs.Compare.{Comparison, first, second, neither}
+use Rattle.comparison.specs.Compare.{Comparison, first, second, neither}
 
 -- A refusal is told by its number (01, "Who can cause a refusal"; 14, 02, K9), any other answer by
 -- the number that is given for it.

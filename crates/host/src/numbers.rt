@@ -1,11 +1,11 @@
 // The number of each answer.
+use comparison::Compared;
 use judge::Judged;
-use path_row::compare::Compared;
 use text_field::Answer;
 ghost use Prim.Native.Nat.{_<_};
 ghost use mathlib.Core.Path.{_≡_};
 ghost use Rattle.text_field.specs.Answer.{answerOf};
-ghost use Rattle.path_row.specs.Compare.{meaning};
+ghost use Rattle.comparison.specs.Compare.{meaning};
 ghost use Rattle.judge.specs.Judge.{meaning as standing};
 ghost use Rattle.host.specs.Numbers.{caseNumber, written, compared, judged, Sized};
 

@@ -20,7 +20,7 @@ use Rattle.path_row.specs.declared.form.Step.{Step}
 use Rattle.path_row.specs.declared.form.RowRead.{RowRead}
 use Rattle.path_row.specs.declared.form.RowRead.the-variants.{Row}
 use Rattle.path_row.specs.Form.{PathRow, rowHere, rowMeaning, rowInLarge, stepsIn}
-use Rattle.path_row.proofs.CompareSteps.{row-is}
+use Rattle.path_row.proofs.RowReads.{row-is}
 use Rattle.graph_table.specs.declared.rows.QueryRow.{QueryRow}
 use Rattle.graph_table.specs.Values.{queryRow}
 use Rattle.board.specs.Queries.{queryAt}

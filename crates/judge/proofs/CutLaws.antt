@@ -17,8 +17,8 @@ use Rattle.search.proofs.RulesLists.{anyOf-no}
 use Rattle.path_row.specs.declared.form.StepRead.{StepRead}
 use Rattle.path_row.specs.declared.form.StepRead.the-variants.{Taken, NoStep}
 use Rattle.path_row.specs.Form.{stepMeaning, stepFrom}
-use Rattle.path_row.specs.Compare.{labelNumber}
-use Rattle.path_row.specs.Scan.{scannedLetters}
+use Rattle.path_row.specs.Numbering.{labelNumber}
+use Rattle.comparison.specs.Letters.{blockLetters}
 use Rattle.judge.specs.Steps.{hopTo, stepHops, stateOn, Behind, endCut, rowCut}
 use Rattle.judge.proofs.HopLaws.{free-is}
 use Rattle.judge.proofs.WalkLaws.{hops-full, hops-end, hops-on, leads-no, leads-on}
@@ -87,33 +87,33 @@ module _ (block : List ℕ) (goal : ℕ) (n : Node) where
           cut-beyond g ∙ rw (one, b .scope, b .state, free-is n m t r (n .left - 1) b)
 
   -- along the steps that are left of the row
-  module _ (table row : List ℕ) (i left : ℕ) where
+  module _ (row : List ℕ) (i left : ℕ) where
     abbrev pub cuts : Node → ℕ → ℕ → Bool
-    cuts m left′ i′ = rowCut block goal m (stepHops table row left′ i′)
+    cuts m left′ i′ = rowCut block goal m (stepHops block row left′ i′)
 
     pub cuts-full : (u : Bool) → u ≡ endCut block goal n (endOf 0) → left ≤ 0 → u ≡ cuts n left i
-    cuts-full u e h = rw (hops-full table row left i h) (e ∙ stop-end)
+    cuts-full u e h = rw (hops-full block row left i h) (e ∙ stop-end)
 
     module _ (a : StepRead) (e : stepMeaning a ≡ stepFrom i row) where
       pub cuts-end : (u : Bool) → u ≡ endCut block goal n (endOf 0) → a ≡ NoStep → u ≡ cuts n left i
-      cuts-end u f k = rw (hops-end table row i left a e k) (f ∙ stop-end)
+      cuts-end u f k = rw (hops-end block row i left a e k) (f ∙ stop-end)
 
-      module _ (y v next : ℕ) (f : a ≡ Taken y v next) (h : 1 ≤ left) (l : ℕ) (k : l ≡ labelNumber (scannedLetters table) y)
+      module _ (y v next : ℕ) (f : a ≡ Taken y v next) (h : 1 ≤ left) (l : ℕ) (k : l ≡ labelNumber (blockLetters block) y)
           (u : Bool) (c : u ≡ endCut block goal n (by l)) where
         abbrev rest : List (HopOf ℕ)
-        rest = stepHops table row (left - 1) next
+        rest = stepHops block row (left - 1) next
 
         pub cuts-here : u ≡ true → cuts n left i ≡ true
-        cuts-here m = rw (hops-on table row i left a e y v next f h l k) (cut-here l v rest u c m)
+        cuts-here m = rw (hops-on block row i left a e y v next f h l k) (cut-here l v rest u c m)
 
         module _ (m : u ≡ false) (r : ℕ) (is : r ≡ stateOn block n (hopTo l v)) where
           pub cuts-no : 16 ≤ r → cuts n left i ≡ false
-          cuts-no g = rw (hops-on table row i left a e y v next f h l k) (cut-no l v rest u c m r is g)
+          cuts-no g = rw (hops-on block row i left a e y v next f h l k) (cut-no l v rest u c m r is g)
 
           pub cuts-last : r < 16 → n .left ≡ 0 → cuts n left i ≡ false
-          cuts-last g z = rw (hops-on table row i left a e y v next f h l k) (cut-last l v rest u c m r is g z)
+          cuts-last g z = rw (hops-on block row i left a e y v next f h l k) (cut-last l v rest u c m r is g z)
 
           pub cuts-on : r < 16 → (n .left ≡ 0 → ⊥) → (next-node : Node) → Behind n v r (n .left - 1) next-node
               → cuts n left i ≡ cuts next-node (left - 1) next
           cuts-on g z next-node b =
-              rw (hops-on table row i left a e y v next f h l k) (cut-on l v rest u c m r is g z next-node b)
+              rw (hops-on block row i left a e y v next f h l k) (cut-on l v rest u c m r is g z next-node b)

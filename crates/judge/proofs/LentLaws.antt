@@ -14,8 +14,7 @@ use Rattle.graph_file.specs.File.{readCells}
 use Rattle.graph_file.specs.Decode.{rulesOf, graphOf, queriesOf}
 use Rattle.path_row.specs.declared.form.Step.{Step}
 use Rattle.path_row.specs.Form.{PathRow, rowHere, stepsIn}
-use Rattle.path_row.specs.Compare.{stepsLeft}
-use Rattle.path_row.specs.Lent.{filled, stepsDue}
+use Rattle.path_row.specs.Lent.{stepsLeft, filled, stepsDue}
 use Rattle.path_row.proofs.LentLaws.{Fills, fills-none, fills-all}
 use Rattle.board.specs.Queries.{queryAt}
 use Rattle.judge.specs.declared.standing.Judged.{Judged}

@@ -28,7 +28,7 @@ use Rattle.graph_file.specs.Accepted.{AcceptedTable}
 use Rattle.graph_file.proofs.DecodeAccepted.{read-accepted}
 use Rattle.path_row.specs.declared.form.Step.{Step}
 use Rattle.path_row.specs.Form.{PathRow, mostMark, mostScope, mostSteps, stepsText, rowText, areSteps, isRow}
-use Rattle.path_row.specs.Compare.{labelNumber, hopOf, pathOf}
+use Rattle.path_row.specs.Numbering.{labelNumber, hopOf, pathOf}
 use Rattle.path_row.proofs.FormLaws.{written-then-read}
 use Rattle.path_row.proofs.NumberingLaws.{number-within}
 use Rattle.follow.specs.Text.{letterOf, hopsText}

@@ -13,7 +13,7 @@ use Rattle.graph_file.specs.File.{isEmpty}
 use Rattle.graph_file.specs.Decode.{keptIf, rowsAmong, rowsIn, lettersOf, orderPairOf, transitionOf, rulesOf, nameAt, edgeOf, declarationOf, queryOf, scopesOf, graphOf, queriesOf}
 use Rattle.graph_file.specs.Line.{startsWith}
 use Rattle.path_row.specs.Form.{atMost, numberUpTo, stepBy, stepHere, stepsOf, afterSteps, startBy, spaceBy, markBy, headHere, rowBy, rowHere}
-use Rattle.path_row.specs.Compare.{numberFrom, labelNumber, hopOf, pathOf}
+use Rattle.path_row.specs.Numbering.{numberFrom, labelNumber, hopOf, pathOf}
 use Rattle.board.specs.Queries.{queryAt}
 use Rattle.board.specs.Example.{exampleText}
 use Rattle.board.proofs.Example.{exampleCells, example-read}

@@ -35,9 +35,9 @@ use Rattle.board.proofs.Queries.{accepted, sound, rows-are}
 use Rattle.board.proofs.Board.{scopes-are, board-is, order-is}
 use Rattle.path_row.specs.declared.form.Step.{Step}
 use Rattle.path_row.specs.Form.{mostSteps, stepsOf, stepsIn}
-use Rattle.path_row.specs.Compare.{hopOf, pathOf}
-use Rattle.path_row.specs.Scan.{scannedLetters}
-use Rattle.path_row.proofs.ScanLaws.{letters-scanned}
+use Rattle.path_row.specs.Numbering.{hopOf, pathOf}
+use Rattle.comparison.specs.Letters.{blockLetters}
+use Rattle.comparison.proofs.LetterLaws.{letters-same}
 use Rattle.judge.specs.declared.standing.Judged.the-variants.{Visible, Shadowed, Unreached}
 use Rattle.judge.specs.Judge.{meaning, ruled}
 use Rattle.judge.specs.Steps.{isMarked, hasMark, hopsBy, stepHops, Begins, lastOf, rowReached, rowCut, judgedRow}
@@ -73,11 +73,10 @@ unfolding lastOf
 last-is r s [] = refl
 last-is r s (h ∷ hs) = last-is r (h .to) hs
 
--- A row's steps as hops, by the rules and as the code finds their letters' numbers.
-hops-are : (cells : List ℕ) (ss : List Step) → scannedLetters cells ≡ lettersOf cells
-    → map (hopOf (rulesOf cells) (lettersOf cells)) ss ≡ hopsBy (scannedLetters cells) ss
+-- A row's steps as hops, by the rules and by their letters' numbers.
+hops-are : (cells : List ℕ) (ss : List Step) → map (hopOf (rulesOf cells) (lettersOf cells)) ss ≡ hopsBy (lettersOf cells) ss
 unfolding hopOf hopsBy
-hops-are cells ss e = rw e
+hops-are cells ss = refl
 
 -- The standing by three tests: the start, reached with its mark, cut.
 abbrev byTests : Bool → Bool → Bool → Standing
@@ -98,7 +97,7 @@ module _ (cells : List ℕ) (x : QueryRow) (mark from : ℕ) (row : List ℕ) (a
   theRow = ruled cells (record { mark = mark; start = from; steps = stepsIn row })
 
   abbrev hs : List (HopOf ℕ)
-  hs = hopsBy (scannedLetters cells) (stepsIn row)
+  hs = hopsBy (lettersOf cells) (stepsIn row)
 
   abbrev laws : Laws L
   laws = accepted cells (a .read) .accepted q (a .starts) .laws
@@ -123,7 +122,7 @@ module _ (cells : List ℕ) (x : QueryRow) (mark from : ℕ) (row : List ℕ) (a
 
   row-is : theRow ≡ record { mark = mark; path = record { start = from; hops = hs } }
   unfolding ruled pathOf
-  row-is = rw (hops-are cells (stepsIn row) (letters-scanned cells (a .read)))
+  row-is = rw (hops-are cells (stepsIn row))
 
   abbrev ruledReached : Bool
   ruledReached = reachedBy (boardOf L g (q .name)) (freeAt (x .start)) (x .start) 0 hs
@@ -172,6 +171,10 @@ module _ (cells : List ℕ) (x : QueryRow) (mark from : ℕ) (row : List ℕ) (a
         board-is cells block (sound cells (a .read)) made (q .name) goal
         (subst (λ (rows : List ℕ). DeclaringIs rows (q .name) goal) decls-is goal-is)
 
+    -- the letters' numbers by the block are the file's
+    letters-here : blockLetters block ≡ lettersOf cells
+    letters-here = letters-same cells block (a .read) made
+
     marked-is : hasMark x mark (lastOf (x .start) hs) (rowsOf decls) ≡ ruledMark
     unfolding graphOf
     marked-is =
@@ -179,9 +182,9 @@ module _ (cells : List ℕ) (x : QueryRow) (mark from : ℕ) (row : List ℕ) (a
         ∙ rw (decls-is, rows-are cells (a .read) declarationSection, last-is (rulesOf cells) from hs)
         (marked (rulesOf cells) x mark (lastFrom L from hs) (rowsIn declarationSection cells))
 
-    reached-is : rowReached block decls goal x mark n (stepHops cells row mostSteps at) ≡ (ruledReached && ruledMark)
+    reached-is : rowReached block decls goal x mark n (stepHops block row mostSteps at) ≡ (ruledReached && ruledMark)
     unfolding rowReached
-    reached-is = rw (at-is, board-here, free-start, begins .scope, begins .state, marked-is)
+    reached-is = rw (at-is, letters-here, board-here, free-start, begins .scope, begins .state, marked-is)
 
     judged-same : judged L g q theRow ≡ withMark ruledMark (byTests true ruledReached ruledCut)
     judged-same = judged-is ∙ ap (λ (z : Bool). withMark ruledMark (byTests z ruledReached ruledCut)) (eq-eqb from (x .start) same)
@@ -192,7 +195,7 @@ module _ (cells : List ℕ) (x : QueryRow) (mark from : ℕ) (row : List ℕ) (a
     both false true c = refl
     both false false c = refl
 
-    module _ (u : Bool) (e : u ≡ rowReached block decls goal x mark n (stepHops cells row mostSteps at)) where
+    module _ (u : Bool) (e : u ≡ rowReached block decls goal x mark n (stepHops block row mostSteps at)) where
       by-reached : judged L g q theRow ≡ byTests true u ruledCut
       by-reached =
           judged-same ∙ both ruledMark ruledReached ruledCut ∙ ap (λ (z : Bool). byTests true z ruledCut) (sym (e ∙ reached-is))
@@ -201,13 +204,14 @@ module _ (cells : List ℕ) (x : QueryRow) (mark from : ℕ) (row : List ℕ) (a
       unfolding meaning
       not-reached h = ap told (sym (by-reached ∙ ap (λ (z : Bool). byTests true z ruledCut) h))
 
-      module _ (h : u ≡ true) (w : Bool) (f : w ≡ rowCut block goal n (stepHops cells row mostSteps at)) where
+      module _ (h : u ≡ true) (w : Bool) (f : w ≡ rowCut block goal n (stepHops block row mostSteps at)) where
         cut-is : w ≡ ruledCut
         unfolding rowCut
         cut-is =
             f
             ∙ rw (
               at-is,
+              letters-here,
               board-here,
               order-is cells block (sound cells (a .read)) made,
               begins .left-is ∙ scopes-cell block made,

@@ -19,26 +19,26 @@ use Rattle.graph_table.specs.Sections.{rowsOf}
 use Rattle.path_row.specs.declared.form.StepRead.{StepRead}
 use Rattle.path_row.specs.declared.form.StepRead.the-variants.{Taken, NoStep}
 use Rattle.path_row.specs.Form.{stepMeaning, stepFrom, stepsOf}
-use Rattle.path_row.specs.Compare.{labelNumber}
-use Rattle.path_row.specs.Scan.{scannedLetters}
+use Rattle.path_row.specs.Numbering.{labelNumber}
 use Rattle.path_row.proofs.Steps.{steps-next, steps-none}
+use Rattle.comparison.specs.Letters.{blockLetters}
 use Rattle.judge.specs.Steps.{hasMark, hopTo, sameHop, hasHop, hopsBy, stepHops, stateOn, stateAlong, Behind, lastOf, rowReached}
 use Rattle.judge.proofs.HopLaws.{on-taken, on-free, free-is}
 
 -- the hops of the steps that are left
-module _ (table row : List ℕ) where
-  pub hops-full : (left i : ℕ) → left ≤ 0 → stepHops table row left i ≡ []
+module _ (block row : List ℕ) where
+  pub hops-full : (left i : ℕ) → left ≤ 0 → stepHops block row left i ≡ []
   unfolding stepsOf hopsBy
   hops-full zero i h = refl
   hops-full (suc left) i h = absurd (omega arith)
 
   module _ (i left : ℕ) (a : StepRead) (e : stepMeaning a ≡ stepFrom i row) where
-    pub hops-end : a ≡ NoStep → stepHops table row left i ≡ []
+    pub hops-end : a ≡ NoStep → stepHops block row left i ≡ []
     unfolding hopsBy
     hops-end f = rw (steps-none row i left a e f)
 
-    pub hops-on : (x v next : ℕ) → a ≡ Taken x v next → 1 ≤ left → (l : ℕ) → l ≡ labelNumber (scannedLetters table) x
-        → stepHops table row left i ≡ hopTo l v ∷ stepHops table row (left - 1) next
+    pub hops-on : (x v next : ℕ) → a ≡ Taken x v next → 1 ≤ left → (l : ℕ) → l ≡ labelNumber (blockLetters block) x
+        → stepHops block row left i ≡ hopTo l v ∷ stepHops block row (left - 1) next
     unfolding hopsBy
     hops-on x v next f h l k = rw (steps-next row i left a e x v next f h, k)
 
@@ -116,22 +116,22 @@ module _ (block decls : List ℕ) (goal : ℕ) (x : QueryRow) (mark : ℕ) (n : 
     end-yes h = rw (← e, h)
 
   -- a row is reached along the steps that are left of it
-  module _ (table row : List ℕ) (i left : ℕ) where
+  module _ (row : List ℕ) (i left : ℕ) where
     abbrev pub reaches : Node → ℕ → ℕ → Bool
-    reaches m left′ i′ = reached m (stepHops table row left′ i′)
+    reaches m left′ i′ = reached m (stepHops block row left′ i′)
 
     pub reaches-full : (u : Bool) → u ≡ reached n [] → left ≤ 0 → u ≡ reaches n left i
-    reaches-full u e h = rw (hops-full table row left i h) e
+    reaches-full u e h = rw (hops-full block row left i h) e
 
     module _ (a : StepRead) (e : stepMeaning a ≡ stepFrom i row) where
       pub reaches-end : (u : Bool) → u ≡ reached n [] → a ≡ NoStep → u ≡ reaches n left i
-      reaches-end u f k = rw (hops-end table row i left a e k) f
+      reaches-end u f k = rw (hops-end block row i left a e k) f
 
-      module _ (y v next : ℕ) (f : a ≡ Taken y v next) (h : 1 ≤ left) (l : ℕ) (k : l ≡ labelNumber (scannedLetters table) y)
+      module _ (y v next : ℕ) (f : a ≡ Taken y v next) (h : 1 ≤ left) (l : ℕ) (k : l ≡ labelNumber (blockLetters block) y)
           (r : ℕ) (is : r ≡ stateAlong block n (hopTo l v)) where
         pub reaches-no : 16 ≤ r → reaches n left i ≡ false
-        reaches-no g = rw (hops-on table row i left a e y v next f h l k) (reach-no l v r is (stepHops table row (left - 1) next) g)
+        reaches-no g = rw (hops-on block row i left a e y v next f h l k) (reach-no l v r is (stepHops block row (left - 1) next) g)
 
         pub reaches-on : r < 16 → (more : ℕ) (m : Node) → Behind n v r more m → reaches n left i ≡ reaches m (left - 1) next
         reaches-on g more m b =
-            rw (hops-on table row i left a e y v next f h l k) (reach-on l v r is (stepHops table row (left - 1) next) g more m b)
+            rw (hops-on block row i left a e y v next f h l k) (reach-on l v r is (stepHops block row (left - 1) next) g more m b)

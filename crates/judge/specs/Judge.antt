@@ -11,7 +11,7 @@ use Rattle.text_field.specs.Outcome.{Outcome, refused, done, andThen, refuseIf}
 use Rattle.graph_file.specs.File.{readCells}
 use Rattle.graph_file.specs.Decode.{rulesOf, graphOf, queriesOf, lettersOf}
 use Rattle.path_row.specs.Form.{PathRow, rowHere}
-use Rattle.path_row.specs.Compare.{pathOf}
+use Rattle.path_row.specs.Numbering.{pathOf}
 use Rattle.board.specs.Queries.{queryAt}
 use Rattle.judge.specs.declared.standing.Judged.{Judged}
 use Rattle.judge.specs.declared.standing.Judged.the-variants.{Visible, Shadowed, Unreached, Refused}

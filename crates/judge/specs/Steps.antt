@@ -27,8 +27,8 @@ use Rattle.graph_table.specs.Values.{packed, rowDeclared, declares}
 use Rattle.board.specs.Queries.{queryOn}
 use Rattle.path_row.specs.declared.form.Step.{Step}
 use Rattle.path_row.specs.Form.{stepsOf, stepsIn}
-use Rattle.path_row.specs.Compare.{labelNumber}
-use Rattle.path_row.specs.Scan.{scannedLetters}
+use Rattle.path_row.specs.Numbering.{labelNumber}
+use Rattle.comparison.specs.Letters.{blockLetters}
 use Rattle.judge.specs.Judge.{ruled}
 
 -- The refusal of query number i where there are n queries, and of a table with room for fewer
@@ -66,7 +66,7 @@ unfoldable pub hopsBy : List ℕ → List Step → List (HopOf ℕ)
 hopsBy letters steps = map (λ (s : Step). hopTo (labelNumber letters (s .label)) (s .scope)) steps
 
 abbrev pub stepHops : List ℕ → List ℕ → ℕ → ℕ → List (HopOf ℕ)
-stepHops table row left at = hopsBy (scannedLetters table) (stepsOf left (drop at row))
+stepHops block row left at = hopsBy (blockLetters block) (stepsOf left (drop at row))
 
 -- the state after a hop from a node to a free scope, or 16; and the same for a hop along an edge
 -- that leaves the node's scope

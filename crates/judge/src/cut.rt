@@ -4,7 +4,7 @@ use crate::hops::state_on;
 use crate::limits::LABELS;
 use crate::limits::NO_STATE;
 use crate::limits::STOP;
-use path_row::compare::label_number;
+use comparison::label_number;
 use path_row::form::MOST_STEPS;
 use path_row::form::StepRead;
 use path_row::form::next_step;
@@ -40,18 +40,10 @@ fn label_cut(block: &[u64], goal: u64, live: &[u64], n: Node, label: u64) -> boo
 // Is some end cut where the steps from place `at` of the row on go by it, or `$` where they end?
 // The table of places worth entering serves all the way: a closed one stays closed with fewer free
 // scopes.
-pub fn is_cut(
-    table: &[u64],
-    block: &[u64],
-    goal: u64,
-    live: &[u64],
-    from: Node,
-    row: &[u8],
-    at: usize,
-) -> bool
+pub fn is_cut(block: &[u64], goal: u64, live: &[u64], from: Node, row: &[u8], at: usize) -> bool
     requires ready { ⌜ Ready (now block) goal (now live) from ⌝ }
     ensures answer { λ r. ⌜ r
-        ≡ rowCut (now (block .entry)) goal from (stepHops (now (table .entry)) (now (row .entry)) mostSteps at) ⌝ }
+        ≡ rowCut (now (block .entry)) goal from (stepHops (now (block .entry)) (now (row .entry)) mostSteps at) ⌝ }
 {
     let mut left: usize = MOST_STEPS;
     let mut i = at;
@@ -61,7 +53,7 @@ pub fn is_cut(
             return end_cut(block, goal, live, n, STOP);
         };
         let to = v as u64;
-        let label = label_number(table, x);
+        let label = label_number(block, x);
         if label_cut(block, goal, live, n, label) {
             return true;
         }

@@ -2,14 +2,13 @@
 // only calls and copies.
 use crate::standing::Judged;
 use crate::text::judge_text;
-use path_row::compare::step_count;
 use path_row::form::Step;
+use path_row::form::step_count;
 use path_row::lent::fill;
 ghost use mathlib.Core.Path.{_≡_};
 ghost use lib.ListN.{length};
 ghost use Rattle.path_row.specs.Form.{stepsIn};
-ghost use Rattle.path_row.specs.Compare.{stepsLeft};
-ghost use Rattle.path_row.specs.Lent.{stepsDue};
+ghost use Rattle.path_row.specs.Lent.{stepsLeft, stepsDue};
 ghost use Rattle.judge.specs.Judge.{meaning, judgeAnswer};
 
 // How many of the row's steps go into its table: none after a refusal.

@@ -2,12 +2,12 @@
 use crate::hops::behind;
 use crate::hops::state_along;
 use crate::limits::NO_STATE;
+use comparison::label_number;
 use graph_table::DeclarationRow;
 use graph_table::QueryRow;
 use graph_table::ROW;
 use graph_table::declaration_row;
 use graph_table::declares;
-use path_row::compare::label_number;
 use path_row::form::MOST_STEPS;
 use path_row::form::StepRead;
 use path_row::form::next_step;
@@ -60,7 +60,6 @@ fn ends_here(block: &[u64], decls: &[u64], goal: u64, sought: QueryRow, mark: u6
 // Do the steps from place `at` of the row on lead from the node, along edges and by free scopes, to
 // what is sought, declared with the mark?
 pub fn is_reached(
-    table: &[u64],
     block: &[u64],
     decls: &[u64],
     goal: u64,
@@ -74,7 +73,7 @@ pub fn is_reached(
     requires inside { ⌜ Inside from ⌝ }
     ensures answer { λ r. ⌜ r
         ≡ rowReached (now (block .entry)) (now (decls .entry)) goal sought mark from
-        (stepHops (now (table .entry)) (now (row .entry)) mostSteps at) ⌝ }
+        (stepHops (now (block .entry)) (now (row .entry)) mostSteps at) ⌝ }
 {
     let mut left: usize = MOST_STEPS;
     let mut i = at;
@@ -84,7 +83,7 @@ pub fn is_reached(
             return ends_here(block, decls, goal, sought, mark, n);
         };
         let to = v as u64;
-        let state = state_along(block, n, label_number(table, x), to);
+        let state = state_along(block, n, label_number(block, x), to);
         if NO_STATE <= state {
             return false;
         }

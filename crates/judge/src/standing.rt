@@ -7,7 +7,7 @@ use board::declaring;
 use board::part;
 use graph_table::DECLARATIONS;
 use graph_table::QueryRow;
-use path_row::compare::first_step;
+use path_row::form::first_step;
 use search::ALL;
 use search::Node;
 use search::goal_table;
@@ -66,11 +66,11 @@ pub fn standing(
     let goal = declaring(decls, sought.name);
     let n = begin(block, start);
     let at = first_step(row);
-    if !is_reached(table, block, decls, goal, sought, mark, n, row, at) {
+    if !is_reached(block, decls, goal, sought, mark, n, row, at) {
         return Judged::Unreached;
     }
     let live = goal_table(block, goal, n.free, start);
-    if is_cut(table, block, goal, &live, n, row, at) {
+    if is_cut(block, goal, &live, n, row, at) {
         return Judged::Shadowed;
     }
     Judged::Visible

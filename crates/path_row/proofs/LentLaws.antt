@@ -1,45 +1,16 @@
 -- What the lent step tables hold, record by record and as a whole. Assumes nothing.
 use mathlib.Core.Path.{_≡_, refl, sym, ap, _∙_}
-use mathlib.Core.Bool.{Bool, true, false}
-use mathlib.Core.List.{List, [], _∷_, _++_}
-use Prim.Native.Nat.{ℕ, zero, suc, _≤_, _<_}
+use mathlib.Core.List.{List, _++_}
+use Prim.Native.Nat.{ℕ, zero, suc, _≤_}
 use native.Mathlib.Omega.{arith}
-use borrow.Author.Tests.{ltb-false}
-use lib.Dec.{ltb}
 use lib.ListN.{length, getD, set, take, drop}
 use lib.Seq.{drop-cons, set-at, take-suc, take-all, append-snoc, length-take-le}
-use Rattle.text_field.specs.Outcome.{Outcome, refused, done, andThen, refuseIf}
-use Rattle.graph_file.specs.File.{readCells}
+use Rattle.text_field.specs.Outcome.{Outcome, refused, done}
 use Rattle.path_row.specs.declared.form.Step.{Step}
-use Rattle.path_row.specs.declared.compare.Compared.{Compared}
-use Rattle.path_row.specs.declared.compare.Compared.the-variants.{First, Second, Neither, Refused}
 use Rattle.path_row.specs.Form.{PathRow, rowHere, stepsIn, noStep}
-use Rattle.path_row.specs.Compare.{Comparison, first, second, neither, meaning, comparison, compareRows, compareAnswer, rowSteps, stepsLeft}
-use Rattle.path_row.specs.Lent.{filled, stepsDue}
+use Rattle.path_row.specs.Lent.{rowSteps, stepsLeft, filled, stepsDue}
 use Rattle.path_row.specs.Promises.{FilledIs}
-use Rattle.path_row.proofs.CompareSteps.{steps-shown}
-
--- how many steps are due
-pub due-none : (answer : Compared) (k : ℕ) (ss : List Step) → answer ≡ Refused k → 0 ≡ stepsDue (meaning answer) ss
-unfolding meaning stepsDue
-due-none answer k ss e = rw e
-
-due-all : (answer : Compared) (x : Comparison) (ss : List Step) (r : ℕ) → meaning answer ≡ done x → r ≡ length ss → r ≡ stepsDue (meaning answer) ss
-unfolding stepsDue
-due-all answer x ss r e f = f ∙ rw e
-
-module _ (answer : Compared) (ss : List Step) (r : ℕ) (f : r ≡ length ss) where
-  pub due-first : answer ≡ First → r ≡ stepsDue (meaning answer) ss
-  unfolding meaning
-  due-first e = due-all answer first ss r (ap meaning e) f
-
-  pub due-second : answer ≡ Second → r ≡ stepsDue (meaning answer) ss
-  unfolding meaning
-  due-second e = due-all answer second ss r (ap meaning e) f
-
-  pub due-neither : answer ≡ Neither → r ≡ stepsDue (meaning answer) ss
-  unfolding meaning
-  due-neither e = due-all answer neither ss r (ap meaning e) f
+use Rattle.path_row.proofs.RowReads.{steps-shown}
 
 -- k records are filled
 pub filled-part : FilledIs
@@ -52,33 +23,6 @@ filled-part ss lent (suc k) h g =
 
 pub filled-all : (ss lent : List Step) → length ss ≤ length lent → filled ss (length ss) lent ≡ ss ++ drop (length ss) lent
 filled-all ss lent h = filled-part ss lent (length ss) (omega arith) h ∙ ap (λ (l : List Step). l ++ drop (length ss) lent) (take-all (length ss) ss (omega arith))
-
--- a comparison that was not refused: both rows are rows, and their steps fit
-record Passed (a b : List ℕ) (n m : ℕ) : Type 0 where
-  p : PathRow
-  q : PathRow
-  reads-a : rowHere a ≡ done p
-  reads-b : rowHere b ≡ done q
-  fits-a : length (p .steps) ≤ n
-  fits-b : length (q .steps) ≤ m
-
-refuse-not : {A : Type 0} (t : Bool) (k : ℕ) (o : Outcome A) (x : A) → refuseIf t k o ≡ done x → (t ≡ false) × (o ≡ done x)
-unfolding refuseIf
-refuse-not true k o x e = absurd (let z : _≡_ {A = ℕ} 0 1 = cc in omega arith)
-refuse-not false k o x e = (refl, e)
-
-passed : (cells a b : List ℕ) (n m : ℕ) (c : Comparison) → compareRows cells a b n m ≡ done c → Passed a b n m
-unfolding compareRows andThen
-passed cells a b n m c e = by (rowHere a) refl (rowHere b) refl e
-  where
-    by : (o : Outcome PathRow) → rowHere a ≡ o → (o′ : Outcome PathRow) → rowHere b ≡ o′
-        → andThen o (λ p. andThen o′ (λ q. refuseIf (ltb n (length (p .steps))) 9 (refuseIf (ltb m (length (q .steps))) 9 (done (comparison cells p q))))) ≡ done c → Passed a b n m
-    by (refused k) f o′ g h = absurd (let z : _≡_ {A = ℕ} 0 1 = cc in omega arith)
-    by (done p) f (refused k) g h = absurd (let z : _≡_ {A = ℕ} 0 1 = cc in omega arith)
-    by (done p) f (done q) g h =
-        let u = refuse-not (ltb n (length (p .steps))) 9 (refuseIf (ltb m (length (q .steps))) 9 (done (comparison cells p q))) c h
-        in let v = refuse-not (ltb m (length (q .steps))) 9 (done (comparison cells p q)) c (u .1)
-        in record { p = p; q = q; reads-a = f; reads-b = g; fits-a = ltb-false n (length (p .steps)) (u .0); fits-b = ltb-false m (length (q .steps)) (v .0) }
 
 -- what is due fits, and fills the table as it should
 abbrev pub Fills : {A : Type 0} → Outcome A → List ℕ → ℕ → Type 0
@@ -94,29 +38,3 @@ fills-all c row n p e h =
     let s : p .steps ≡ stepsIn row = steps-shown row p e
     in let l : length (p .steps) ≡ length (stepsIn row) = ap length s
     in (omega arith, λ lent f. filled-all (stepsIn row) lent (omega arith) ∙ rw (e, s))
-
-module _ (text a b : List ℕ) (n m : ℕ) where
-  by-cells : (c : Comparison) (cells : Outcome (List ℕ)) → done c ≡ andThen cells (λ x. compareRows x a b n m) → Passed a b n m
-  unfolding andThen
-  by-cells c (refused k) e = absurd (let z : _≡_ {A = ℕ} 0 1 = cc in omega arith)
-  by-cells c (done cells) e = passed cells a b n m c (sym e)
-
-  both-fill : (o : Outcome Comparison) → o ≡ compareAnswer text a b n m → Fills o a n × Fills o b m
-  unfolding compareAnswer
-  both-fill (refused k) e = (fills-none Comparison k a n, fills-none Comparison k b m)
-  both-fill (done c) e =
-      let r = by-cells c (readCells text) e
-      in (fills-all c a n (r .p) (r .reads-a) (r .fits-a), fills-all c b m (r .q) (r .reads-b) (r .fits-b))
-
-  module _ (o : Outcome Comparison) (e : o ≡ compareAnswer text a b n m) where
-    pub due-a : stepsDue o (stepsIn a) ≤ n
-    due-a = both-fill o e .0 .0
-
-    pub due-b : stepsDue o (stepsIn b) ≤ m
-    due-b = both-fill o e .1 .0
-
-    pub left-a : (lent : List Step) → length lent ≡ n → filled (stepsIn a) (stepsDue o (stepsIn a)) lent ≡ stepsLeft o a lent
-    left-a = both-fill o e .0 .1
-
-    pub left-b : (lent : List Step) → length lent ≡ m → filled (stepsIn b) (stepsDue o (stepsIn b)) lent ≡ stepsLeft o b lent
-    left-b = both-fill o e .1 .1

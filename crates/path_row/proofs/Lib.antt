@@ -1,10 +1,7 @@
 pub mod FormLaws
 pub mod Steps
-pub mod OrderSteps
-pub mod ScanLaws
-pub mod CompareSteps
+pub mod RowReads
 pub mod LentLaws
 pub mod WriterLaws
-pub mod FileSteps
 pub mod NumberingLaws
 pub mod Promises

@@ -11,7 +11,7 @@ use lib.Dec.{eqb}
 use lib.ListN.{length, getD}
 use Rattle.scope_graph.specs.Language.{_∈_}
 use Rattle.scope_graph.proofs.Lists.{there}
-use Rattle.path_row.specs.Compare.{numberFrom, labelNumber}
+use Rattle.path_row.specs.Numbering.{numberFrom, labelNumber}
 
 -- where a letter's number comes from
 data Spot (n x : ℕ) (ys : List ℕ) : Type 0 where
@@ -19,11 +19,11 @@ data Spot (n x : ℕ) (ys : List ℕ) : Type 0 where
   unlisted : ¬ (x ∈ ys) → numberFrom n x ys ≡ n + (length ys + x) → Spot n x ys
 
 module _ (n x y : ℕ) (ys : List ℕ) where
-  number-on : eqb y x ≡ true → numberFrom n x (y ∷ ys) ≡ n
+  pub number-on : eqb y x ≡ true → numberFrom n x (y ∷ ys) ≡ n
   unfolding numberFrom
   number-on e = rw (e, numberFrom)
 
-  number-off : eqb y x ≡ false → numberFrom n x (y ∷ ys) ≡ numberFrom (suc n) x ys
+  pub number-off : eqb y x ≡ false → numberFrom n x (y ∷ ys) ≡ numberFrom (suc n) x ys
   unfolding numberFrom
   number-off e = rw (e, numberFrom)
 

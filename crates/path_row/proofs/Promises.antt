@@ -1,28 +1,20 @@
 -- The values of specs/Promises. Assumes nothing.
-use Prim.Native.Nat.{ℕ, _≤_, _<_}
+use Prim.Native.Nat.{ℕ, _<_}
 use mathlib.Core.Path.{_≡_, refl}
-use mathlib.Core.Bool.{Bool, true, false}
-use mathlib.Core.Logic.{_↔_}
 use mathlib.Core.List.{List}
 use native.Mathlib.Omega.{arith}
 use lib.ListN.{length}
-use borrow.Author.Tests.{le-ltb}
-use Rattle.text_field.specs.Outcome.{done, andThen, refuseIf}
-use Rattle.graph_file.specs.File.{readCells}
 use Rattle.graph_file.specs.Decode.{lettersOf, rulesOf}
 use Rattle.graph_file.specs.Accepted.{AcceptedTable}
 use Rattle.graph_file.proofs.DecodeAccepted.{read-accepted}
-use Rattle.scope_graph.specs.Language.{by, Language}
-use Rattle.scope_graph.specs.Rows.{language}
-use Rattle.scope_graph.specs.Promises.{OrderPromises}
-use Rattle.scope_graph.proofs.Lists.{not-true, true-false}
+use Rattle.scope_graph.specs.Language.{by}
+use Rattle.scope_graph.proofs.Lists.{not-true}
 use Rattle.scope_graph.proofs.Rows.{preferredBy-row}
-use Rattle.scope_graph.proofs.Promises.{promises}
-use Rattle.path_row.specs.Form.{PathRow, behindFront, firstStep, rowHere}
-use Rattle.path_row.specs.Compare.{first, second, neither, whichOf, labelNumber, pathIn, rowBefore, comparison, compareRows, compareAnswer}
-use Rattle.path_row.specs.Promises.{FirstSteps, Numbers, LettersNumbered, SaysWhich, CompareIs, FilledIs}
+use Rattle.path_row.specs.Form.{behindFront, firstStep}
+use Rattle.path_row.specs.Numbering.{labelNumber}
+use Rattle.path_row.specs.Promises.{FirstSteps, Numbers, LettersNumbered, FilledIs}
 use Rattle.path_row.proofs.FormLaws.{head-found}
-use Rattle.path_row.proofs.CompareSteps.{steps-first}
+use Rattle.path_row.proofs.RowReads.{steps-first}
 use Rattle.path_row.proofs.LentLaws.{filled-part}
 use Rattle.path_row.proofs.NumberingLaws.{number-tells, number-beyond, number-within}
 
@@ -53,49 +45,6 @@ module _ (cells : List ℕ) (table : AcceptedTable cells) where
 
 pub letters-numbered : LettersNumbered
 letters-numbered text cells e = numbers cells (read-accepted text cells e)
-
--- two tests that are two claims, of which one at most holds
-module _ {P Q : Type 0} where
-  by-tests : (x y : Bool) → ((x ≡ true) ↔ P) → ((y ≡ true) ↔ Q) → (P → Q → ⊥)
-      → ((done (whichOf x y) ≡ done first) ↔ P) × ((done (whichOf x y) ≡ done second) ↔ Q) × ((done (whichOf x y) ≡ done neither) ↔ ((¬ P) × (¬ Q)))
-  unfolding whichOf
-  by-tests true y u v one = (
-    (λ e. u .0 refl, λ p. refl),
-    (λ e. absurd (let z : _≡_ {A = ℕ} 0 1 = cc in omega arith), λ q. absurd (one (u .0 refl) q)),
-    (λ e. absurd (let z : _≡_ {A = ℕ} 0 1 = cc in omega arith), λ n. absurd (n .0 (u .0 refl))),
-  )
-  by-tests false true u v one = (
-    (λ e. absurd (let z : _≡_ {A = ℕ} 0 1 = cc in omega arith), λ p. absurd (true-false (u .1 p) refl)),
-    (λ e. v .0 refl, λ q. refl),
-    (λ e. absurd (let z : _≡_ {A = ℕ} 0 1 = cc in omega arith), λ n. absurd (n .1 (v .0 refl))),
-  )
-  by-tests false false u v one = (
-    (λ e. absurd (let z : _≡_ {A = ℕ} 0 1 = cc in omega arith), λ p. absurd (true-false (u .1 p) refl)),
-    (λ e. absurd (let z : _≡_ {A = ℕ} 0 1 = cc in omega arith), λ q. absurd (true-false (v .1 q) refl)),
-    (λ e. (λ p. true-false (u .1 p) refl, λ q. true-false (v .1 q) refl), λ n. refl),
-  )
-
-module _ (cells : List ℕ) (p q : PathRow) where
-  abbrev L : Language
-  L = language (rulesOf cells)
-
-  compared : OrderPromises L → SaysWhich cells p q (done (comparison cells p q))
-  unfolding comparison rowBefore
-  compared order =
-      let tests = by-tests (rowBefore cells p q) (rowBefore cells q p) (order .computed (pathIn cells p) (pathIn cells q)) (order .computed (pathIn cells q) (pathIn cells p))
-      (λ less more. order .irreflexive (pathIn cells p) (order .transitive (pathIn cells p) (pathIn cells q) (pathIn cells p) less more)) in
-      record { first-is = tests .0; second-is = tests .1; neither-is = tests .2 }
-
--- rows that are read and fit are compared
-answered : (text cells a b : List ℕ) (n m : ℕ) (p q : PathRow) → readCells text ≡ done cells → rowHere a ≡ done p → rowHere b ≡ done q
-    → length (p .steps) ≤ n → length (q .steps) ≤ m → compareAnswer text a b n m ≡ done (comparison cells p q)
-unfolding compareAnswer compareRows andThen refuseIf
-answered text cells a b n m p q e f g h k = rw (e, f, g, le-ltb n (length (p .steps)) h, le-ltb m (length (q .steps)) k)
-
-pub compare-is : CompareIs
-compare-is text cells a b n m p q e f g h k =
-    rw (answered text cells a b n m p q e f g h k)
-    (compared cells p q (promises .order (language (rulesOf cells)) (promises .language (rulesOf cells) (read-accepted text cells e .rules))))
 
 pub filled-is : FilledIs
 filled-is = filled-part

@@ -1,6 +1,5 @@
 pub mod Form
 pub mod Inverse
-pub mod Compare
+pub mod Numbering
 pub mod Lent
 pub mod Promises
-pub mod Scan

@@ -1,21 +1,19 @@
--- What is proved of a row's first step, of labels' numbers, of comparing two rows and of a lent
--- table (document 01, "Paths"). These are the statements; their proofs are in proofs/Promises.
--- Assumes nothing: these are definitions.
+-- What is proved of a row's first step, of labels' numbers and of a lent table (document 01,
+-- "Paths"). These are the statements; their proofs are in proofs/Promises. Assumes nothing: these
+-- are definitions.
 use Prim.Native.Nat.{ℕ, _+_, _≤_, _<_}
 use mathlib.Core.Path.{_≡_}
 use mathlib.Core.Bool.{false}
-use mathlib.Core.Logic.{_↔_}
 use mathlib.Core.List.{List, _++_}
 use lib.ListN.{length, getD, take, drop}
 use Rattle.text_field.specs.Number.{numberText}
-use Rattle.text_field.specs.Outcome.{Outcome, refused, done}
+use Rattle.text_field.specs.Outcome.{refused, done}
 use Rattle.graph_file.specs.File.{readCells}
 use Rattle.graph_file.specs.Decode.{lettersOf, rulesOf}
 use Rattle.scope_graph.specs.Language.{_∈_, End, by}
 use Rattle.scope_graph.specs.Rows.{language}
-use Rattle.scope_graph.specs.Path.{MoreSpecific}
-use Rattle.path_row.specs.Form.{PathRow, Front, mostSteps, stepsOf, headHere, firstStep, rowHere, stepsIn}
-use Rattle.path_row.specs.Compare.{Comparison, first, second, neither, labelNumber, pathIn, compareAnswer}
+use Rattle.path_row.specs.Form.{Front, mostSteps, stepsOf, headHere, firstStep, stepsIn}
+use Rattle.path_row.specs.Numbering.{labelNumber}
 use Rattle.path_row.specs.declared.form.Step.{Step}
 use Rattle.path_row.specs.Lent.{filled}
 
@@ -44,20 +42,6 @@ pub record Numbers (cells : List ℕ) : Type 0 where
 
 abbrev pub LettersNumbered : Type 0
 LettersNumbered = (text cells : List ℕ) → readCells text ≡ done cells → Numbers cells
-
--- the answer says which row is more specific, as the rules have the term: each answer is given
--- exactly where it holds
-pub record SaysWhich (cells : List ℕ) (p q : PathRow) (answer : Outcome Comparison) : Type 0 where
-  pub first-is : (answer ≡ done first) ↔ MoreSpecific (language (rulesOf cells)) (pathIn cells p) (pathIn cells q)
-  pub second-is : (answer ≡ done second) ↔ MoreSpecific (language (rulesOf cells)) (pathIn cells q) (pathIn cells p)
-  pub neither-is : (answer ≡ done neither)
-      ↔ ((¬ MoreSpecific (language (rulesOf cells)) (pathIn cells p) (pathIn cells q)) × (¬ MoreSpecific (language (rulesOf cells)) (pathIn cells q) (pathIn cells p)))
-
--- for a text that is read, and two texts that are path rows whose steps fit into the records lent
--- for them
-abbrev pub CompareIs : Type 0
-CompareIs = (text cells a b : List ℕ) (roomA roomB : ℕ) (p q : PathRow) → readCells text ≡ done cells → rowHere a ≡ done p → rowHere b ≡ done q
-    → length (p .steps) ≤ roomA → length (q .steps) ≤ roomB → SaysWhich cells p q (compareAnswer text a b roomA roomB)
 
 -- n records filled, where there are as many steps and as many records: the first n steps, and the
 -- records behind them as they were

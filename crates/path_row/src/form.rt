@@ -7,7 +7,7 @@ ghost use Prim.Native.Nat.{ℕ, _+_};
 ghost use lib.ListN.{length, drop, getD};
 ghost use Rattle.text_field.specs.Number.{numberPlaced};
 ghost use Rattle.path_row.specs.Form.{mostSteps, numberUpTo, stepMeaning, stepFrom, stepsOf, stepsWidth};
-ghost use Rattle.path_row.specs.Form.{headMeaning, headHere, rowMeaning, rowInLarge, stepsIn, noStep};
+ghost use Rattle.path_row.specs.Form.{headMeaning, headHere, firstStep, rowMeaning, rowInLarge, stepsIn, noStep};
 
 // A file has 64 scopes at most, so none has a number past 63.
 pub const MOST_SCOPE: u64 = 63;
@@ -76,6 +76,17 @@ pub fn read_head(s: &[u8]) -> HeadRead
     HeadRead::Head(mark, start, at)
 }
 
+// The place of a row's first step: behind its mark, its space and its start. Of a text without
+// these, its end.
+pub fn first_step(s: &[u8]) -> usize
+    ensures answer { λ r. ⌜ r ≡ firstStep (now (s .entry)) ⌝ }
+{
+    let HeadRead::Head(_, _, first) = read_head(s) else {
+        return s.len();
+    };
+    first
+}
+
 // The step at a place. Where there is none the steps have ended; whether they may end there is for
 // `read_row` to say.
 pub fn next_step(s: &[u8], at: usize) -> StepRead
@@ -121,6 +132,14 @@ pub fn walk(s: &[u8], at: usize) -> Walked
         count: MOST_STEPS,
         at: i,
     }
+}
+
+// How many steps a text shows.
+pub fn step_count(s: &[u8]) -> usize
+    ensures answer { λ r. ⌜ r ≡ length (stepsIn (now (s .entry))) ⌝ }
+{
+    let end = walk(s, first_step(s));
+    end.count
 }
 
 // A path row in the large, or refusal 8.

@@ -1,6 +1,4 @@
-// Path rows: taken apart, put together, compared.
-pub mod compare;
-pub mod file;
+// Path rows: taken apart, put together.
 pub mod form;
 pub mod lent;
 pub mod writer;

@@ -29,7 +29,7 @@ pub enum Way {
 const TURNS: u64 = 1088;
 
 // A hint's states for a label and a set of states: those before the set, or those behind it.
-pub fn hinted(block: &[u64], hint: usize, label: u64, set: u64) -> u64
+pub(crate) fn hinted(block: &[u64], hint: usize, label: u64, set: u64) -> u64
     requires block { ⌜ IsBlock (now block) ⌝ }
     requires hint { ⌜ hint + 512 ≤ SIZE ⌝ }
 {
@@ -136,7 +136,7 @@ fn spread_edge(
 }
 
 // The number of scope t's first edge, as the way goes through them.
-pub fn first_edge(block: &[u64], way: Way, t: u64) -> u64
+pub(crate) fn first_edge(block: &[u64], way: Way, t: u64) -> u64
     requires block { ⌜ IsBlock (now block) ⌝ }
     requires scope { ⌜ t ≤ 64 ⌝ }
 {
@@ -249,7 +249,14 @@ fn turn_over(table: &mut [u64])
 }
 
 // The places that no steps by free scopes lead to from the start in state 0, in an empty table.
-pub fn unreached(block: &[u64], cutting: u64, free: u64, full: u64, start: u64, table: &mut [u64])
+pub(crate) fn unreached(
+    block: &[u64],
+    cutting: u64,
+    free: u64,
+    full: u64,
+    start: u64,
+    table: &mut [u64],
+)
     requires block { ⌜ IsBlock (now block) ⌝ }
     requires table { ⌜ 64 ≤ length (now table) ⌝ }
     requires scope { ⌜ start < 64 ⌝ }

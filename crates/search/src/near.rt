@@ -121,7 +121,7 @@ fn layer_before(block: &[u64], held: &mut [u64], layer: &[u64], hot: u64, next: 
 
 // How far a place of `scopes` and `states` is from each place, layer by layer, behind the table's
 // 64 sets; 0 where that is not found out.
-pub fn put_distances(block: &[u64], scopes: u64, states: u64, out: &mut [u64])
+pub(crate) fn put_distances(block: &[u64], scopes: u64, states: u64, out: &mut [u64])
     requires block { ⌜ IsBlock (now block) ⌝ }
     requires size { ⌜ 192 ≤ length (now out) ⌝ }
 {

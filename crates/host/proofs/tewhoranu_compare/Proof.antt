@@ -40,16 +40,17 @@ use denote.Exit.{yes}
 use denote.Signature.{plain}
 use Rattle.text_field.specs.Outcome.{Outcome}
 use Rattle.path_row.specs.declared.form.Step.{Step}
-use Rattle.path_row.specs.declared.compare.Compared.{Compared}
-use Rattle.path_row.specs.Compare.{Comparison, meaning, compareAnswer, stepsLeft}
+use Rattle.comparison.specs.declared.rows.Compared.{Compared}
+use Rattle.path_row.specs.Lent.{stepsLeft}
+use Rattle.comparison.specs.Compare.{Comparison, meaning, compareAnswer}
 use Rattle.path_row.proofs.form.Step as T
 use Rattle.path_row.proofs.form.Step.Laws as T′
-use Rattle.path_row.proofs.compare.Compared as E
-use Rattle.path_row.proofs.compare.Compared.Laws as E′
-use Rattle.path_row.proofs.lent.compare as compare
-use Rattle.path_row.proofs.lent.compare.Symbol as compare-def
-use Rattle.path_row.proofs.lent.compare.Symbol.{name as #compare}
-use Rattle.path_row.proofs.lent.compare.Met as compare-thm
+use Rattle.comparison.proofs.rows.Compared as E
+use Rattle.comparison.proofs.rows.Compared.Laws as E′
+use Rattle.comparison.proofs.compare as compare
+use Rattle.comparison.proofs.compare.Symbol as compare-def
+use Rattle.comparison.proofs.compare.Symbol.{name as #compare}
+use Rattle.comparison.proofs.compare.Met as compare-thm
 use Rattle.host.specs.Numbers.{compared}
 use Rattle.host.proofs.numbers.compared_number as number
 use Rattle.host.proofs.numbers.compared_number.Symbol as number-def
@@ -262,5 +263,5 @@ tewhoranu-compare-spec 𝓤 H 𝓜 𝓖 𝓡 =
     entered 𝓤 H (tripleOf 𝓤 H (𝓖 .A) f.signature (f.spec 𝓤 H (𝓖 .A) (𝓜 .mem) (𝓡 .run)))
     (tables 𝓤 H 𝓜 𝓡 code.env .C) (tables 𝓤 H 𝓜 𝓡 code.env .Λ) #own code.function (code.unfolded 𝓤 H 𝓜 𝓡)
     (own-meets 𝓤 H (𝓖 .A) (givenOf 𝓤 H 𝓜 𝓖) (𝓜 .mem) (𝓡 .run) (tablesOf 𝓤 H 𝓜 (tables 𝓤 H 𝓜 𝓡 code.env))
-    (cited 𝓤 H (Compare 𝓤 H (𝓖 .A) (𝓜 .mem) (𝓡 .run)) 𝓜 𝓡 code.env #compare compare-def.routine code.calls-path-row·lent·compare (compare-thm.met 𝓤 H 𝓜 𝓖 𝓡))
+    (cited 𝓤 H (Compare 𝓤 H (𝓖 .A) (𝓜 .mem) (𝓡 .run)) 𝓜 𝓡 code.env #compare compare-def.routine code.calls-comparison·compare (compare-thm.met 𝓤 H 𝓜 𝓖 𝓡))
     (cited 𝓤 H (Number 𝓤 H (𝓖 .A) (𝓜 .mem) (𝓡 .run)) 𝓜 𝓡 code.env #number number-def.routine code.calls-host·numbers·compared-number (number-thm.met 𝓤 H 𝓜 𝓖 𝓡)))

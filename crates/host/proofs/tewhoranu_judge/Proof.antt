@@ -41,7 +41,7 @@ use denote.Signature.{plain}
 use Rattle.text_field.specs.Outcome.{Outcome}
 use Rattle.path_row.specs.declared.form.Step.{Step}
 use Rattle.judge.specs.declared.standing.Judged.{Judged}
-use Rattle.path_row.specs.Compare.{stepsLeft}
+use Rattle.path_row.specs.Lent.{stepsLeft}
 use Rattle.scope_graph.specs.Computed.{Standing}
 use Rattle.judge.specs.Judge.{meaning, judgeAnswer}
 use Rattle.path_row.proofs.form.Step as T

@@ -2,8 +2,8 @@
 use borrow.Author.Needs.{needs}
 use mathlib.Core.Path.{ap}
 use native.Mathlib.Omega.{arith}
-use Rattle.path_row.specs.Compare.{first, second, neither}
-use Rattle.path_row.specs.Compare.{meaning}
+use Rattle.comparison.specs.Compare.{first, second, neither}
+use Rattle.comparison.specs.Compare.{meaning}
 use Rattle.gym.specs.Said.{comparisonName}
 use Rattle.gym.proofs.ReplyLaws.{line-replied, refused-replied, comparison-short}
 use Rattle.gym.proofs.replies.put_comparison.Statement.{statement}

@@ -1,6 +1,6 @@
 use mathlib.Core.Path.{sym, ap, _∙_}
-use Rattle.path_row.specs.declared.compare.Compared.{Compared}
-use Rattle.path_row.specs.Compare.{meaning}
+use Rattle.comparison.specs.declared.rows.Compared.{Compared}
+use Rattle.comparison.specs.Compare.{meaning}
 use Rattle.host.specs.Numbers.{told, caseNumber, noSteps, comparisonCase, compared}
 use borrow.Author.Needs.{needs}
 use Rattle.host.proofs.numbers.compared_number.Statement.{statement}

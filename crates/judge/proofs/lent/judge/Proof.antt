@@ -41,8 +41,7 @@ use Rattle.scope_graph.specs.Computed.{Standing}
 use Rattle.text_field.specs.Outcome.{Outcome}
 use Rattle.path_row.specs.declared.form.Step.{Step}
 use Rattle.path_row.specs.Form.{stepsIn}
-use Rattle.path_row.specs.Compare.{stepsLeft}
-use Rattle.path_row.specs.Lent.{filled, stepsDue}
+use Rattle.path_row.specs.Lent.{stepsLeft, filled, stepsDue}
 use Rattle.judge.specs.declared.standing.Judged.{Judged}
 use Rattle.judge.specs.Judge.{meaning, judgeAnswer}
 use Rattle.judge.proofs.LentLaws.{due-fits, left-is}

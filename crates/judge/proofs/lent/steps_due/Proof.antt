@@ -6,7 +6,7 @@ use Rattle.judge.proofs.lent.steps_due.Statement.{statement}
 use Rattle.judge.proofs.lent.steps_due.Tie as tie
 use Rattle.judge.proofs.lent.steps_due.Reads as reads
 use Rattle.judge.proofs.lent.steps_due.Lts as lts
-use Rattle.path_row.proofs.compare.step_count.Reads as step-count-reads
+use Rattle.path_row.proofs.form.step_count.Reads as step-count-reads
 
 -- src/lent.rt:19:31
 enum-told : tie.Need-enum-told

@@ -2,7 +2,7 @@
 -- nothing.
 use native.Mathlib.Omega.{arith}
 use borrow.Author.Tests.{not-true, not-false}
-use Rattle.path_row.proofs.CompareSteps.{steps-first}
+use Rattle.path_row.proofs.RowReads.{steps-first}
 use Rattle.judge.proofs.HopLaws.{begins-inside}
 use Rattle.judge.proofs.Tied.{start-small, start-below, starts-apart, not-reached, is-cut, not-cut}
 use borrow.Author.Needs.{needs}

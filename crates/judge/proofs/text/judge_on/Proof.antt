@@ -1,7 +1,7 @@
 -- `judge_on` meets its contract: 7, then 8, then 9, then the row's standing. Assumes nothing.
 use mathlib.Core.Path.{refl}
 use native.Mathlib.Omega.{arith}
-use Rattle.path_row.proofs.CompareSteps.{row-is-refused}
+use Rattle.path_row.proofs.RowReads.{row-is-refused}
 use Rattle.board.proofs.Queries.{query-whole, query-asked}
 use Rattle.judge.proofs.Calls.{row-read, no-row, is-asked, has-room, faulty, judges}
 use borrow.Author.Needs.{needs}

@@ -1,0 +1,56 @@
+-- Two path rows compared by the order of a file (document 01, "Paths"), whose letters and rules are
+-- graph_file's Decode. Assumes nothing: these are definitions.
+use Prim.Native.Nat.{ℕ}
+use mathlib.Core.List.{List}
+use mathlib.Core.Bool.{Bool, true, false}
+use lib.Dec.{ltb}
+use lib.ListN.{length}
+use Rattle.text_field.specs.Outcome.{Outcome, refused, done, andThen, refuseIf}
+use Rattle.graph_file.specs.File.{readCells}
+use Rattle.graph_file.specs.Decode.{rulesOf}
+use Rattle.scope_graph.specs.Rows.{language}
+use Rattle.scope_graph.specs.Computed.{moreSpecific}
+use Rattle.path_row.specs.Form.{PathRow, rowHere}
+use Rattle.path_row.specs.Numbering.{pathIn}
+use Rattle.comparison.specs.declared.rows.Compared.{Compared}
+use Rattle.comparison.specs.declared.rows.Compared.the-variants.{First, Second, Neither, Refused}
+
+-- which of two rows is *more specific* (01, "Paths")
+pub data Comparison : Type 0 where
+  first second neither : Comparison
+
+-- by the two tests: the first row is before the second, the second is before the first
+unfoldable pub whichOf : Bool → Bool → Comparison
+whichOf true u = first
+whichOf false true = second
+whichOf false false = neither
+
+-- what an answer means: a refusal by its number, or which row is more specific (01, "Where each
+-- language form goes")
+unfoldable pub meaning : Compared → Outcome Comparison
+meaning First = done first
+meaning Second = done second
+meaning Neither = done neither
+meaning (Refused n) = refused n
+
+-- is the one row more specific than the other, by the file's order?
+unfoldable pub rowBefore : List ℕ → PathRow → PathRow → Bool
+rowBefore cells p q = moreSpecific (language (rulesOf cells)) (pathIn cells p) (pathIn cells q)
+
+-- both ways
+unfoldable pub comparison : List ℕ → PathRow → PathRow → Comparison
+comparison cells p q = whichOf (rowBefore cells p q) (rowBefore cells q p)
+
+-- With the graph table in hand (01, "Paths", where it tells the refusals of two rows): 8 for the
+-- first row, 8 for the second, and 9 where the steps of one outnumber the records lent for it.
+unfoldable pub compareRows : List ℕ → List ℕ → List ℕ → ℕ → ℕ → Outcome Comparison
+compareRows cells a b roomA roomB =
+    andThen (rowHere a) (λ p.
+    andThen (rowHere b) (λ q.
+    refuseIf (ltb roomA (length (p .steps))) 9
+    (refuseIf (ltb roomB (length (q .steps))) 9
+    (done (comparison cells p q)))))
+
+-- The whole call (01, "Who can cause a refusal"): before these, the file's refusals, 1 to 6.
+unfoldable pub compareAnswer : List ℕ → List ℕ → List ℕ → ℕ → ℕ → Outcome Comparison
+compareAnswer text a b roomA roomB = andThen (readCells text) (λ cells. compareRows cells a b roomA roomB)

@@ -1,0 +1,14 @@
+// Two path rows compared by the order of a gym file, over its board.
+mod lent;
+mod letters;
+mod order;
+mod rows;
+mod steps;
+mod text;
+
+pub use lent::compare;
+pub use lent::steps_due;
+pub use letters::label_number;
+pub use rows::Compared;
+pub use rows::compare_rows;
+pub use text::decide;

@@ -1,0 +1,62 @@
+// Two path rows compared by the order in a graph table that was read.
+use crate::steps::row_preferred;
+use block::SIZE;
+use board::put_board;
+use path_row::form::RowRead;
+use path_row::form::read_row;
+ghost use mathlib.Core.Path.{_≡_};
+ghost use Rattle.text_field.specs.Outcome.{done};
+ghost use Rattle.graph_file.specs.Decode.{WasRead};
+ghost use Rattle.block.specs.Layout.{IsBlock};
+ghost use Rattle.path_row.specs.Form.{stepsIn};
+ghost use Rattle.comparison.specs.Compare.{meaning, compareRows};
+ghost use Rattle.comparison.specs.Steps.{stepsCompared};
+
+// Which of two rows is more specific, or the refusal's number.
+pub enum Compared {
+    First,
+    Second,
+    Neither,
+    Refused(u64),
+}
+
+// Which of two rows with one start is more specific, by the board's order?
+fn more_specific(block: &[u64], a: &[u8], b: &[u8]) -> Compared
+    requires block { ⌜ IsBlock (now block) ⌝ }
+    ensures answer { λ r. ⌜ meaning r
+        ≡ done (stepsCompared (now (block .entry)) (stepsIn (now (a .entry))) (stepsIn (now (b .entry)))) ⌝ }
+{
+    if row_preferred(block, a, b) {
+        return Compared::First;
+    }
+    if row_preferred(block, b, a) {
+        return Compared::Second;
+    }
+    Compared::Neither
+}
+
+// Two rows by the order in a graph table that was read, where n records are lent for the steps of a
+// and m for those of b. The board is made only where the order decides.
+pub fn compare_rows(cells: &[u64], a: &[u8], b: &[u8], n: usize, m: usize) -> Compared
+    requires read { ⌜ WasRead (now cells) ⌝ }
+    ensures answer { λ r. ⌜ meaning r ≡ compareRows (now (cells .entry)) (now (a .entry)) (now (b .entry)) n m ⌝ }
+{
+    let RowRead::Row(_, start, count) = read_row(a) else {
+        return Compared::Refused(8);
+    };
+    let RowRead::Row(_, other, more) = read_row(b) else {
+        return Compared::Refused(8);
+    };
+    if n < count {
+        return Compared::Refused(9);
+    }
+    if m < more {
+        return Compared::Refused(9);
+    }
+    if start != other {
+        return Compared::Neither;
+    }
+    let mut block = [0u64; SIZE];
+    put_board(cells, &mut block);
+    more_specific(&block, a, b)
+}
