@@ -36,10 +36,11 @@ class Rng:
 
 
 class Gym:
-    """A gym file in the making. Ends are -1 for `$` and the label's number otherwise. In a file with kinds a name is `kind name`."""
+    """A gym file in the making. Ends are -1 for `$` and the label's number otherwise. In a file with kinds a name is `kind name`. `turns` is
+    None, or, in a file with turns, the turn of each edge that has another than 0."""
 
     def __init__(self, labels, scopes):
-        self.labels, self.scopes, self.kinds = labels, scopes, False
+        self.labels, self.scopes, self.kinds, self.turns = labels, scopes, False, None
         self.order, self.trans, self.accepts = set(), {}, set()
         self.edges, self.decls, self.open, self.queries = set(), set(), set(), []
 
@@ -60,7 +61,11 @@ class Gym:
         out += ['state label next'] + [f'{s} {lab[l]} {n}' for (s, l), n in sorted(self.trans.items())]
         out += ['accept'] + [f'{s}' for s in sorted(self.accepts)]
         out += ['scopes', f'{self.scopes}']
-        out += ['from label to'] + [f'{a} {lab[l]} {b}' for a, l, b in sorted(self.edges)]
+        if self.turns is None:
+            out += ['from label to'] + [f'{a} {lab[l]} {b}' for a, l, b in sorted(self.edges)]
+        else:
+            rows = sorted((a, l, self.turns.get((a, l, b), 0), b) for a, l, b in self.edges)
+            out += ['from label turn to'] + [f'{a} {lab[l]} {t} {b}' for a, l, t, b in rows]
         out += ['at kind name mark' if self.kinds else 'at name mark'] + [f'{s} {n} {m}' for s, n, m in sorted(self.decls)]
         out += ['at open'] + [f'{s} {self.end(e)}' for s, e in sorted(self.open)]
         out += ['start kind seek' if self.kinds else 'start seek'] + [f'{s} {n}' for s, n in self.queries]
@@ -142,6 +147,16 @@ def with_kinds(g):
     g.kinds = True
     g.decls = {(s, f'{r.pick("cl")} {n}', m) for s, n, m in sorted(g.decls)}
     g.queries = [(s, f'{r.pick("cl")} {n}') for s, n in g.queries]
+    return g
+
+
+def with_turns(g):
+    """The same file with kinds and turns: each import's turn is drawn, and more lanes import a second profile, so that the later one wins."""
+    r = Rng(12)
+    for lane in range(7, 31):
+        g.edges.add((lane, I, 40 + r.below(24)))
+    g = with_kinds(g)
+    g.turns = {(a, l, b): r.below(4) for a, l, b in sorted(g.edges) if l == I}
     return g
 
 
@@ -302,6 +317,7 @@ FILES = [
     ('example', "document 01's example", example),
     ('realistic', 'a gym of 64 scopes with 200 queries', realistic),
     ('realistic_kinds', 'the same with kinds', lambda: with_kinds(realistic())),
+    ('realistic_turns', 'the same with kinds and turns, and more imports', lambda: with_turns(realistic())),
     ('faulty_last_row', 'the largest file read whole, its last row refused', faulty_last_row),
     ('clique_nowhere', 'twenty profiles that all import one another, the name nowhere', lambda: clique(False, False)),
     ('clique_site', 'the same, the name in the site alone', lambda: clique(True, False)),

@@ -45,7 +45,7 @@ extern "C" {
 #define TEWHORANU_NO_QUERY 7      /* the file has no query of this number */
 #define TEWHORANU_NO_PATH_ROW 8   /* a path row not of its form */
 #define TEWHORANU_NO_ROOM 9       /* an output longer than the memory lent for it, or more steps than records */
-#define TEWHORANU_NO_OLD_FORM 14  /* a declaration or a query of a kind other than `v`, which the old form cannot say */
+#define TEWHORANU_NO_OLD_FORM 14  /* a kind other than `v` or a turn other than 0, which the old form cannot say */
 
 /* An answer of this and more is no refusal. Cases are as far apart. */
 #define TEWHORANU_DONE 64
@@ -60,9 +60,11 @@ extern "C" {
 #define TEWHORANU_SHADOWED 1  /* reached, and another reached path is more specific */
 #define TEWHORANU_UNREACHED 2 /* neither */
 
-/* The forms of file, as cell 0 of a graph table has them: names alone, which are of the kind `v`, or kinds and names. */
+/* The forms of file, as cell 0 of a graph table has them: names alone, which are of the kind `v`, or kinds and names; with
+ * kinds and names also a turn for each edge, which is 0 in the other forms. */
 #define TEWHORANU_OLD_FORM 0
 #define TEWHORANU_WITH_KINDS 1
+#define TEWHORANU_WITH_TURNS 2
 
 /* Sizes that always serve: cells of a graph table, bytes of a file, records of a step table, bytes of a summary. */
 #define TEWHORANU_CELLS 12271
@@ -106,7 +108,7 @@ static inline const char *tewhoranu_refusal_text(uint64_t answer)
     case TEWHORANU_MALFORMED:
         return "a line or a table's row is not of its section's form, or a section is missing";
     case TEWHORANU_OUT_OF_RANGE:
-        return "a scope, state, mark, count or label is outside its range or list";
+        return "a scope, state, mark, count, turn or label is outside its range or list";
     case TEWHORANU_NOT_ASCENDING:
         return "a row repeats or does not ascend";
     case TEWHORANU_TOO_MANY_ROWS:
@@ -120,14 +122,14 @@ static inline const char *tewhoranu_refusal_text(uint64_t answer)
     case TEWHORANU_NO_ROOM:
         return "the memory lent is too short for the output or the steps";
     case TEWHORANU_NO_OLD_FORM:
-        return "the old form has no kinds, and a declaration or a query is of another than v";
+        return "the old form has no kinds and no turns, and a kind is not v or a turn is not 0";
     default:
         return "no refusal that this header knows";
     }
 }
 
-/* Reads a gym file's text into a graph table: cell 0 is the file's form, TEWHORANU_OLD_FORM or TEWHORANU_WITH_KINDS, then
- * come six cells for each row (docs/ARCHITECTURE.md, "The graph table"), the same in both forms.
+/* Reads a gym file's text into a graph table: cell 0 is the file's form, TEWHORANU_OLD_FORM, TEWHORANU_WITH_KINDS or
+ * TEWHORANU_WITH_TURNS, then come six cells for each row (docs/ARCHITECTURE.md, "The graph table"), the same in all forms.
  * Answers 64 and the number of cells, at most TEWHORANU_CELLS; cells behind them stay as they were.
  * Refuses by 1; then from the top line by line 2, 5, 3, 4; then 6; then 9. */
 uint64_t tewhoranu_read(const uint8_t *text, size_t text_length, uint64_t *table, size_t table_length);
@@ -135,7 +137,8 @@ uint64_t tewhoranu_read(const uint8_t *text, size_t text_length, uint64_t *table
 /* Writes a graph table as a gym file's text, in the form that cell 0 says: the inverse of reading.
  * Answers 64 and the number of bytes, at most TEWHORANU_TEXT; bytes behind them stay as they were.
  * Refuses by 2 where cell 0 is missing or no form of file; then from the first row, row by row, by 2, 5, 3, 4; then by
- * 6; then by 9. In the old form a row of another kind than `v` is 2. */
+ * 6; then by 9. In the old form a row of another kind than `v` is 2, and in a form without turns an edge with
+ * another turn than 0. */
 uint64_t tewhoranu_write(const uint64_t *table, size_t table_length, uint8_t *out, size_t out_length);
 
 /* Finds the name that a query of the file seeks: the name alone, without its kind.
@@ -146,7 +149,7 @@ uint64_t tewhoranu_write(const uint64_t *table, size_t table_length, uint8_t *ou
 uint64_t tewhoranu_name_sought(const uint8_t *text, size_t text_length, size_t query, uint64_t *place);
 
 /* Writes the listing of a query of the file: what it sees, and whether rows still to come could change that. The head of
- * a file with kinds has the query's kind.
+ * a file with kinds, with turns or without, has the query's kind.
  * Answers 64 and the number of bytes; bytes behind them stay as they were.
  * Refuses by 1 to 6 as tewhoranu_read does, then 7, then 9. */
 uint64_t tewhoranu_listing(const uint8_t *text, size_t text_length, size_t query, uint8_t *out, size_t out_length);
@@ -158,7 +161,8 @@ uint64_t tewhoranu_listing(const uint8_t *text, size_t text_length, size_t query
 uint64_t tewhoranu_judge(const uint8_t *text, size_t text_length, size_t query, const uint8_t *row, size_t row_length,
                          tewhoranu_step *steps, size_t steps_length);
 
-/* Compares two path rows by the order of the file, by their letters and scopes alone.
+/* Compares two path rows by the order of the file and the turns of its edges, by their letters and scopes alone, whether or
+ * not they are paths of the graph. A step that is no edge of the file has no turn.
  * Answers by a case, TEWHORANU_FIRST, TEWHORANU_SECOND or TEWHORANU_NEITHER, and puts each row's steps into the table
  * lent for it; records behind them stay as they were.
  * Refuses by 1 to 6 as tewhoranu_read does, then 8 for the first row, 8 for the second, then 9 where the steps of one
@@ -173,14 +177,16 @@ uint64_t tewhoranu_compare(const uint8_t *text, size_t text_length, const uint8_
  * Refuses by 1 to 6 as tewhoranu_read does, then 9. */
 uint64_t tewhoranu_summary(const uint8_t *text, size_t text_length, uint8_t *out, size_t out_length);
 
-/* Writes the file in the old form, without kinds. A file in that form comes out as it is; any other converts back to
- * the same bytes by tewhoranu_to_new, and its listings have the same entries, found and awaits.
+/* Writes the file in the old form, without kinds and turns. A file in that form comes out as it is; one with kinds converts
+ * back to the same bytes by tewhoranu_to_new, one with turns, which are then all 0, to the file without that column. The
+ * listings of what comes out have the same entries, found and awaits.
  * Answers 64 and the number of bytes, at most TEWHORANU_TEXT; bytes behind them stay as they were.
- * Refuses by 1 to 6 as tewhoranu_read does, then 14 where a declaration or a query is of a kind other than `v`, then 9. */
+ * Refuses by 1 to 6 as tewhoranu_read does, then 14 where a declaration or a query is of a kind other than `v` or an edge
+ * has a turn other than 0, then 9. */
 uint64_t tewhoranu_to_old(const uint8_t *text, size_t text_length, uint8_t *out, size_t out_length);
 
-/* Writes the file in the form with kinds, each being `v` where it is in the old form. A file in that form comes out as it
- * is; any other converts back to the same bytes by tewhoranu_to_old.
+/* Writes the file in the form with kinds, each being `v` where it is in the old form. A file with kinds, with turns or
+ * without, comes out as it is; any other converts back to the same bytes by tewhoranu_to_old.
  * Answers 64 and the number of bytes, at most TEWHORANU_TEXT; bytes behind them stay as they were.
  * Refuses by 1 to 6 as tewhoranu_read does, then 9. */
 uint64_t tewhoranu_to_new(const uint8_t *text, size_t text_length, uint8_t *out, size_t out_length);

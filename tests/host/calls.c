@@ -96,6 +96,11 @@ int main(int argc, char **argv)
                                 "at kind name mark\n0 v x 1\nat open\n0 $\nstart kind seek\n0 v x\n";
     static const char old[] = "label\nless more\nstate label next\naccept\n0\nscopes\n1\nfrom label to\n"
                               "at name mark\n0 x 1\nat open\n0 $\nstart seek\n0 x\n";
+    static const char turns[] = "label\nI\nless more\nstate label next\n0 I 0\naccept\n0\nscopes\n3\nfrom label turn to\n"
+                                "0 I 1 2\n0 I 2 1\nat kind name mark\n1 v x 1\n2 v x 2\nat open\n0 I\nstart kind seek\n0 v x\n";
+    static const char zeros[] = "label\nless more\nstate label next\naccept\n0\nscopes\n1\nfrom label turn to\n"
+                                "at kind name mark\n0 v x 1\nat open\n0 $\nstart kind seek\n0 v x\n";
+    static const char later[] = "start kind seek found awaits\n0 v x one 0I\nmark path\n1 0I1\n";
     static const char limit[] = "start kind seek found awaits\n0 v x one 0$\nmark path\n2 0\n";
     static const char visible[] = "21 2", shadowed[] = "10 2P1", unreached[] = "5 2P1P0";
     FILE *file = argc == 2 ? fopen(argv[1], "rb") : NULL;
@@ -121,6 +126,7 @@ int main(int argc, char **argv)
     EXPECT(refused_with(length, "$ I\n", "$ $\n", TEWHORANU_NO_ORDER));
     EXPECT(refused_with(length, "at name mark\n", "at kind name mark\n", TEWHORANU_MALFORMED));
     EXPECT(refused_with(length, "start seek\n", "start kind seek\n", TEWHORANU_MALFORMED));
+    EXPECT(refused_with(length, "from label to\n", "from label turn to\n", TEWHORANU_MALFORMED));
 
     answer = tewhoranu_write(table, cells, out, sizeof out);
     EXPECT(answer == TEWHORANU_DONE + length && memcmp(out, text, length) == 0);
@@ -173,7 +179,9 @@ int main(int argc, char **argv)
     EXPECT(answer == TEWHORANU_DONE + length && memcmp(out, kinds, length) == 0);
     table[0] = TEWHORANU_OLD_FORM;
     EXPECT(tewhoranu_write(table, cells, out, sizeof out) == TEWHORANU_MALFORMED);
-    table[0] = TEWHORANU_WITH_KINDS + 1;
+    table[0] = TEWHORANU_WITH_TURNS;
+    EXPECT(!tewhoranu_refused(tewhoranu_write(table, cells, out, sizeof out)));
+    table[0] = TEWHORANU_WITH_TURNS + 1;
     EXPECT(tewhoranu_write(table, cells, out, sizeof out) == TEWHORANU_MALFORMED);
     answer = tewhoranu_listing(bytes(kinds), length, 1, out, sizeof out);
     EXPECT(answer == TEWHORANU_DONE + strlen(limit) && memcmp(out, limit, strlen(limit)) == 0);
@@ -182,6 +190,36 @@ int main(int argc, char **argv)
     EXPECT(is_case(answer, TEWHORANU_VISIBLE));
     answer = tewhoranu_judge(bytes(kinds), length, 1, bytes("1 0"), 3, steps, 0);
     EXPECT(is_case(answer, TEWHORANU_UNREACHED));
+
+    /* a file with turns: its cells, its text, its listing, its rows judged and compared */
+    answer = tewhoranu_read(bytes(turns), strlen(turns), table, TEWHORANU_CELLS);
+    EXPECT(answer == TEWHORANU_DONE + 1 + 6 * 10 && table[0] == TEWHORANU_WITH_TURNS);
+    cells = tewhoranu_written(answer);
+    EXPECT(table[25] == 5 && table[26] == 0 && table[27] == 0 && table[28] == 2 && table[29] == 1);
+    EXPECT(table[34] == 1 && table[35] == 2);
+    answer = tewhoranu_write(table, cells, out, sizeof out);
+    EXPECT(answer == TEWHORANU_DONE + strlen(turns) && memcmp(out, turns, strlen(turns)) == 0);
+    table[35] = 100;
+    EXPECT(tewhoranu_write(table, cells, out, sizeof out) == TEWHORANU_OUT_OF_RANGE);
+    table[34] = 2;
+    table[35] = 2;
+    EXPECT(tewhoranu_write(table, cells, out, sizeof out) == TEWHORANU_NOT_ASCENDING);
+    table[34] = 1;
+    table[0] = TEWHORANU_WITH_KINDS;
+    EXPECT(tewhoranu_write(table, cells, out, sizeof out) == TEWHORANU_MALFORMED);
+    answer = tewhoranu_listing(bytes(turns), strlen(turns), 0, out, sizeof out);
+    EXPECT(answer == TEWHORANU_DONE + strlen(later) && memcmp(out, later, strlen(later)) == 0);
+    answer = tewhoranu_judge(bytes(turns), strlen(turns), 0, bytes("1 0I1"), 5, steps, 1);
+    EXPECT(is_case(answer, TEWHORANU_VISIBLE));
+    answer = tewhoranu_judge(bytes(turns), strlen(turns), 0, bytes("2 0I2"), 5, steps, 1);
+    EXPECT(is_case(answer, TEWHORANU_SHADOWED));
+    answer = tewhoranu_compare(bytes(turns), strlen(turns), bytes("2 0I2"), 5, bytes("1 0I1"), 5, steps, 1, others, 1);
+    EXPECT(is_case(answer, TEWHORANU_SECOND));
+    answer = tewhoranu_compare(bytes(turns), strlen(turns), bytes("2 0I0"), 5, bytes("1 0I1"), 5, steps, 1, others, 1);
+    EXPECT(is_case(answer, TEWHORANU_NEITHER));
+    EXPECT(converts(tewhoranu_to_new, turns, turns) && converts(tewhoranu_to_new, zeros, zeros));
+    EXPECT(converts(tewhoranu_to_old, zeros, old));
+    EXPECT(tewhoranu_to_old(bytes(turns), strlen(turns), out, 0) == TEWHORANU_NO_OLD_FORM);
 
     /* one file in both forms: each way, as it is, a byte less; and kinds that the old form cannot say */
     EXPECT(converts(tewhoranu_to_old, usual, old) && converts(tewhoranu_to_old, old, old));

@@ -13,6 +13,7 @@ use lib.Dec.{ltb}
 use lib.ListN.{length, getD}
 use Rattle.scope_graph.specs.Language.{_∈_}
 use Rattle.scope_graph.specs.Path.{HopOf}
+use Rattle.scope_graph.specs.Turns.{Turned}
 use Rattle.scope_graph.proofs.Lists.{Two, and-left, and-right}
 use Rattle.block.specs.Layout.{DELTA, BETTER, SIZE}
 use Rattle.block.specs.Sets.{hasBit}
@@ -117,15 +118,15 @@ module _ (block : List ℕ) (a c : ℕ) where
   pair-second h = ltb-true c 9 (and-right (ltb a 9) (ltb c 9) (pair-both h))
 
 -- a hop comes to a scope by a label of the tables
-abbrev pub Small : HopOf ℕ → Type 0
-Small h = (h .to < 64) × (h .step < 8)
+abbrev pub Small : HopOf Turned → Type 0
+Small h = (h .to < 64) × (h .step .label < 8)
 
 module _ (x : ℕ) where
   pub hop-to : hopOf x .to < 64
   unfolding hopOf
   hop-to = mod-lt x (omega arith)
 
-  pub hop-step : hopOf x .step < 8
+  pub hop-step : hopOf x .step .label < 8
   unfolding hopOf
   hop-step = mod-lt (x / 64) (omega arith)
 
@@ -139,7 +140,7 @@ module _ (block : List ℕ) (p end : ℕ) where
   unfolding hopsFrom
   hops-more h = let one : end - p ≡ suc (end - suc p) = omega arith in rw one
 
-pub from-small : (block : List ℕ) (n p : ℕ) (h : HopOf ℕ) → h ∈ hopsFrom block p n → Small h
+pub from-small : (block : List ℕ) (n p : ℕ) (h : HopOf Turned) → h ∈ hopsFrom block p n → Small h
 unfolding hopsFrom
 from-small block zero p h m = absurd (List·Memᴰ·not-nil m)
 from-small block (suc n) p h m = ⊎-elim first (from-small block n (suc p) h) (List·Memᴰ·cases-cons m)
@@ -157,7 +158,7 @@ module _ (block : List ℕ) (s p : ℕ) where
   unfolding hopsOn
   on-more h = hops-more block p (firstEdge block (suc s)) h
 
-  pub on-small : (h : HopOf ℕ) → h ∈ hopsOn block s p → Small h
+  pub on-small : (h : HopOf Turned) → h ∈ hopsOn block s p → Small h
   unfolding hopsOn
   on-small h m = from-small block (firstEdge block (suc s) - p) p h m
 
@@ -171,7 +172,7 @@ module _ (block : List ℕ) (s : ℕ) where
   unfolding blockHops
   blockHops-past h = rw (le-ltb s 64 h, blockHops)
 
-  module _ (h : HopOf ℕ) (m : h ∈ blockHops block s) where
+  module _ (h : HopOf Turned) (m : h ∈ blockHops block s) where
     pub hops-scope : s < 64
     hops-scope = at (Two (ltb s 64))
       where

@@ -1,14 +1,17 @@
 -- What is read of the board's block, whatever its cells hold. Assumes nothing: these are
 -- definitions.
-use Prim.Native.Nat.{ℕ, zero, suc, _+_, _-_, _*_, _/_, _%_, _≤_}
+use Prim.Native.Nat.{ℕ, zero, suc, _+_, _-_, _*_, _/_, _%_, _≤_, _<_}
+use mathlib.Core.Path.{_≡_}
 use mathlib.Core.Bool.{Bool, true, false, _&&_}
 use mathlib.Core.Option.{Option, some, none}
 use mathlib.Core.List.{List, [], _∷_}
 use lib.Dec.{ltb}
 use lib.ListN.{getD, take, drop}
+use Rattle.scope_graph.specs.Language.{_∈_}
 use Rattle.scope_graph.specs.Path.{HopOf}
+use Rattle.scope_graph.specs.Turns.{Turned, turnBy}
 use Rattle.block.specs.Sets.{hasBit}
-use Rattle.block.specs.Layout.{DELTA, BETTER, ACCEPT, SCOPES, USABLE, LETTER, FIRST, EDGE, DECL, STATES}
+use Rattle.block.specs.Layout.{DELTA, BETTER, ACCEPT, SCOPES, USABLE, LETTER, FIRST, EDGE, DECL, STATES, TURN}
 
 -- a state, or 16 and above for none
 unfoldable pub stateOf : ℕ → Option ℕ
@@ -32,40 +35,58 @@ letterCell block l = getD block (LETTER + l) 0
 unfoldable pub scopesCell : List ℕ → ℕ
 scopesCell block = getD block SCOPES 0
 
--- one past the last state from which a label leads on; that it is: no label leads on from there
+-- one past the last state from which a label leads on, and a turn that no edge's is above
 unfoldable pub statesCell : List ℕ → ℕ
 statesCell block = getD block STATES 0
 
-abbrev pub Still : List ℕ → Type 0
-Still block = (q l : ℕ) → statesCell block ≤ q → 16 ≤ nextCell block q l
+unfoldable pub turnCell : List ℕ → ℕ
+turnCell block = getD block TURN 0
 
 -- is the end with number a preferred to the one with number c? Ends past the table are not
 -- compared.
 unfoldable pub pairFlag : List ℕ → ℕ → ℕ → Bool
 pairFlag block a c = elim (ltb a 9 && ltb c 9) [ true ↦ hasBit (getD block (BETTER + c) 0) a | false ↦ false ]
 
--- the number of the scope's first edge; edge number p; the hop of an edge
+-- the number of the scope's first edge; edge number p; the turn and the hop of an edge
 unfoldable pub firstEdge : List ℕ → ℕ → ℕ
 firstEdge block s = getD block (FIRST + s) 0
 
 unfoldable pub edgeCell : List ℕ → ℕ → ℕ
 edgeCell block p = getD block (EDGE + p % 512) 0
 
-unfoldable pub hopOf : ℕ → HopOf ℕ
-hopOf x = record { step = x / 64 % 8; to = x % 64 }
+unfoldable pub turnOf : ℕ → ℕ
+turnOf x = x / 512 % 128
+
+unfoldable pub hopOf : ℕ → HopOf Turned
+hopOf x = record { step = record { label = x / 64 % 8; turn = some (turnOf x) }; to = x % 64 }
+
+-- the two bounds are bounds: no label leads on from a state past the first, and no turn of a
+-- scope's edge is above the second
+pub record Bounds (block : List ℕ) : Type 0 where
+  pub states : (q l : ℕ) → statesCell block ≤ q → 16 ≤ nextCell block q l
+  pub turns : (s p : ℕ) → s < 64 → p < firstEdge block (suc s) → turnOf (edgeCell block p) ≤ turnCell block
 
 -- the hops of n edges from number p on
-unfoldable pub hopsFrom : List ℕ → ℕ → ℕ → List (HopOf ℕ)
+unfoldable pub hopsFrom : List ℕ → ℕ → ℕ → List (HopOf Turned)
 hopsFrom block p zero = []
 hopsFrom block p (suc n) = hopOf (edgeCell block p) ∷ hopsFrom block (suc p) n
 
 -- the hops that leave the scope by its edges from number p on
-unfoldable pub hopsOn : List ℕ → ℕ → ℕ → List (HopOf ℕ)
+unfoldable pub hopsOn : List ℕ → ℕ → ℕ → List (HopOf Turned)
 hopsOn block s p = hopsFrom block p (firstEdge block (suc s) - p)
 
 -- all hops that leave a scope; one past the last scope has none
-unfoldable pub blockHops : List ℕ → ℕ → List (HopOf ℕ)
+unfoldable pub blockHops : List ℕ → ℕ → List (HopOf Turned)
 blockHops block s = elim (ltb s 64) [ true ↦ hopsOn block s (firstEdge block s) | false ↦ [] ]
+
+-- Edge number r is the first that leaves the scope by the label to the scope `to`, so its turn is
+-- the one that comparing looks up (02, K12); or a number past the scope's edges where there is
+-- none.
+pub record EdgeTo (block : List ℕ) (s label to r : ℕ) : Type 0 where
+  pub leaves : r < firstEdge block (suc s) → hopOf (edgeCell block r) ∈ blockHops block s
+  pub is : r < firstEdge block (suc s)
+      → hopOf (edgeCell block r) ≡ record { step = record { label = label; turn = turnBy (blockHops block s) label to }; to = to }
+  pub none-is : firstEdge block (suc s) ≤ r → turnBy (blockHops block s) label to ≡ none
 
 -- where a scope's declarations start in the graph table, and the part of the table that they are
 unfoldable pub firstDeclaration : List ℕ → ℕ → ℕ

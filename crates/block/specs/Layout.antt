@@ -37,7 +37,7 @@ START = 156
 abbrev pub FIRST : ℕ
 FIRST = 166
 
--- 512 cells: an edge's label * 64 + the scope that it leads to, scope after scope
+-- 512 cells: an edge's turn * 512 + its label * 64 + the scope that it leads to, scope after scope
 abbrev pub EDGE : ℕ
 EDGE = 231
 
@@ -49,39 +49,43 @@ DECL = 743
 abbrev pub STATES : ℕ
 STATES = 808
 
+-- a turn that no edge's is above (02, K12); 0 where all turns are 0
+abbrev pub TURN : ℕ
+TURN = 809
+
 -- 1,090 cells of hints, from here on
 abbrev pub HINT : ℕ
-HINT = 809
+HINT = 810
 
 -- 65 cells: for each scope the number of the first edge that leads to it, and the number of edges
 -- behind them
 abbrev pub INTO : ℕ
-INTO = 809
+INTO = 810
 
 -- 512 cells with two hints each, so that there are fewer to clear: in the lowest `LEAVING` bits the
 -- scope that an edge comes from * 8 + its label, by the scope that it leads to; in those above the
 -- states that a label leads to from a set, by label * 64 + quarter * 16 + the set's part in that
 -- quarter of the 16 states
 abbrev pub BACK : ℕ
-BACK = 874
+BACK = 875
 
 abbrev pub AFTER : ℕ
-AFTER = 874
+AFTER = 875
 
 abbrev pub LEAVING : ℕ
 LEAVING = 9
 
 -- 512 cells: the states from which a label leads into a set, by the same
 abbrev pub BEFORE : ℕ
-BEFORE = 1386
+BEFORE = 1387
 
 -- how many edges there are
 abbrev pub EDGES : ℕ
-EDGES = 1898
+EDGES = 1899
 
 -- all cells
 abbrev pub SIZE : ℕ
-SIZE = 1899
+SIZE = 1900
 
 -- a block of the board's size
 abbrev pub IsBlock : List ℕ → Type 0

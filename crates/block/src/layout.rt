@@ -21,18 +21,20 @@ pub const DECL: usize = 743;
 
 pub const STATES: usize = 808;
 
-pub const HINT: usize = 809;
+pub const TURN: usize = 809;
 
-pub const INTO: usize = 809;
+pub const HINT: usize = 810;
 
-pub const BACK: usize = 874;
+pub const INTO: usize = 810;
 
-pub const AFTER: usize = 874;
+pub const BACK: usize = 875;
+
+pub const AFTER: usize = 875;
 
 pub const LEAVING: u64 = 9;
 
-pub const BEFORE: usize = 1386;
+pub const BEFORE: usize = 1387;
 
-pub const EDGES: usize = 1898;
+pub const EDGES: usize = 1899;
 
-pub const SIZE: usize = 1899;
+pub const SIZE: usize = 1900;

@@ -1,6 +1,7 @@
 // The board's block: one lent block of cells in which a file's tables stand, made once for the
 // file. Here is what is read of it; crate `board` fills it.
 mod ask;
+mod edges;
 mod layout;
 mod sets;
 
@@ -15,6 +16,10 @@ pub use ask::ask_high;
 pub use ask::ask_kind;
 pub use ask::ask_low;
 pub use ask::ask_start;
+pub use edges::edge_to;
+pub use edges::is_later;
+pub use edges::most_turn;
+pub use edges::turn_of;
 pub use layout::ACCEPT;
 pub use layout::AFTER;
 pub use layout::BACK;
@@ -33,6 +38,7 @@ pub use layout::SCOPES;
 pub use layout::SIZE;
 pub use layout::START;
 pub use layout::STATES;
+pub use layout::TURN;
 pub use layout::USABLE;
 pub use sets::has;
 pub use sets::has_state;
@@ -118,7 +124,8 @@ pub fn edges_end(block: &[u64], s: u64) -> u64
     block[FIRST + s as usize + 1]
 }
 
-// Edge number p. Its label is `x / 64 % 8`, the scope that it leads to `x % 64`.
+// Edge number p. Its label is `x / 64 % 8`, the scope that it leads to `x % 64`, its turn
+// `turn_of(x)`.
 pub fn edge_at(block: &[u64], p: u64) -> u64
     requires block { ⌜ IsBlock (now block) ⌝ }
     ensures answer { λ r. ⌜ r ≡ edgeCell (now (block .entry)) p ⌝ }

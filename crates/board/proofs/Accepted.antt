@@ -85,6 +85,7 @@ module _ (cells : List ℕ) (a : AcceptedTable cells) (t : AdmittedTable cells) 
     edges-from = λ e m. let most = scopes in let here = in-range .from-scope e m in omega arith;
     edges-label = λ e m. let most = a .labels in let here = in-range .listed e m in omega arith;
     edges-to = λ e m. let most = scopes in let here = in-range .to-scope e m in omega arith;
+    edges-turn = a .turns;
     labels = a .labels;
     states = a .states;
     listed = a .rules .labels;

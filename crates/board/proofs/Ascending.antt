@@ -45,8 +45,8 @@ module _ (cells : List ℕ) (t : AdmittedTable cells) (up : SectionsAscend 0 (dr
   edges-up : Pairwise FirstUp (rowsIn edgeSection cells)
   unfolding sectionAt sections edges
   edges-up =
-      pairwise-weaken (KeyBefore (sectionAt edgeSection .key)) FirstUp (rowsIn edgeSection cells) (λ a b m n k. first-up (1 ∷ 2 ∷ []) a b k)
-      (table-ascends cells t edgeSection (omega arith) refl)
+      pairwise-weaken (KeyBefore (sectionAt edgeSection .key)) FirstUp (rowsIn edgeSection cells) (λ a b m n k. first-up (1 ∷ 3 ∷ 2 ∷ []) a b k)
+      (table-ascends cells t edgeSection (omega arith) tt)
 
   pub admitted-edges : RowsAscend 0 (partOf edgeSection cells)
   admitted-edges = section-up edgeSection edges-up
@@ -55,7 +55,7 @@ module _ (cells : List ℕ) (t : AdmittedTable cells) (up : SectionsAscend 0 (dr
   unfolding sectionAt sections declarations
   declarations-up =
       pairwise-weaken (KeyBefore (sectionAt declarationSection .key)) FirstUp (rowsIn declarationSection cells)
-      (λ a b m n k. first-up (1 ∷ 2 ∷ 3 ∷ 4 ∷ []) a b k) (table-ascends cells t declarationSection (omega arith) refl)
+      (λ a b m n k. first-up (1 ∷ 2 ∷ 3 ∷ 4 ∷ []) a b k) (table-ascends cells t declarationSection (omega arith) tt)
 
   pub admitted-declarations : RowsAscend 0 (partOf declarationSection cells)
   admitted-declarations = section-up declarationSection declarations-up

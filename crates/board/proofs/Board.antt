@@ -1,21 +1,25 @@
 -- The block is the board, the order and the open places of the scope graph (specs/Promises).
 -- Assumes nothing.
-use Prim.Native.Nat.{ℕ, _%_, _^_, _≤_, _<_}
+use Prim.Native.Nat.{ℕ, zero, suc, _%_, _^_, _≤_, _<_}
 use mathlib.Core.Path.{_≡_, refl, sym, ap, _∙_, fun-ext}
-use mathlib.Core.Bool.{Bool, true, false, _&&_}
+use mathlib.Core.Bool.{Bool, true, false, _&&_, _||_}
 use mathlib.Core.Logic.{⊎-elim}
+use mathlib.Core.Option.{none}
 use mathlib.Core.List.{List, [], _∷_, map}
 use native.Mathlib.Omega.{arith}
 use lib.Dec.{eqb}
 use lib.ListN.{length, List·getD-map}
 use borrow.Author.Tests.{eqb-true}
 use Rattle.scope_graph.specs.Language.{_∈_, End, stop, by}
+use Rattle.scope_graph.specs.Turns.{Turned, sameTurned, labelEnd, laterStep}
 use Rattle.scope_graph.specs.Rows.{PackedName, Rules, language, anyOf, sameName, preferredBy, nextBy}
 use Rattle.scope_graph.specs.Order.{endOf}
-use Rattle.scope_graph.specs.Graph.{Query}
+use Rattle.scope_graph.specs.Graph.{Edge, Query}
 use Rattle.scope_graph.specs.Computed.{hopsAt, declaresAny, usable, openEnd}
 use Rattle.scope_graph.proofs.Lists.{not-true, and-left, anyOf-false, map-intro}
 use Rattle.scope_graph.proofs.Rows.{preferredBy-row}
+use Rattle.scope_graph.proofs.Turns.{step-above}
+use Rattle.scope_graph.proofs.Nodes.{hopsAt-elim}
 use Rattle.graph_file.specs.Admission.{Row, value, blank}
 use Rattle.graph_file.specs.Format.{labelSection, pairSection, transitionSection, acceptSection, edgeSection, declarationSection}
 use Rattle.graph_file.specs.Decode.{rowsIn, lettersOf, rulesOf, nameAt, edgeOf, declarationOf, graphOf}
@@ -32,7 +36,7 @@ use Rattle.board.specs.Tables.{accepted, letterOf}
 use Rattle.graph_table.specs.Values.{packed, rowDeclared, declares}
 use Rattle.board.specs.Marks.{DeclaringIs}
 use Rattle.board.specs.Made.{Made}
-use Rattle.board.specs.Promises.{Sound, LettersAre, ScopesAre, BoardIs, OrderIs, OpenIs, OpenPast}
+use Rattle.board.specs.Promises.{Sound, LettersAre, ScopesAre, BoardIs, HopsAre, OrderIs, OpenIs, OpenLast, OpenPast}
 use Rattle.graph_table.proofs.Tests.{below-or}
 use Rattle.board.proofs.SectionLaws.{rows-in-part, all-hops}
 use Rattle.board.proofs.Hops.{Fits, past-none, all-placed}
@@ -87,7 +91,7 @@ module _ (cells : List ℕ) (sound : Sound cells) where
   unfolding graphOf edgeOf
   edge-fits row m =
       let edge = map-intro (edgeOf rules) (rw (part edgeSection) at m) in
-      record { from = sound .edges-from _ edge; label = sound .edges-label _ edge; to = sound .edges-to _ edge }
+      record { from = sound .edges-from _ edge; label = sound .edges-label _ edge; to = sound .edges-to _ edge; turn = let here = sound .edges-turn _ edge (value row 3) refl in omega arith }
 
   edges-few : length (rowsOf (partOf edgeSection cells)) ≤ 512
   edges-few = rw (part edgeSection) (sound .edges-few)
@@ -130,9 +134,8 @@ module _ (cells : List ℕ) (sound : Sound cells) where
     unfolding rulesOf
     order-inside a c h k = pair-in block (endNumber a) (endNumber c) h k ∙ made .better (endNumber a) (endNumber c) h k ∙ rw (part pairSection, end-number a, end-number c)
 
-    order-eq : (a c : End ℕ) → tableOrder block a c ≡ preferredBy (rules .order) a c
-    unfolding tableOrder
-    order-eq a c =
+    labels-eq : (a c : End ℕ) → pairFlag block (endNumber a) (endNumber c) ≡ preferredBy (rules .order) a c
+    labels-eq a c =
         ⊎-elim
         (λ (h : endNumber a < 9). ⊎-elim (λ (k : endNumber c < 9). order-inside a c h k)
         (λ (k : 9 ≤ endNumber c). pair-no-second block _ _ k
@@ -141,6 +144,10 @@ module _ (cells : List ℕ) (sound : Sound cells) where
         (λ (h : 9 ≤ endNumber a). pair-no-first block _ _ h
         ∙ sym (not-true _ (λ e. let z = sound .order-less _ (preferredBy-row (rules .order) a c e) in omega arith)))
         (below-or (endNumber a) 9)
+
+    order-eq : (a c : End Turned) → tableOrder block a c ≡ language rules .prefers a c
+    unfolding tableOrder
+    order-eq a c = ap (λ (b : Bool). b || laterStep a c) (labels-eq (labelEnd a) (labelEnd c))
 
     open-eq : (query : Query (language rules)) (at end : ℕ) → at < 64 → end < 9 → (s q : ℕ) → placesOf (2 ^ at) (usableSet block end) s q
         ≡ (eqb s at && usable (language rules) q (openEnd (language rules) (graphOf cells) query (endOf end)))
@@ -155,16 +162,27 @@ pub board-is : BoardIs
 unfolding tableBoard boardOf
 board-is cells block sound made x goal is = λ i. record {
   hops = fun-ext (hops-eq cells sound block made) i;
-  next = fun-ext (λ q. fun-ext (λ l. next-eq cells sound block made q l)) i;
+  next = fun-ext (λ q. fun-ext (λ (t : Turned). next-eq cells sound block made q (t .label))) i;
   here = fun-ext (λ s. fun-ext (λ q. here-eq cells sound block made x goal is s q)) i;
-  same = eqb;
+  same = sameTurned;
 }
+
+pub hops-are : HopsAre
+hops-are cells block sound made s = hops-eq cells sound block made s
 
 pub order-is : OrderIs
 order-is cells block sound made = fun-ext (λ a. fun-ext (λ c. order-eq cells sound block made a c))
 
 pub open-is : OpenIs
 open-is cells block sound made query at end h k = fun-ext (λ s. fun-ext (λ q. open-eq cells sound block made query at end h k s q))
+
+pub open-last : OpenLast
+unfolding openEnd endOf laterStep
+open-last cells block sound made query zero s h m = refl
+open-last cells block sound made query (suc l) s h m =
+    let edge = hopsAt-elim (language (rulesOf cells)) (graphOf cells .edges) s (rw (hops-eq cells sound block made s) at m) in
+    let step : Edge (language (rulesOf cells)) → Turned = λ e. e .step in
+    not-true _ (step-above (map step (graphOf cells .edges)) (record { label = l; turn = none }) (h .step) (map-intro step edge))
 
 pub open-past : OpenPast
 open-past cells sound query st end h = usable-past (rulesOf cells) (sound .labels) (sound .listed) (graphOf cells) query st end h

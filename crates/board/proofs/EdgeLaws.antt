@@ -1,7 +1,8 @@
 -- The block with the hops of the scopes below s: how one scope more is put. Assumes nothing.
 use mathlib.Core.Path.{_≡_, refl, sym, ap, subst, _∙_}
-use mathlib.Core.Logic.{_⊎_, inl, inr}
+use mathlib.Core.Logic.{_⊎_, inl, inr, ⊎-elim}
 use mathlib.Core.Bool.{true, false}
+use mathlib.Core.Option.{some}
 use mathlib.Core.List.{List, [], _∷_, map}
 use Prim.Native.Nat.{ℕ, zero, suc, _+_, _-_, _*_, _/_, _%_, _≤_, _<_}
 use native.Mathlib.Omega.{arith}
@@ -11,21 +12,23 @@ use lib.Dec.{ltb}
 use lib.ListN.{length, getD, set, take, drop, length-set}
 use lib.Seq.{getD-set-same, getD-set-other}
 use Rattle.scope_graph.specs.Path.{HopOf}
+use Rattle.scope_graph.specs.Turns.{Turned}
 use Rattle.scope_graph.proofs.Lists.{Two}
 use Rattle.graph_table.specs.Rows.{hopAt, rowHops, nextRow}
 use Rattle.graph_table.specs.Promises.{NextRow}
 use Rattle.graph_table.proofs.Laws.{rows-earlier}
 use Rattle.graph_table.proofs.Promises.{next-is}
+use Rattle.graph_table.proofs.Tests.{below-or}
 use Rattle.block.specs.Layout.{FIRST, EDGE, SIZE}
-use Rattle.block.specs.Block.{firstEdge, edgeCell, hopOf, hopsFrom, hopsOn, blockHops}
+use Rattle.block.specs.Block.{firstEdge, edgeCell, turnOf, hopOf, hopsFrom, hopsOn, blockHops}
 use Rattle.block.proofs.BlockLaws.{blockHops-in}
 use Rattle.board.specs.Cells.{puts, Only}
-use Rattle.board.specs.Edges.{compact, narrow, cellsFor, below, placed, ScopePut, EdgesPut}
+use Rattle.board.specs.Edges.{turnNumber, compact, narrow, cellsFor, below, placed, ScopePut, EdgesPut}
 use Rattle.board.proofs.EdgeCells.{Left, left-all, left-more, left-cells, left-count, left-none, left-full}
 use Rattle.board.proofs.CellLaws.{puts-size, puts-before, puts-at, only-none, only-then, only-set, only-puts}
 
 -- the hops of a scope by its two cells
-unfoldable pub scopeHops : List ℕ → ℕ → List (HopOf ℕ)
+unfoldable pub scopeHops : List ℕ → ℕ → List (HopOf Turned)
 scopeHops block s = hopsOn block s (firstEdge block s)
 
 -- hops are read from edges alone
@@ -53,21 +56,27 @@ hops-are (x ∷ xs) block p h =
     rw (first, rest)
 
 -- a hop that went into a cell
-hop-back : (h : HopOf ℕ) → hopOf (compact h) ≡ narrow h
-unfolding hopOf compact narrow
-hop-back h =
-    let a : (h .step % 8 * 64 + h .to % 64) / 64 % 8 ≡ h .step % 8 = omega arith in
-    let b : (h .step % 8 * 64 + h .to % 64) % 64 ≡ h .to % 64 = omega arith in
-    rw (a, b)
+cell-back : (t l to : ℕ)
+    → hopOf (t % 128 * 512 + l % 8 * 64 + to % 64) ≡ record { step = record { label = l % 8; turn = some (t % 128) }; to = to % 64 }
+unfolding hopOf turnOf
+cell-back t l to =
+    let label : (t % 128 * 512 + l % 8 * 64 + to % 64) / 64 % 8 ≡ l % 8 = omega arith in
+    let turn : (t % 128 * 512 + l % 8 * 64 + to % 64) / 512 % 128 ≡ t % 128 = omega arith in
+    let scope : (t % 128 * 512 + l % 8 * 64 + to % 64) % 64 ≡ to % 64 = omega arith in
+    rw (label, turn, scope)
 
-taken-back : (n : ℕ) (hs : List (HopOf ℕ)) → map hopOf (take n (map compact hs)) ≡ take n (map narrow hs)
+hop-back : (h : HopOf Turned) → hopOf (compact h) ≡ narrow h
+unfolding compact narrow
+hop-back h = cell-back (turnNumber (h .step .turn)) (h .step .label) (h .to)
+
+taken-back : (n : ℕ) (hs : List (HopOf Turned)) → map hopOf (take n (map compact hs)) ≡ take n (map narrow hs)
 taken-back zero [] = refl
 taken-back zero (h ∷ hs) = refl
 taken-back (suc n) [] = refl
 taken-back (suc n) (h ∷ hs) = rw (hop-back h, taken-back n hs)
 
 -- how many there is room for
-room-left : (n : ℕ) (hs : List (HopOf ℕ)) → (length (take n (map compact hs)) ≤ n) × (n - length (take n (map compact hs)) ≡ n - length hs)
+room-left : (n : ℕ) (hs : List (HopOf Turned)) → (length (take n (map compact hs)) ≤ n) × (n - length (take n (map compact hs)) ≡ n - length hs)
 room-left zero [] = (omega arith, omega arith)
 room-left zero (h ∷ hs) = (omega arith, omega arith)
 room-left (suc n) [] = (omega arith, omega arith)
@@ -89,6 +98,10 @@ upto-none rows block h = record {
   here = getD-set-same block FIRST 0 0 h;
   each = λ u k. absurd (omega arith);
 }
+
+-- no cell of the first k edges is above `top`
+abbrev pub Most : List ℕ → ℕ → ℕ → Type 0
+Most block k top = (j : ℕ) → j < k → getD block (EDGE + j) 0 ≤ top
 
 -- one scope more
 module _ (rows old block : List ℕ) (s k : ℕ) (so : Upto rows old block s k) (few : s < 64) (size : length old ≡ SIZE) where
@@ -186,14 +199,39 @@ module _ (rows old block : List ℕ) (s k : ℕ) (so : Upto rows old block s k) 
   unfolding cells filled next
   upto-more new k′ a b = rw (a, b, add-one s) upto-next
 
+  -- neither a cell of the scopes below nor a cell put is above the number given
+  pub most-more : (new : List ℕ) (k′ top top′ : ℕ) → new ≡ puts block (EDGE + k) (cellsFor k (rowHops rows s)) → Most block k top → top ≤ top′
+      → ((j : ℕ) → k ≤ j → j < k′ → getD new (EDGE + j) 0 ≤ top′) → Most (set new (FIRST + (s + 1)) k′) k′ top′
+  most-more new k′ top top′ a low more own j h =
+      let other : EDGE + j ≡ FIRST + (s + 1) → ⊥ = λ e. omega arith in
+      let kept = getD-set-other new (FIRST + (s + 1)) (EDGE + j) k′ 0 other in
+      ⊎-elim
+      (λ (m : j < k).
+      let was = ap (λ (x : List ℕ). getD x (EDGE + j) 0) a ∙ puts-before (cellsFor k (rowHops rows s)) block (EDGE + k) (EDGE + j) (omega arith) in
+      let less = low j m in
+      omega arith)
+      (λ (m : k ≤ j). let less = own j m h in omega arith)
+      (below-or j k)
+
 pub upto-size : {rows new : List ℕ} {s k : ℕ} (block : List ℕ) → Upto rows (set block FIRST 0) new s k → length new ≡ length block
 upto-size block so = so .only .size ∙ length-set block FIRST 0
 
-pub upto-all : (rows block new : List ℕ) (s k : ℕ) → Upto rows (set block FIRST 0) new s k → 64 ≤ s → EdgesPut rows block new
-unfolding scopeHops
-upto-all rows block new s k so h = record {
+-- a cell's turn, where none of the cells is above `top`
+turn-below : (x top : ℕ) → x ≤ top → turnOf x ≤ top / 512
+unfolding turnOf
+turn-below x top h = omega arith
+
+pub upto-all : (rows block new : List ℕ) (s k top : ℕ) → Upto rows (set block FIRST 0) new s k → Most new k top → 64 ≤ s
+    → EdgesPut rows block new (top / 512)
+unfolding scopeHops edgeCell
+upto-all rows block new s k top so most h = record {
   only = only-then FIRST 577 block (set block FIRST 0) new (only-set FIRST 577 block FIRST 0 (omega arith) (omega arith)) (so .only);
   hops = λ u m. blockHops-in new u m ∙ so .each u (omega arith) .1;
+  turns = λ u p m i.
+      let end = so .each u (omega arith) .0 in
+      let all = so .top in
+      let here : p % 512 ≡ p = omega arith in
+      turn-below (getD new (EDGE + p % 512) 0) top (rw here (most p (omega arith)));
 }
 
 -- rows of scopes before s, and those of s, are none of a later scope's
@@ -215,43 +253,66 @@ module _ (rows : List ℕ) (s u : ℕ) (later : s < u) where
       earlier k p (omega arith) few ∙ ap (λ n. rowHops (drop n rows) u) (sym is) ∙ rows-earlier rows u r whole (omega arith)
 
 -- one scope's rows, as they are put: what is left of them, and the rows of later scopes
-pub record Scoping (rows : List ℕ) (s p n : ℕ) (old block : List ℕ) (k at : ℕ) : Type 0 where
+pub record Scoping (rows : List ℕ) (s p n top : ℕ) (old block : List ℕ) (k at most : ℕ) : Type 0 where
   pub left : Left old n (rowHops (drop p rows) s) block k (rowHops (drop at rows) s)
   pub on : (u : ℕ) → s < u → rowHops (drop p rows) u ≡ rowHops (drop at rows) u
+  pub more : top ≤ most
+  pub cells : (j : ℕ) → n ≤ j → j < k → getD block (EDGE + j) 0 ≤ most
 
-pub scoping-none : (rows : List ℕ) (s p n : ℕ) (old : List ℕ) → Scoping rows s p n old old n p
-scoping-none rows s p n old = record { left = left-all old n (rowHops (drop p rows) s); on = λ u h. refl }
+pub scoping-none : (rows : List ℕ) (s p n top : ℕ) (old : List ℕ) → Scoping rows s p n top old old n p top
+scoping-none rows s p n top old = record {
+  left = left-all old n (rowHops (drop p rows) s);
+  on = λ u h. refl;
+  more = omega arith;
+  cells = λ j h m. absurd (omega arith);
+}
 
-module _ (rows : List ℕ) (s p n : ℕ) (old block : List ℕ) (k at : ℕ) (so : Scoping rows s p n old block k at) where
-  abbrev all : List (HopOf ℕ)
+module _ (rows : List ℕ) (s p n top : ℕ) (old block : List ℕ) (k at most : ℕ) (so : Scoping rows s p n top old block k at most) where
+  abbrev all : List (HopOf Turned)
   all = rowHops (drop p rows) s
 
-  abbrev rest : List (HopOf ℕ)
+  abbrev rest : List (HopOf Turned)
   rest = rowHops (drop at rows) s
 
-  pub scoping-found : (r v : ℕ) → r ≡ nextRow rows s at → r < length rows → k < 512 → v ≡ compact (hopAt rows r)
-      → Scoping rows s p n old (set block (EDGE + k) v) (k + 1) (r + 6)
-  scoping-found r v e h room is =
+  pub scoping-found : (r v higher : ℕ) → r ≡ nextRow rows s at → r < length rows → k < 512 → EDGE + k < length block
+      → v ≡ compact (hopAt rows r) → most ≤ higher → v ≤ higher
+      → Scoping rows s p n top old (set block (EDGE + k) v) (k + 1) (r + 6) higher
+  scoping-found r v higher e h room inside is old-most new-most =
       let row : NextRow rows s at r = rw e (next-is rows s at) in
       record {
         left = rw is (left-more old n all block k rest (so .left) (hopAt rows r) (rowHops (drop (r + 6) rows) s) room (row .hops h));
         on = λ u later. so .on u later ∙ found-on rows s u later at r row h;
+        more = let more = so .more in omega arith;
+        cells = λ j i m.
+            ⊎-elim
+            (λ (z : j < k).
+            let other : EDGE + j ≡ EDGE + k → ⊥ = λ w. omega arith in
+            let kept = getD-set-other block (EDGE + k) (EDGE + j) v 0 other in
+            let less = so .cells j i z in
+            omega arith)
+            (λ (z : k ≤ j).
+            let same : j ≡ k = omega arith in
+            let put = getD-set-same block (EDGE + k) v 0 inside in
+            rw same (omega arith))
+            (below-or j k);
       }
 
   pub row-whole : (r : ℕ) → r ≡ nextRow rows s at → r < length rows → r + 6 ≤ length rows
   row-whole r e h = let row : NextRow rows s at r = rw e (next-is rows s at) in row .whole h
 
-  put-all : cellsFor k rest ≡ [] → ScopePut rows s p n old block (record { edges = k; place = at })
+  put-all : cellsFor k rest ≡ [] → ScopePut rows s p n top old block (record { edges = k; place = at; top = most })
   put-all e = record {
     cells = left-cells old n all block k rest (so .left) e;
     count = left-count old n all block k rest (so .left) e;
     on = so .on;
+    more = so .more;
+    most = so .cells;
   }
 
-  pub scoping-missed : (r : ℕ) → r ≡ nextRow rows s at → length rows ≤ r → ScopePut rows s p n old block (record { edges = k; place = at })
+  pub scoping-missed : (r : ℕ) → r ≡ nextRow rows s at → length rows ≤ r → ScopePut rows s p n top old block (record { edges = k; place = at; top = most })
   scoping-missed r e h =
       let row : NextRow rows s at r = rw e (next-is rows s at) in
       put-all (left-none old n all block k rest (so .left) (row .none h))
 
-  pub scoping-full : 512 ≤ k → ScopePut rows s p n old block (record { edges = k; place = at })
+  pub scoping-full : 512 ≤ k → ScopePut rows s p n top old block (record { edges = k; place = at; top = most })
   scoping-full h = put-all (left-full old n all block k rest (so .left) h)

@@ -12,12 +12,12 @@ use Rattle.graph_file.specs.Format.{labelSection, transitionSection, acceptSect
 use Rattle.graph_file.specs.Admission.{Row, value, blank}
 use Rattle.graph_file.specs.Decode.{transitionOf}
 use Rattle.block.specs.Sets.{hasBit, hasState}
-use Rattle.block.specs.Layout.{DELTA, BETTER, ACCEPT, SCOPES, USABLE, LETTER, START, FIRST, EDGE, DECL, STATES, HINT, SIZE, IsBlock}
-use Rattle.block.specs.Block.{nextCell, statesCell, acceptSet, usableSet, letterCell, scopesCell, firstEdge, edgeCell, blockHops, firstDeclaration}
+use Rattle.block.specs.Layout.{DELTA, BETTER, ACCEPT, SCOPES, USABLE, LETTER, START, FIRST, EDGE, DECL, STATES, TURN, HINT, SIZE, IsBlock}
+use Rattle.block.specs.Block.{nextCell, statesCell, turnCell, turnOf, acceptSet, usableSet, letterCell, scopesCell, firstEdge, edgeCell, blockHops, firstDeclaration}
 use Rattle.block.proofs.BlockLaws.{getD-any, next-in, next-no-state, next-no-label, blockHops-in}
 use Rattle.graph_table.specs.Sections.{startOf, startCell, partOf}
 use Rattle.board.specs.Tables.{tabulate, stateCell, transitionCell, transitionCells, accepted, letterOf, BetterIs, hopefulSet, usableStates}
-use Rattle.board.specs.Cells.{puts, Only, HintsOnly}
+use Rattle.board.specs.Cells.{puts, HintsOnly}
 use Rattle.board.specs.Edges.{placed, EdgesPut}
 use Rattle.board.specs.Marks.{declaredCell}
 use Rattle.board.specs.Made.{sectionRows, deltaOf, Starts, RulesPut, GraphPut, Made}
@@ -177,35 +177,50 @@ hops-same old new same s h =
     ∙ scope-kept old new s (same (FIRST + s) (omega arith)) (same (FIRST + suc s) (omega arith)) (λ j k. same (EDGE + j % 512) (omega arith))
     ∙ sym (blockHops-in old s h)
 
+-- and so is what bounds their turns
+turns-same : (old new : List ℕ) (turn : ℕ) → ((j : ℕ) → j < DECL → getD new j 0 ≡ getD old j 0)
+    → ((s p : ℕ) → s < 64 → p < firstEdge old (suc s) → turnOf (edgeCell old p) ≤ turn)
+    → (s p : ℕ) → s < 64 → p < firstEdge new (suc s) → turnOf (edgeCell new p) ≤ turn
+unfolding firstEdge edgeCell
+turns-same old new turn same most s p h k =
+    rw (same (EDGE + p % 512) (omega arith)) (most s p h (rw (same (FIRST + suc s) (omega arith)) at k))
+
 -- the graph's tables
-pub graph-put : (cells old c1 c2 at declared : List ℕ) → length old ≡ SIZE → Starts cells at → c1 ≡ puts old START at
-    → EdgesPut (partOf edgeSection cells) c1 c2
+pub graph-put : (cells old c1 c2 at declared : List ℕ) (turn : ℕ) → length old ≡ SIZE → Starts cells at → c1 ≡ puts old START at
+    → EdgesPut (partOf edgeSection cells) c1 c2 turn
     → declared ≡ tabulate (declaredCell (startOf declarationSection cells) (partOf declarationSection cells)) 65
-    → GraphPut cells old (puts c2 DECL declared)
-graph-put cells old c1 c2 at declared size at-is e1 edges declared-are =
+    → GraphPut cells old (set (puts c2 DECL declared) TURN turn)
+unfolding turnCell
+graph-put cells old c1 c2 at declared turn size at-is e1 edges declared-are =
     let at-size : length at ≡ 10 = at-is .size in
     let declared-size : length declared ≡ 65 =
     ap length declared-are ∙ tabulate-length (declaredCell (startOf declarationSection cells) (partOf declarationSection cells)) 65 in
     let z1 : length c1 ≡ SIZE = ap length e1 ∙ puts-size at old START ∙ size in
     let z2 : length c2 ≡ SIZE = edges .only .size ∙ z1 in
+    let c3 : List ℕ = puts c2 DECL declared in
+    let z3 : length c3 ≡ SIZE = puts-size declared c2 DECL ∙ z2 in
+    let last : (j : ℕ) → j < TURN → getD (set c3 TURN turn) j 0 ≡ getD c3 j 0 = λ j h. getD-set-other c3 TURN j turn 0 (λ e. omega arith) in
+    let front : (j : ℕ) → j < DECL → getD (set c3 TURN turn) j 0 ≡ getD c2 j 0 = λ j h. last j (omega arith) ∙ puts-before declared c2 DECL j h in
     record {
-      only = record {
-        size = puts-size declared c2 DECL ∙ z2 ∙ sym size;
-        before = λ j h.
-            puts-before declared c2 DECL j (omega arith) ∙ edges .only .before j (omega arith)
-            ∙ ap (λ (x : List ℕ). getD x j 0) e1 ∙ puts-before at old START j h;
-        behind = λ j h.
-            puts-behind declared c2 DECL j (omega arith) ∙ edges .only .behind j (omega arith)
-            ∙ ap (λ (x : List ℕ). getD x j 0) e1 ∙ puts-behind at old START j (omega arith);
-      };
+      size = length-set c3 TURN turn ∙ z3 ∙ sym size;
+      rules = λ j h.
+          front j (omega arith) ∙ edges .only .before j (omega arith)
+          ∙ ap (λ (x : List ℕ). getD x j 0) e1 ∙ puts-before at old START j h;
+      states =
+          last STATES (omega arith) ∙ puts-behind declared c2 DECL STATES (omega arith) ∙ edges .only .behind STATES (omega arith)
+          ∙ ap (λ (x : List ℕ). getD x STATES 0) e1 ∙ puts-behind at old START STATES (omega arith);
       starts = λ k h.
-          puts-before declared c2 DECL (START + k) (omega arith) ∙ edges .only .before (START + k) (omega arith)
+          front (START + k) (omega arith) ∙ edges .only .before (START + k) (omega arith)
           ∙ ap (λ (x : List ℕ). getD x (START + k) 0) e1 ∙ puts-at at old START k (omega arith) (omega arith)
           ∙ at-is .places k h;
-      edges = λ s h. hops-same c2 (puts c2 DECL declared) (λ j k. puts-before declared c2 DECL j k) s h ∙ edges .hops s h;
+      edges = λ s h. hops-same c2 (set c3 TURN turn) front s h ∙ edges .hops s h;
       declared = λ s h.
-          puts-at declared c2 DECL s (omega arith) (omega arith) ∙ ap (λ (x : List ℕ). getD x s 0) declared-are
+          last (DECL + s) (omega arith) ∙ puts-at declared c2 DECL s (omega arith) (omega arith) ∙ ap (λ (x : List ℕ). getD x s 0) declared-are
           ∙ tabulate-at (declaredCell (startOf declarationSection cells) (partOf declarationSection cells)) 65 s 0 h;
+      turns = λ s p h k.
+          let bound = getD-set-same c3 TURN turn 0 (omega arith) in
+          let most = turns-same c2 (set c3 TURN turn) turn front (edges .turns) s p h k in
+          omega arith;
     }
 
 -- the table of the places is that
@@ -219,13 +234,13 @@ starts-are cells at e = record {
 -- all of it, read through the graph's tables and the hints
 module _ (cells a b d : List ℕ) (rules : RulesPut cells a) (graph : GraphPut cells a b) (hints : HintsOnly b d) where
   whole : length d ≡ SIZE
-  whole = hints .size ∙ graph .only .size ∙ rules .size
+  whole = hints .size ∙ graph .size ∙ rules .size
 
   kept : (j : ℕ) → j < START → getD d j 0 ≡ getD a j 0
-  kept j h = hints .before j (omega arith) ∙ graph .only .before j h
+  kept j h = hints .before j (omega arith) ∙ graph .rules j h
 
   states-kept : getD d STATES 0 ≡ getD a STATES 0
-  states-kept = hints .before STATES (omega arith) ∙ graph .only .behind STATES (omega arith)
+  states-kept = hints .before STATES (omega arith) ∙ graph .states
 
   rows-delta : (q l : ℕ) → q < 16 → l < 8 → nextCell (deltaOf cells) q l ≡ stateCell (nextBy (map transitionOf (sectionRows cells transitionSection)) q l)
   unfolding transitionCells transitionCell
@@ -256,7 +271,7 @@ module _ (cells a b d : List ℕ) (rules : RulesPut cells a) (graph : GraphPut c
   delta-are = fun-ext (λ q. fun-ext (λ l. delta-same q l))
 
   pub made : Made cells d
-  unfolding acceptSet usableSet letterCell scopesCell statesCell firstDeclaration startCell
+  unfolding acceptSet usableSet letterCell scopesCell statesCell turnCell firstDeclaration startCell
   made = record {
     size = whole;
     delta = λ q l h k. delta-cell q l h k ∙ rows-delta q l h k;
@@ -271,5 +286,11 @@ module _ (cells a b d : List ℕ) (rules : RulesPut cells a) (graph : GraphPut c
     starts = λ k h. hints .before (START + k) (omega arith) ∙ graph .starts k h;
     edges = λ s h. hops-same b d (λ j k. hints .before j (omega arith)) s h ∙ graph .edges s h;
     declared = λ s h. hints .before (DECL + s) (omega arith) ∙ graph .declared s h;
-    still = λ q l h. let e = states-kept in let z = delta-same q l in let y = rules .still q l (omega arith) in omega arith;
+    bounds = record {
+      states = λ q l h. let e = states-kept in let z = delta-same q l in let y = rules .still q l (omega arith) in omega arith;
+      turns = λ s p h k.
+          let bound = hints .before TURN (omega arith) in
+          let most = turns-same b d (getD b TURN 0) (λ j i. hints .before j (omega arith)) (graph .turns) s p h k in
+          omega arith;
+    };
   }

@@ -9,12 +9,13 @@ use lib.ListN.{length, take}
 use lib.Seq.{take-all}
 use Rattle.scope_graph.specs.Language.{_∈_}
 use Rattle.scope_graph.specs.Path.{HopOf}
+use Rattle.scope_graph.specs.Turns.{Turned}
 use Rattle.scope_graph.proofs.Lists.{here, there}
 use Rattle.graph_file.specs.Admission.{Row, value}
 use Rattle.graph_table.specs.Rows.{hopTo, byScope, rowHops}
 use Rattle.graph_table.proofs.Laws.{by-later, by-own, by-earlier, rows-none, compare}
 use Rattle.graph_table.specs.Sections.{rowsOf}
-use Rattle.board.specs.Edges.{narrow, below, placed}
+use Rattle.board.specs.Edges.{turnNumber, narrow, below, placed}
 use Rattle.graph_table.proofs.Tests.{below-or}
 
 -- rows that a cell of the block holds
@@ -22,20 +23,25 @@ pub record Fits (row : Row) : Type 0 where
   pub from : value row 0 < 64
   pub label : value row 1 < 8
   pub to : value row 2 < 64
+  pub turn : value row 3 < 128
 
 -- a hop in range is itself in its cell
-narrow-same : (label to : ℕ) → label < 8 → to < 64 → narrow (hopTo label to) ≡ hopTo label to
-unfolding narrow
-narrow-same label to h k = let x : label % 8 ≡ label = omega arith in let y : to % 64 ≡ to = omega arith in rw (x, y)
+narrow-same : (label turn to : ℕ) → label < 8 → turn < 128 → to < 64 → narrow (hopTo label turn to) ≡ hopTo label turn to
+unfolding narrow turnNumber
+narrow-same label turn to h i k =
+    let x : label % 8 ≡ label = omega arith in
+    let y : turn % 128 ≡ turn = omega arith in
+    let z : to % 64 ≡ to = omega arith in
+    rw (x, y, z)
 
-narrow-row : (s from label to : ℕ) (rest : List (HopOf ℕ)) → label < 8 → to < 64 → map narrow rest ≡ rest
-    → map narrow (byScope s from [] (hopTo label to ∷ rest) rest) ≡ byScope s from [] (hopTo label to ∷ rest) rest
-narrow-row s from label to rest h k so = at (compare s from)
+narrow-row : (s from label turn to : ℕ) (rest : List (HopOf Turned)) → label < 8 → turn < 128 → to < 64 → map narrow rest ≡ rest
+    → map narrow (byScope s from [] (hopTo label turn to ∷ rest) rest) ≡ byScope s from [] (hopTo label turn to ∷ rest) rest
+narrow-row s from label turn to rest h i k so = at (compare s from)
   where
-    at : (s < from) ⊎ ((from ≡ s) ⊎ (from < s)) → map narrow (byScope s from [] (hopTo label to ∷ rest) rest) ≡ byScope s from [] (hopTo label to ∷ rest) rest
-    at (inl x) = rw (by-later s from [] (hopTo label to ∷ rest) rest x)
-    at (inr (inl x)) = rw (by-own s from [] (hopTo label to ∷ rest) rest x, narrow-same label to h k, so)
-    at (inr (inr x)) = rw (by-earlier s from [] (hopTo label to ∷ rest) rest x) so
+    at : (s < from) ⊎ ((from ≡ s) ⊎ (from < s)) → map narrow (byScope s from [] (hopTo label turn to ∷ rest) rest) ≡ byScope s from [] (hopTo label turn to ∷ rest) rest
+    at (inl x) = rw (by-later s from [] (hopTo label turn to ∷ rest) rest x)
+    at (inr (inl x)) = rw (by-own s from [] (hopTo label turn to ∷ rest) rest x, narrow-same label turn to h i k, so)
+    at (inr (inr x)) = rw (by-earlier s from [] (hopTo label turn to ∷ rest) rest x) so
 
 pub fitting-same : (s : ℕ) (l : List ℕ) → ((row : Row) → row ∈ rowsOf l → Fits row) → map narrow (rowHops l s) ≡ rowHops l s
 unfolding rowHops rowsOf
@@ -47,7 +53,7 @@ fitting-same s (a ∷ b ∷ c ∷ d ∷ []) fit = refl
 fitting-same s (a ∷ b ∷ c ∷ d ∷ e ∷ []) fit = refl
 fitting-same s (a ∷ b ∷ c ∷ d ∷ e ∷ f ∷ l) fit =
     let row = fit (b ∷ c ∷ d ∷ e ∷ f ∷ []) here in
-    narrow-row s b c d (rowHops l s) (row .label) (row .to) (fitting-same s l (λ r m. fit r (there m)))
+    narrow-row s b c e d (rowHops l s) (row .label) (row .turn) (row .to) (fitting-same s l (λ r m. fit r (there m)))
 
 -- no row leaves a scope past the last
 pub past-none : (s : ℕ) → 64 ≤ s → (l : List ℕ) → ((row : Row) → row ∈ rowsOf l → Fits row) → rowHops l s ≡ []
@@ -61,15 +67,15 @@ past-none s h (a ∷ b ∷ c ∷ d ∷ e ∷ []) fit = refl
 past-none s h (a ∷ b ∷ c ∷ d ∷ e ∷ f ∷ l) fit =
     let low = fit (b ∷ c ∷ d ∷ e ∷ f ∷ []) here .from in
     let less : b < s = omega arith in
-    by-earlier s b [] (hopTo c d ∷ rowHops l s) (rowHops l s) less ∙ past-none s h l (λ r m. fit r (there m))
+    by-earlier s b [] (hopTo c e d ∷ rowHops l s) (rowHops l s) less ∙ past-none s h l (λ r m. fit r (there m))
 
 -- each row is found for at most one scope
-module _ (a from label to x y : ℕ) (cells : List ℕ) where
+module _ (a from label to turn x : ℕ) (cells : List ℕ) where
   abbrev with-row : List ℕ
-  with-row = a ∷ from ∷ label ∷ to ∷ x ∷ y ∷ cells
+  with-row = a ∷ from ∷ label ∷ to ∷ turn ∷ x ∷ cells
 
-  abbrev found : ℕ → List (HopOf ℕ)
-  found n = byScope n from [] (hopTo label to ∷ rowHops cells n) (rowHops cells n)
+  abbrev found : ℕ → List (HopOf Turned)
+  found n = byScope n from [] (hopTo label turn to ∷ rowHops cells n) (rowHops cells n)
 
   abbrev BelowRow : ℕ → Type 0
   BelowRow n = (from < n → below with-row n ≤ below cells n + 1) × (n ≤ from → below with-row n ≤ below cells n)
@@ -82,15 +88,15 @@ module _ (a from label to x y : ℕ) (cells : List ℕ) where
       step : BelowRow n → (n < from) ⊎ ((from ≡ n) ⊎ (from < n)) → BelowRow (suc n)
       step so (inl later) =
           let none = so .1 (omega arith) in
-          let is = ap length (by-later n from [] (hopTo label to ∷ rowHops cells n) (rowHops cells n) later) in
+          let is = ap length (by-later n from [] (hopTo label turn to ∷ rowHops cells n) (rowHops cells n) later) in
           (λ h. absurd (omega arith), λ h. omega arith)
       step so (inr (inl own)) =
           let none = so .1 (omega arith) in
-          let is = ap length (by-own n from [] (hopTo label to ∷ rowHops cells n) (rowHops cells n) own) in
+          let is = ap length (by-own n from [] (hopTo label turn to ∷ rowHops cells n) (rowHops cells n) own) in
           (λ h. omega arith, λ h. absurd (omega arith))
       step so (inr (inr earlier)) =
           let one = so .0 earlier in
-          let is = ap length (by-earlier n from [] (hopTo label to ∷ rowHops cells n) (rowHops cells n) earlier) in
+          let is = ap length (by-earlier n from [] (hopTo label turn to ∷ rowHops cells n) (rowHops cells n) earlier) in
           (λ h. omega arith, λ h. absurd (omega arith))
 
 below-short : (l : List ℕ) → length l < 6 → (n : ℕ) → below l n ≡ 0

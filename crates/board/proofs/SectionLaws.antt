@@ -12,6 +12,7 @@ use lib.ListN.{take, drop}
 use lib.Seq.{drop-drop, take-add}
 use borrow.Author.Tests.{eq-eqb, ne-eqb}
 use Rattle.scope_graph.specs.Path.{HopOf}
+use Rattle.scope_graph.specs.Turns.{Turned}
 use Rattle.scope_graph.specs.Rows.{Rules, language}
 use Rattle.scope_graph.specs.Computed.{keep, hopsAt}
 use Rattle.graph_file.specs.Admission.{Row}
@@ -122,4 +123,4 @@ all-hops r (o ∷ a ∷ []) s = refl
 all-hops r (o ∷ a ∷ b ∷ []) s = refl
 all-hops r (o ∷ a ∷ b ∷ c ∷ []) s = refl
 all-hops r (o ∷ a ∷ b ∷ c ∷ d ∷ []) s = refl
-all-hops r (o ∷ a ∷ b ∷ c ∷ d ∷ e ∷ l) s = ap (λ (z : List (HopOf ℕ)). ifOwn s a (hopTo b c ∷ z) z) (all-hops r l s) ∙ sym (kept-hops _ (eqb a s) (edgeOf r (a ∷ b ∷ c ∷ d ∷ e ∷ [])) _)
+all-hops r (o ∷ a ∷ b ∷ c ∷ d ∷ e ∷ l) s = ap (λ (z : List (HopOf Turned)). ifOwn s a (hopTo b d c ∷ z) z) (all-hops r l s) ∙ sym (kept-hops _ (eqb a s) (edgeOf r (a ∷ b ∷ c ∷ d ∷ e ∷ [])) _)

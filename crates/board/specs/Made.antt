@@ -1,7 +1,7 @@
 -- What filling the board's block leaves in it, for any graph table: first what the rules' sections
 -- give and what the graph's give, by cells, then all of it as it is read. Assumes nothing: these
 -- are definitions.
-use Prim.Native.Nat.{ℕ, _+_, _≤_, _<_}
+use Prim.Native.Nat.{ℕ, suc, _+_, _≤_, _<_}
 use mathlib.Core.Path.{_≡_}
 use mathlib.Core.List.{List, map}
 use lib.ListN.{length, getD}
@@ -12,10 +12,9 @@ use Rattle.graph_file.specs.Admission.{Row, value, blank}
 use Rattle.graph_file.specs.Decode.{orderPairOf, transitionOf}
 use Rattle.block.specs.Sets.{hasBit, hasState}
 use Rattle.block.specs.Layout.{DELTA, BETTER, ACCEPT, SCOPES, USABLE, LETTER, START, DECL, STATES, IsBlock}
-use Rattle.block.specs.Block.{nextCell, acceptSet, usableSet, letterCell, scopesCell, Still, blockHops, firstDeclaration}
+use Rattle.block.specs.Block.{nextCell, acceptSet, usableSet, letterCell, scopesCell, Bounds, turnCell, turnOf, firstEdge, edgeCell, blockHops, firstDeclaration}
 use Rattle.graph_table.specs.Sections.{startOf, partOf, rowsOf}
 use Rattle.board.specs.Tables.{stateCell, transitionCell, transitionCells, accepted, letterOf, hopefulSet, usableStates}
-use Rattle.board.specs.Cells.{Only}
 use Rattle.board.specs.Edges.{placed}
 use Rattle.board.specs.Marks.{declaredCell}
 
@@ -47,11 +46,14 @@ pub record RulesPut (cells block : List ℕ) : Type 0 where
 
 -- the rules' cells stay as they were: those before START, and STATES
 pub record GraphPut (cells old block : List ℕ) : Type 0 where
-  pub only : Only START 652 old block
+  pub size : length block ≡ length old
+  pub rules : (j : ℕ) → j < START → getD block j 0 ≡ getD old j 0
+  pub states : getD block STATES 0 ≡ getD old STATES 0
   pub starts : (k : ℕ) → k < 10 → getD block (START + k) 0 ≡ startOf k cells
   pub edges : (s : ℕ) → s < 64 → blockHops block s ≡ placed (partOf edgeSection cells) s
   pub declared : (s : ℕ) → s < 65
       → getD block (DECL + s) 0 ≡ declaredCell (startOf declarationSection cells) (partOf declarationSection cells) s
+  pub turns : (s p : ℕ) → s < 64 → p < firstEdge block (suc s) → turnOf (edgeCell block p) ≤ turnCell block
 
 -- all that is promised of the block
 pub record Made (cells block : List ℕ) : Type 0 where
@@ -69,4 +71,4 @@ pub record Made (cells block : List ℕ) : Type 0 where
   pub edges : (s : ℕ) → s < 64 → blockHops block s ≡ placed (partOf edgeSection cells) s
   pub declared : (s : ℕ) → s < 65
       → firstDeclaration block s ≡ declaredCell (startOf declarationSection cells) (partOf declarationSection cells) s
-  pub still : Still block
+  pub bounds : Bounds block

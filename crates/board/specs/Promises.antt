@@ -4,22 +4,25 @@
 use Prim.Native.Nat.{ℕ, _%_, _^_, _≤_, _<_}
 use mathlib.Core.Path.{_≡_}
 use mathlib.Core.Bool.{false, _&&_}
+use mathlib.Core.Option.{some}
 use mathlib.Core.List.{List}
 use lib.Dec.{eqb}
 use lib.ListN.{length, getD, drop}
-use Rattle.scope_graph.specs.Language.{_∈_}
+use Rattle.scope_graph.specs.Language.{_∈_, by}
+use Rattle.scope_graph.specs.Path.{HopOf}
+use Rattle.scope_graph.specs.Turns.{Turned, laterStep}
 use Rattle.scope_graph.specs.Rows.{OrderPair, Transition, PackedName, language}
 use Rattle.scope_graph.specs.Order.{endOf}
 use Rattle.scope_graph.specs.Graph.{Edge, Declaration, Query}
-use Rattle.scope_graph.specs.Computed.{usable, openEnd}
-use Rattle.graph_file.specs.Format.{countSection, edgeSection, declarationSection}
+use Rattle.scope_graph.specs.Computed.{hopsAt, usable, openEnd}
+use Rattle.graph_file.specs.Format.{turnCount, countSection, edgeSection, declarationSection}
 use Rattle.graph_file.specs.Admission.{value, blank}
 use Rattle.text_field.specs.Outcome.{done}
 use Rattle.graph_file.specs.File.{readCells, writeText}
 use Rattle.graph_file.specs.Decode.{rowsIn, lettersOf, rulesOf, graphOf}
 use Rattle.graph_table.specs.Rows.{rowHops, allHops, RowsAscend}
 use Rattle.block.specs.Sets.{placesOf}
-use Rattle.block.specs.Block.{letterCell, scopesCell, usableSet, declaredPart}
+use Rattle.block.specs.Block.{letterCell, scopesCell, usableSet, blockHops, declaredPart}
 use Rattle.search.specs.Board.{boardOf}
 use Rattle.search.specs.Tables.{endNumber, tableBoard, tableOrder}
 use Rattle.graph_table.specs.Sections.{SectionsAscend, partOf, rowsOf}
@@ -27,14 +30,16 @@ use Rattle.board.specs.Marks.{marksIn, DeclaringIs}
 use Rattle.board.specs.Made.{Made}
 
 -- what an accepted table gives: the sections, and in theirs the edges and the declarations by
--- scope, stand in sequence, and values are in their ranges (01, refusals 2 to 5)
+-- scope, stand in sequence, and values are in their ranges (01, refusals 2 to 5; the turn, 02, K12)
 pub record Sound (cells : List ℕ) : Type 0 where
   pub ascend : SectionsAscend 0 (drop 1 cells)
   pub edges-ascend : RowsAscend 0 (partOf edgeSection cells)
   pub declarations-ascend : RowsAscend 0 (partOf declarationSection cells)
   pub edges-few : length (rowsIn edgeSection cells) ≤ 512
   pub edges-from : (e : Edge (language (rulesOf cells))) → e ∈ graphOf cells .edges → e .from < 64
-  pub edges-label : (e : Edge (language (rulesOf cells))) → e ∈ graphOf cells .edges → e .step < 8
+  pub edges-label : (e : Edge (language (rulesOf cells))) → e ∈ graphOf cells .edges → e .step .label < 8
+  pub edges-turn : (e : Edge (language (rulesOf cells))) → e ∈ graphOf cells .edges
+      → (n : ℕ) → e .step .turn ≡ some n → n < turnCount
   pub edges-to : (e : Edge (language (rulesOf cells))) → e ∈ graphOf cells .edges → e .to < 64
   pub labels : rulesOf cells .labels ≤ 8
   pub states : (t : Transition) → t ∈ rulesOf cells .transitions → t .state < 16
@@ -66,7 +71,12 @@ BoardIs = (cells block : List ℕ) → Sound cells → Made cells block → (x :
     → DeclaringIs (partOf declarationSection cells) x goal
     → tableBoard block goal ≡ boardOf (language (rulesOf cells)) (graphOf cells) x
 
--- the order is that of the order pairs
+-- of which the hops alone: those of the edges that leave the scope, in row sequence
+abbrev pub HopsAre : Type 0
+HopsAre = (cells block : List ℕ) → Sound cells → Made cells block → (s : ℕ)
+    → blockHops block s ≡ hopsAt (language (rulesOf cells)) (graphOf cells .edges) s
+
+-- the order is that of the order pairs, and at one label that of the turns (02, K12)
 abbrev pub OrderIs : Type 0
 OrderIs = (cells block : List ℕ) → Sound cells → Made cells block → tableOrder block ≡ language (rulesOf cells) .prefers
 
@@ -75,6 +85,13 @@ abbrev pub OpenIs : Type 0
 OpenIs = (cells block : List ℕ) → Sound cells → Made cells block → (q : Query (language (rulesOf cells))) (at end : ℕ) → at < 64 → end < 9
     → placesOf (2 ^ at) (usableSet block end)
     ≡ (λ s st. eqb s at && usable (language (rulesOf cells)) st (openEnd (language (rulesOf cells)) (graphOf cells) q (endOf end)))
+
+-- no hop of the board is later than the end that stands for all that may come at an open pair (02,
+-- K12: the new edge's turn may be above all others)
+abbrev pub OpenLast : Type 0
+OpenLast = (cells block : List ℕ) → Sound cells → Made cells block → (q : Query (language (rulesOf cells))) (end s : ℕ) (h : HopOf Turned)
+    → h ∈ blockHops block s
+    → laterStep (by (h .step)) (openEnd (language (rulesOf cells)) (graphOf cells) q (endOf end)) ≡ false
 
 -- an end past the table is usable in no state
 abbrev pub OpenPast : Type 0

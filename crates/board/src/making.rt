@@ -20,6 +20,7 @@ use block::LETTER;
 use block::SCOPES;
 use block::START;
 use block::STATES;
+use block::TURN;
 use block::USABLE;
 use graph_table::ACCEPTS;
 use graph_table::COUNT;
@@ -61,10 +62,11 @@ fn put_graph(table: &[u64], at: &[u64], block: &mut [u64])
     ensures put { λ r. ⌜ GraphPut (now (table .entry)) (now (block .entry)) (now (block .exit)) ⌝ }
 {
     put_cells(block, START, at);
-    put_edges(rows_at(table, at, EDGES), block);
+    let turn = put_edges(rows_at(table, at, EDGES), block);
     let from = at[DECLARATIONS] as usize;
     let declared = declared_table(rows_at(table, at, DECLARATIONS), from);
     put_cells(block, DECL, &declared);
+    block[TURN] = turn;
 }
 
 // Fills the block from the graph table, whatever stood in it; if it was not cleared, the hints are

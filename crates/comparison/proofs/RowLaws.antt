@@ -1,43 +1,49 @@
 -- Which of two rows is more specific, test by test; and that over the block of a table that was
 -- read it is what the rules say. Assumes nothing.
-use mathlib.Core.Path.{_≡_, sym, ap, _∙_}
-use mathlib.Core.Bool.{Bool, true, false}
-use mathlib.Core.List.{List, [], _∷_, map}
+use mathlib.Core.Path.{_≡_, sym, ap, _∙_, fun-ext}
+use mathlib.Core.Bool.{Bool, true, false, _&&_, _||_}
+use mathlib.Core.Logic.{_⊎_, inl, inr}
+use mathlib.Core.List.{List, [], _∷_}
 use Prim.Native.Nat.{ℕ, _≤_, _<_}
-use borrow.Author.Tests.{ne-eqb, eq-eqb, lt-ltb, le-ltb}
-use lib.Dec.{ltb}
+use borrow.Author.Tests.{ne-eqb, eq-eqb, eqb-true, lt-ltb, le-ltb}
+use lib.Dec.{eqb, ltb}
 use Rattle.text_field.specs.Outcome.{Outcome, refused, done, andThen, refuseIf}
-use Rattle.graph_file.specs.Decode.{lettersOf, rulesOf, WasRead}
+use Rattle.graph_file.specs.Decode.{lettersOf, rulesOf, graphOf, WasRead}
 use Rattle.scope_graph.specs.Language.{Language, End, stop, by}
 use Rattle.scope_graph.specs.Rows.{language}
 use Rattle.scope_graph.specs.Path.{Hop}
-use Rattle.scope_graph.specs.Computed.{preferredTo, sameHop, moreSpecific}
+use Rattle.scope_graph.specs.Turns.{Turned}
+use Rattle.scope_graph.specs.Computed.{hopsAt, preferredTo, sameHop, moreSpecific}
+use Rattle.block.specs.Block.{blockHops}
+use Rattle.scope_graph.proofs.Lists.{Two, and-right}
 use Rattle.search.specs.Tables.{tableOrder}
 use Rattle.board.specs.Made.{Made}
 use Rattle.board.proofs.Queries.{sound}
-use Rattle.board.proofs.Board.{order-is}
+use Rattle.board.proofs.Board.{hops-are, order-is}
 use Rattle.path_row.specs.declared.form.Step.{Step}
 use Rattle.path_row.specs.Form.{PathRow, rowHere, stepsIn}
-use Rattle.path_row.specs.Numbering.{labelNumber, hopOf, pathOf}
+use Rattle.path_row.specs.Numbering.{labelNumber, hopOf, hopsOf, pathOf}
+use Rattle.path_row.proofs.TurnLaws.{same-hop}
 use Rattle.path_row.proofs.RowReads.{RowIs}
 use Rattle.comparison.specs.declared.rows.Compared.{Compared}
 use Rattle.comparison.specs.declared.rows.Compared.the-variants.{First, Second, Neither, Refused}
-use Rattle.comparison.specs.Compare.{Comparison, first, second, neither, whichOf, meaning, rowBefore, comparison, compareRows}
-use Rattle.comparison.specs.Steps.{stepLabel, stepsPreferred, stepsCompared}
+use Rattle.comparison.specs.Compare.{Comparison, neither, whichOf, meaning, rowBefore, comparison, compareRows}
+use Rattle.comparison.specs.Steps.{stepAt, sameStep, stepsPreferred, stepsCompared}
+use Rattle.comparison.specs.Letters.{blockLetters}
 use Rattle.comparison.proofs.LetterLaws.{letters-same}
 
 -- which of two rows with one start is more specific
-module _ (block : List ℕ) (ss ts : List Step) (t : Bool) (e : t ≡ stepsPreferred block ss ts) where
-  pub first-is : t ≡ true → meaning First ≡ done (stepsCompared block ss ts)
+module _ (block : List ℕ) (s : ℕ) (ts us : List Step) (t : Bool) (e : t ≡ stepsPreferred block s ts us) where
+  pub first-is : t ≡ true → meaning First ≡ done (stepsCompared block s ts us)
   unfolding meaning stepsCompared whichOf
   first-is f = rw (← e, f)
 
-  module _ (f : t ≡ false) (u : Bool) (g : u ≡ stepsPreferred block ts ss) where
-    pub second-is : u ≡ true → meaning Second ≡ done (stepsCompared block ss ts)
+  module _ (f : t ≡ false) (u : Bool) (g : u ≡ stepsPreferred block s us ts) where
+    pub second-is : u ≡ true → meaning Second ≡ done (stepsCompared block s ts us)
     unfolding meaning stepsCompared whichOf
     second-is h = rw (← e, f, ← g, h)
 
-    pub neither-is : u ≡ false → meaning Neither ≡ done (stepsCompared block ss ts)
+    pub neither-is : u ≡ false → meaning Neither ≡ done (stepsCompared block s ts us)
     unfolding meaning stepsCompared whichOf
     neither-is h = rw (← e, f, ← g, h)
 
@@ -46,35 +52,58 @@ module _ (cells block : List ℕ) (was : WasRead cells) (made : Made cells block
   abbrev L : Language
   L = language (rulesOf cells)
 
-  abbrev hops : List Step → List (Hop L)
-  hops ss = map (hopOf (rulesOf cells) (lettersOf cells)) ss
+  -- the block's edges and letters are the file's
+  pub steps-here : (s : ℕ) (ts : List Step) → hopsOf (hopsAt L (graphOf cells .edges)) (lettersOf cells) s ts ≡ hopsOf (blockHops block) (blockLetters block) s ts
+  steps-here s ts = rw (letters-same cells block was made, fun-ext (hops-are cells block (sound cells was) made))
 
-  order-here : (a c : End ℕ) → L .prefers a c ≡ tableOrder block a c
-  order-here a c = ap (λ (f : End ℕ → End ℕ → Bool). f a c) (sym (order-is cells block (sound cells was) made))
+  abbrev hops : ℕ → List Step → List (Hop L)
+  hops s ts = hopsOf (blockHops block) (blockLetters block) s ts
 
-  number-here : (s : Step) → labelNumber (lettersOf cells) (s .label) ≡ stepLabel block s
-  number-here s = ap (λ (letters : List ℕ). labelNumber letters (s .label)) (sym (letters-same cells block was made))
+  order-here : (a c : End Turned) → L .prefers a c ≡ tableOrder block a c
+  order-here a c = ap (λ (f : End Turned → End Turned → Bool). f a c) (sym (order-is cells block (sound cells was) made))
 
-  preferred-same : (ss ts : List Step) → preferredTo L (hops ss) (hops ts) stop ≡ stepsPreferred block ss ts
-  unfolding preferredTo sameHop hopOf stepsPreferred
-  preferred-same [] [] = order-here stop stop
-  preferred-same (s ∷ ss) [] = rw (number-here s) (order-here (by (stepLabel block s)) stop)
-  preferred-same [] (t ∷ ts) = rw (number-here t) (order-here stop (by (stepLabel block t)))
-  preferred-same (s ∷ ss) (t ∷ ts) =
-      rw (number-here s, number-here t, preferred-same ss ts, order-here (by (stepLabel block s)) (by (stepLabel block t)))
+  -- behind steps that leave one scope: the same hop is one label and one scope
+  rest-same : (s : ℕ) (t u : Step) (ts us : List Step)
+      → preferredTo L (hops (t .scope) ts) (hops (t .scope) us) stop ≡ stepsPreferred block (t .scope) ts us
+      → (sameHop L (hopOf (blockHops block) (blockLetters block) s t) (hopOf (blockHops block) (blockLetters block) s u)
+      && preferredTo L (hops (t .scope) ts) (hops (u .scope) us) stop)
+      ≡ (sameStep block t u && stepsPreferred block (t .scope) ts us)
+  unfolding sameHop hopOf
+  rest-same s t u ts us rest =
+      ap (λ (z : Bool). z && preferredTo L (hops (t .scope) ts) (hops (u .scope) us) stop) (same-hop (blockHops block) (blockLetters block) s t u)
+      ∙ at (Two (sameStep block t u))
+    where
+      at : (sameStep block t u ≡ true) ⊎ (sameStep block t u ≡ false)
+          → (sameStep block t u && preferredTo L (hops (t .scope) ts) (hops (u .scope) us) stop)
+          ≡ (sameStep block t u && stepsPreferred block (t .scope) ts us)
+      at (inl e) =
+          let one : t .scope ≡ u .scope = eqb-true _ _ (and-right (eqb (labelNumber (blockLetters block) (t .label)) (labelNumber (blockLetters block) (u .label))) _ e) in
+          rw (e, ← one) rest
+      at (inr e) = rw e
 
-  before-same : (p q : PathRow) → p .start ≡ q .start → rowBefore cells p q ≡ stepsPreferred block (p .steps) (q .steps)
+  preferred-same : (s : ℕ) (ts us : List Step) → preferredTo L (hops s ts) (hops s us) stop ≡ stepsPreferred block s ts us
+  unfolding preferredTo hopsOf stepsPreferred
+  preferred-same s [] [] = order-here stop stop
+  preferred-same s (t ∷ ts) [] = order-here (by (stepAt block s t)) stop
+  preferred-same s [] (u ∷ us) = order-here stop (by (stepAt block s u))
+  preferred-same s (t ∷ ts) (u ∷ us) =
+      rw (order-here (by (stepAt block s t)) (by (stepAt block s u)))
+      (ap (λ (z : Bool). tableOrder block (by (stepAt block s t)) (by (stepAt block s u)) || z) (rest-same s t u ts us (preferred-same (t .scope) ts us)))
+
+  before-same : (p q : PathRow) → p .start ≡ q .start → rowBefore cells p q ≡ stepsPreferred block (p .start) (p .steps) (q .steps)
   unfolding rowBefore moreSpecific pathOf
-  before-same p q e = rw (eq-eqb (p .start) (q .start) e) (preferred-same (p .steps) (q .steps))
+  before-same p q e =
+      rw (eq-eqb (p .start) (q .start) e, steps-here (p .start) (p .steps), steps-here (q .start) (q .steps), ← e)
+      (preferred-same (p .start) (p .steps) (q .steps))
 
 before-apart : (cells : List ℕ) (p q : PathRow) → (p .start ≡ q .start → ⊥) → rowBefore cells p q ≡ false
 unfolding rowBefore moreSpecific pathOf
 before-apart cells p q e = rw (ne-eqb (p .start) (q .start) e)
 
 compared-same : (cells block : List ℕ) → WasRead cells → Made cells block → (p q : PathRow) → p .start ≡ q .start
-    → comparison cells p q ≡ stepsCompared block (p .steps) (q .steps)
+    → comparison cells p q ≡ stepsCompared block (p .start) (p .steps) (q .steps)
 unfolding comparison stepsCompared
-compared-same cells block was made p q e = rw (before-same cells block was made p q e, before-same cells block was made q p (sym e))
+compared-same cells block was made p q e = rw (before-same cells block was made p q e, before-same cells block was made q p (sym e), e)
 
 compared-apart : (cells : List ℕ) (p q : PathRow) → (p .start ≡ q .start → ⊥) → comparison cells p q ≡ neither
 unfolding comparison whichOf
@@ -118,7 +147,7 @@ module _ (cells a b : List ℕ) (n m : ℕ) where
           starts-apart z = sym (fits ∙ ap done (compared-apart cells (p .row) (q .row) (λ e. z (sym (p .starts) ∙ e ∙ q .starts))))
 
           pub starts-same : WasRead cells → start ≡ other → (block : List ℕ) → Made cells block → (r : Compared)
-              → meaning r ≡ done (stepsCompared block (stepsIn a) (stepsIn b)) → meaning r ≡ whole
+              → meaning r ≡ done (stepsCompared block start (stepsIn a) (stepsIn b)) → meaning r ≡ whole
           starts-same was z block made r e =
-              e ∙ rw (← p .steps, ← q .steps)
+              e ∙ rw (← p .steps, ← q .steps, ← p .starts)
               (sym (fits ∙ ap done (compared-same cells block was made (p .row) (q .row) (p .starts ∙ z ∙ sym (q .starts)))))

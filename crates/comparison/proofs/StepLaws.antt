@@ -1,77 +1,101 @@
 -- Steps of the code that holds the steps of one row against those of another, over plain lists.
 -- Assumes nothing.
 use mathlib.Core.Path.{_≡_, refl, sym, ap, _∙_}
-use mathlib.Core.Bool.{Bool, true, false, _&&_, _||_}
+use mathlib.Core.Bool.{Bool, true, false, _&&_, _||_, or-false}
 use mathlib.Core.List.{List, [], _∷_}
-use Prim.Native.Nat.{ℕ, zero, suc, _+_, _-_, _≤_}
+use Prim.Native.Nat.{ℕ, zero, suc, _+_, _-_, _≤_, _<_}
 use native.Mathlib.Omega.{arith}
 use borrow.Author.Tests.{ne-eqb, eq-eqb}
 use lib.Dec.{eqb}
 use lib.ListN.{drop}
 use Rattle.scope_graph.specs.Language.{End, stop, by}
-use Rattle.scope_graph.specs.Order.{meaning}
+use Rattle.scope_graph.specs.Path.{HopOf}
+use Rattle.scope_graph.specs.Turns.{Turned, turnBy}
+use Rattle.scope_graph.specs.Order.{turnMeaning, meaning}
+use Rattle.scope_graph.specs.declared.Turn.{Turn}
+use Rattle.scope_graph.specs.declared.Turn.the-variants.{None, Of}
 use Rattle.scope_graph.specs.declared.End.{End as CodeEnd}
 use Rattle.scope_graph.specs.declared.End.the-variants.{Stop, Label}
+use Rattle.block.specs.Block.{firstEdge, edgeCell, turnOf, blockHops, EdgeTo}
+use Rattle.block.specs.Block.{hopOf as edgeHop}
+use Rattle.block.proofs.BlockLaws.{blockHops-past}
 use Rattle.search.specs.Tables.{tableOrder}
 use Rattle.path_row.specs.declared.form.Step.{Step}
 use Rattle.path_row.specs.declared.form.StepRead.{StepRead}
 use Rattle.path_row.specs.declared.form.StepRead.the-variants.{Taken, NoStep}
 use Rattle.path_row.specs.Form.{stepHere, stepsOf, stepPlaced, stepMeaning, stepFrom}
-use Rattle.path_row.specs.Numbering.{labelNumber}
+use Rattle.path_row.specs.Numbering.{labelNumber, hopOf}
 use Rattle.path_row.proofs.FormLaws.{steps-on, steps-off}
 use Rattle.path_row.proofs.Steps.{same-step, steps-next, steps-none}
 use Rattle.comparison.specs.Letters.{blockLetters}
-use Rattle.comparison.specs.Steps.{endHere, stepLabel, sameStep, stepsPreferred}
+use Rattle.comparison.specs.Steps.{endHere, stepAt, sameStep, stepsPreferred}
+
+-- a step's turn, by the edge that was looked up
+module _ (block : List ℕ) (s label to : ℕ) where
+  pub turn-past : 64 ≤ s → turnMeaning None ≡ turnBy (blockHops block s) label to
+  unfolding turnMeaning turnBy
+  turn-past h = rw (blockHops-past block s h)
+
+  module _ (p end : ℕ) (e : EdgeTo block s label to p) (is : end ≡ firstEdge block (suc s)) where
+    pub turn-none : end ≤ p → turnMeaning None ≡ turnBy (blockHops block s) label to
+    unfolding turnMeaning
+    turn-none h = sym (e .none-is (omega arith))
+
+    pub turn-edge : p < end → (x n : ℕ) → x ≡ edgeCell block p → n ≡ turnOf x → turnMeaning (Of n) ≡ turnBy (blockHops block s) label to
+    unfolding turnMeaning edgeHop
+    turn-edge h x n f g = rw (g, f) (ap (λ (k : HopOf Turned). k .step .turn) (e .is (omega arith)))
 
 -- how a path goes on by a step that was read
-pub end-stop : (block : List ℕ) (i : ℕ) (r a : StepRead) → stepMeaning a ≡ stepMeaning (stepPlaced i r) → a ≡ NoStep → meaning Stop ≡ endHere block r
-unfolding stepPlaced endHere meaning
-end-stop block i NoStep a e f = refl
-end-stop block i (Taken x v w) a e f = absurd (let g = same-step a (Taken x v (i + w)) e in let z : _≡_ {A = ℕ} 0 1 = cc in omega arith)
+module _ (block : List ℕ) (s : ℕ) where
+  pub end-stop : (i : ℕ) (r a : StepRead) → stepMeaning a ≡ stepMeaning (stepPlaced i r) → a ≡ NoStep → meaning Stop ≡ endHere block s r
+  unfolding stepPlaced endHere meaning
+  end-stop i NoStep a e f = refl
+  end-stop i (Taken x v w) a e f = absurd (let g = same-step a (Taken x v (i + w)) e in let z : _≡_ {A = ℕ} 0 1 = cc in omega arith)
 
-pub end-label : (block : List ℕ) (i : ℕ) (r a : StepRead) (x v next n : ℕ) → stepMeaning a ≡ stepMeaning (stepPlaced i r) → a ≡ Taken x v next → n ≡ labelNumber (blockLetters block) x → meaning (Label n) ≡ endHere block r
-unfolding stepPlaced endHere meaning
-end-label block i NoStep a x v next n e f g = absurd (let t = same-step a NoStep e in let z : _≡_ {A = ℕ} 0 1 = cc in omega arith)
-end-label block i (Taken y u w) a x v next n e f g = let t = same-step a (Taken y u (i + w)) e in let p : y ≡ x = cc in rw (g, p)
+  pub end-label : (i : ℕ) (r a : StepRead) (x v next n : ℕ) (t : Turn) → stepMeaning a ≡ stepMeaning (stepPlaced i r) → a ≡ Taken x v next
+      → n ≡ labelNumber (blockLetters block) x → turnMeaning t ≡ turnBy (blockHops block s) n v → meaning (Label n t) ≡ endHere block s r
+  unfolding stepPlaced endHere meaning hopOf
+  end-label i NoStep a x v next n t e f g h = absurd (let d = same-step a NoStep e in let z : _≡_ {A = ℕ} 0 1 = cc in omega arith)
+  end-label i (Taken y u w) a x v next n t e f g h =
+      let d = same-step a (Taken y u (i + w)) e in
+      let p : y ≡ x = cc in
+      let q : u ≡ v = cc in
+      rw (h, p, q, ← g)
 
-or-none : (u : Bool) → (u || false) ≡ u
-or-none true = refl
-or-none false = refl
-
-module _ (block : List ℕ) where
-  abbrev endFirst : List Step → End ℕ
+module _ (block : List ℕ) (s : ℕ) where
+  abbrev endFirst : List Step → End Turned
   endFirst [] = stop
-  endFirst (s ∷ ss) = by (stepLabel block s)
+  endFirst (t ∷ ts) = by (stepAt block s t)
 
   -- what decides where the ends do not
   abbrev further : List Step → List Step → Bool
-  further [] ts = false
-  further (s ∷ ss) [] = false
-  further (s ∷ ss) (t ∷ ts) = sameStep block s t && stepsPreferred block ss ts
+  further [] us = false
+  further (t ∷ ts) [] = false
+  further (t ∷ ts) (u ∷ us) = sameStep block t u && stepsPreferred block (t .scope) ts us
 
-  further-none : (ss : List Step) → further ss [] ≡ false
+  further-none : (ts : List Step) → further ts [] ≡ false
   further-none [] = refl
-  further-none (s ∷ ss) = refl
+  further-none (t ∷ ts) = refl
 
-  ends-first : (ss ts : List Step) → stepsPreferred block ss ts ≡ (tableOrder block (endFirst ss) (endFirst ts) || further ss ts)
+  ends-first : (ts us : List Step) → stepsPreferred block s ts us ≡ (tableOrder block (endFirst ts) (endFirst us) || further ts us)
   unfolding stepsPreferred
-  ends-first [] [] = sym (or-none (tableOrder block stop stop))
-  ends-first [] (t ∷ ts) = sym (or-none (tableOrder block stop (by (stepLabel block t))))
-  ends-first (s ∷ ss) [] = sym (or-none (tableOrder block (by (stepLabel block s)) stop))
-  ends-first (s ∷ ss) (t ∷ ts) = refl
+  ends-first [] [] = sym (or-false (tableOrder block stop stop))
+  ends-first [] (u ∷ us) = sym (or-false (tableOrder block stop (by (stepAt block s u))))
+  ends-first (t ∷ ts) [] = sym (or-false (tableOrder block (by (stepAt block s t)) stop))
+  ends-first (t ∷ ts) (u ∷ us) = refl
 
-  end-first : (n : ℕ) (s : List ℕ) → endFirst (stepsOf (suc n) s) ≡ endHere block (stepHere s)
+  end-first : (n : ℕ) (text : List ℕ) → endFirst (stepsOf (suc n) text) ≡ endHere block s (stepHere text)
   unfolding endHere
-  end-first n s = by-step (stepHere s) refl
+  end-first n text = by-step (stepHere text) refl
     where
-      by-step : (r : StepRead) → stepHere s ≡ r → endFirst (stepsOf (suc n) s) ≡ endHere block (stepHere s)
-      by-step NoStep e = rw (steps-off n s e, e)
-      by-step (Taken x v w) e = rw (steps-on n s x v w e, e)
+      by-step : (r : StepRead) → stepHere text ≡ r → endFirst (stepsOf (suc n) text) ≡ endHere block s (stepHere text)
+      by-step NoStep e = rw (steps-off n text e, e)
+      by-step (Taken x v w) e = rw (steps-on n text x v w e, e)
 
-  module _ (a b : List ℕ) (i j left : ℕ) (h : 1 ≤ left) (ea eb : CodeEnd) (fa : meaning ea ≡ endHere block (stepHere (drop i a))) (fb : meaning eb ≡ endHere block (stepHere (drop j b)))
+  module _ (a b : List ℕ) (i j left : ℕ) (h : 1 ≤ left) (ea eb : CodeEnd) (fa : meaning ea ≡ endHere block s (stepHere (drop i a))) (fb : meaning eb ≡ endHere block s (stepHere (drop j b)))
       (u : Bool) (m : u ≡ tableOrder block (meaning ea) (meaning eb)) where
     abbrev here : Bool
-    here = stepsPreferred block (stepsOf left (drop i a)) (stepsOf left (drop j b))
+    here = stepsPreferred block s (stepsOf left (drop i a)) (stepsOf left (drop j b))
 
     split : here ≡ (u || further (stepsOf left (drop i a)) (stepsOf left (drop j b)))
     split =
@@ -95,7 +119,7 @@ module _ (block : List ℕ) where
         preferred-stops n′ = onward ∙ rw (steps-none b j left r′ e′ n′) (further-none (stepsOf left (drop i a)))
 
         module _ (y w nj : ℕ) (n′ : r′ ≡ Taken y w nj) (l k : ℕ) (el : l ≡ labelNumber (blockLetters block) x) (ek : k ≡ labelNumber (blockLetters block) y) where
-          both-on : here ≡ ((eqb l k && eqb v w) && stepsPreferred block (stepsOf (left - 1) (drop ni a)) (stepsOf (left - 1) (drop nj b)))
+          both-on : here ≡ ((eqb l k && eqb v w) && stepsPreferred block v (stepsOf (left - 1) (drop ni a)) (stepsOf (left - 1) (drop nj b)))
           both-on = onward ∙ rw (steps-next a i left r e x v ni n h, steps-next b j left r′ e′ y w nj n′ h, el, ek)
 
           pub preferred-label : (l ≡ k → ⊥) → here ≡ false
@@ -104,13 +128,13 @@ module _ (block : List ℕ) where
           pub preferred-scope : l ≡ k → (v ≡ w → ⊥) → here ≡ false
           preferred-scope z z′ = both-on ∙ rw (eq-eqb l k z, ne-eqb v w z′)
 
-          pub preferred-on : l ≡ k → v ≡ w → here ≡ stepsPreferred block (stepsOf (left - 1) (drop ni a)) (stepsOf (left - 1) (drop nj b))
+          pub preferred-on : l ≡ k → v ≡ w → here ≡ stepsPreferred block v (stepsOf (left - 1) (drop ni a)) (stepsOf (left - 1) (drop nj b))
           preferred-on z z′ = both-on ∙ rw (eq-eqb l k z, eq-eqb v w z′)
 
-  pub preferred-full : (left : ℕ) (s t : List ℕ) (u : Bool) → left ≤ 0 → u ≡ tableOrder block (meaning Stop) (meaning Stop) → stepsPreferred block (stepsOf left s) (stepsOf left t) ≡ u
+  pub preferred-full : (left : ℕ) (a b : List ℕ) (u : Bool) → left ≤ 0 → u ≡ tableOrder block (meaning Stop) (meaning Stop) → stepsPreferred block s (stepsOf left a) (stepsOf left b) ≡ u
   unfolding stepsOf meaning
-  preferred-full zero s t u h m = ends-first [] [] ∙ or-none (tableOrder block stop stop) ∙ sym m
-  preferred-full (suc n) s t u h m = absurd (omega arith)
+  preferred-full zero a b u h m = ends-first [] [] ∙ or-false (tableOrder block stop stop) ∙ sym m
+  preferred-full (suc n) a b u h m = absurd (omega arith)
 
-pub steps-as : (block : List ℕ) (ss ss′ ts ts′ : List Step) → ss ≡ ss′ → ts ≡ ts′ → stepsPreferred block ss ts ≡ stepsPreferred block ss′ ts′
-steps-as block ss ss′ ts ts′ e f = rw (e, f)
+pub steps-as : (block : List ℕ) (s : ℕ) (ts ts′ us us′ : List Step) → ts ≡ ts′ → us ≡ us′ → stepsPreferred block s ts us ≡ stepsPreferred block s ts′ us′
+steps-as block s ts ts′ us us′ e f = rw (e, f)

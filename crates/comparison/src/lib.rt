@@ -5,6 +5,7 @@ mod order;
 mod rows;
 mod steps;
 mod text;
+mod turns;
 
 pub use lent::compare;
 pub use lent::steps_due;

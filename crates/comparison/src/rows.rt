@@ -20,16 +20,16 @@ pub enum Compared {
     Refused(u64),
 }
 
-// Which of two rows with one start is more specific, by the board's order?
-fn more_specific(block: &[u64], a: &[u8], b: &[u8]) -> Compared
+// Which of two rows that start at the scope is more specific, by the board's order and turns?
+fn more_specific(block: &[u64], start: u64, a: &[u8], b: &[u8]) -> Compared
     requires block { ⌜ IsBlock (now block) ⌝ }
     ensures answer { λ r. ⌜ meaning r
-        ≡ done (stepsCompared (now (block .entry)) (stepsIn (now (a .entry))) (stepsIn (now (b .entry)))) ⌝ }
+        ≡ done (stepsCompared (now (block .entry)) start (stepsIn (now (a .entry))) (stepsIn (now (b .entry)))) ⌝ }
 {
-    if row_preferred(block, a, b) {
+    if row_preferred(block, start, a, b) {
         return Compared::First;
     }
-    if row_preferred(block, b, a) {
+    if row_preferred(block, start, b, a) {
         return Compared::Second;
     }
     Compared::Neither
@@ -58,5 +58,5 @@ pub fn compare_rows(cells: &[u64], a: &[u8], b: &[u8], n: usize, m: usize) -> Co
     }
     let mut block = [0u64; SIZE];
     put_board(cells, &mut block);
-    more_specific(&block, a, b)
+    more_specific(&block, start, a, b)
 }

@@ -8,7 +8,7 @@ use lib.ListN.{length, take, drop}
 use Rattle.text_field.specs.Outcome.{Outcome, refused, done, andThen, refuseIf}
 use Rattle.text_field.specs.Answer.{answer, leaves}
 use Rattle.text_field.proofs.AnswerLaws.{answer-refused, leaves-refused}
-use Rattle.graph_file.specs.File.{readCells, writeText}
+use Rattle.graph_file.specs.File.{readCells, formIn, writeText}
 use Rattle.graph_file.specs.Accepted.{AcceptedTable}
 use Rattle.graph_file.specs.Decode.{sectionPlace}
 use Rattle.graph_file.proofs.TableLaws.{ReadInto, refused-then, made-then}
@@ -16,19 +16,23 @@ use Rattle.graph_file.proofs.DecodeAccepted.{read-accepted}
 use Rattle.graph_table.specs.declared.sections.Form.{Form}
 use Rattle.graph_table.specs.declared.sections.Form.the-variants.{Old, Kinds}
 use Rattle.graph_table.specs.Sections.{formNumber, withForm}
-use Rattle.graph_file.specs.Formed.{otherKinds, inForm}
+use Rattle.graph_file.specs.Formed.{inForm}
 use Rattle.conversion.specs.Conversion.{oldText, newText, textIn, textOf}
 use Rattle.conversion.specs.Rows.{unfit}
 
+-- the table in a wanted form
+abbrev pub wanted : Form → List ℕ → List ℕ
+wanted form cells = inForm (formNumber form (formIn cells)) cells
+
 -- the text of a table in a form: 14, or what is written
-pub in-form : (form : Form) (cells : List ℕ) → textIn form cells ≡ refuseIf (unfit form cells) 14 (writeText (inForm (formNumber form) cells))
+pub in-form : (form : Form) (cells : List ℕ) → textIn form cells ≡ refuseIf (unfit form cells) 14 (writeText (wanted form cells))
 unfolding textIn oldText newText unfit refuseIf formNumber
 in-form Old cells = refl
 in-form Kinds cells = refl
 
 -- the first n cells, with the form changed before they are taken
-pub form-taken : (form : Form) (n : ℕ) (t : List ℕ) → 0 < n → n ≤ length t → take n (withForm form t) ≡ inForm (formNumber form) (take n t)
-unfolding withForm inForm
+pub form-taken : (form : Form) (n : ℕ) (t : List ℕ) → 0 < n → n ≤ length t → take n (withForm form t) ≡ wanted form (take n t)
+unfolding withForm inForm formIn
 form-taken form zero t some h = absurd (omega arith)
 form-taken form (suc n) [] some h = absurd (omega arith)
 form-taken form (suc n) (old ∷ t) some h = refl

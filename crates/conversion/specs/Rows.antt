@@ -1,20 +1,25 @@
--- How the code looks for kinds: row by row over the whole table. Assumes nothing: these are
--- definitions.
+-- How the code looks for what the old form cannot show: row by row over the whole table. Assumes
+-- nothing: these are definitions.
 use Prim.Native.Nat.{ℕ}
 use mathlib.Core.List.{List}
 use mathlib.Core.Bool.{Bool, true, false, _&&_, _||_}
-use Rattle.graph_file.specs.Format.{declarationSection, querySection}
+use Rattle.graph_file.specs.Format.{edgeSection, declarationSection, querySection}
 use Rattle.graph_file.specs.Admission.{rowOf}
 use Rattle.graph_file.specs.Line.{startsWith}
-use Rattle.graph_file.specs.Formed.{otherKind, otherKinds}
+use Rattle.graph_file.specs.Formed.{otherKind, otherTurn}
 use Rattle.graph_table.specs.declared.sections.Form.{Form}
 use Rattle.graph_table.specs.declared.sections.Form.the-variants.{Old, Kinds}
+use Rattle.conversion.specs.Conversion.{unshown}
 
 -- Is the row at the front of the cells a declaration's or a query's, of another kind than `v`?
+unfoldable pub kindHere : List ℕ → Bool
+kindHere cells = (startsWith declarationSection cells || startsWith querySection cells) && otherKind (rowOf cells)
+
+-- And is it one that the old form cannot show? An edge's is by its turn, any other by its kind.
 unfoldable pub otherHere : List ℕ → Bool
-otherHere cells = (startsWith declarationSection cells || startsWith querySection cells) && otherKind (rowOf cells)
+otherHere cells = elim (startsWith edgeSection cells) [ true ↦ otherTurn (rowOf cells) | false ↦ kindHere cells ]
 
 -- Has the table something that the form cannot show?
 unfoldable pub unfit : Form → List ℕ → Bool
-unfit Old cells = otherKinds cells
+unfit Old cells = unshown cells
 unfit Kinds cells = false

@@ -6,6 +6,7 @@ use Prim.Native.Nat.{ℕ, zero, suc, _+_, _-_, _≤_, _<_}
 use native.Mathlib.Omega.{arith}
 use lib.ListN.{length, take, drop}
 use Rattle.scope_graph.specs.Path.{HopOf}
+use Rattle.scope_graph.specs.Turns.{Turned}
 use Rattle.scope_graph.specs.Rows.{PackedName}
 use Rattle.block.specs.Block.{firstDeclaration, declaredPart}
 use Rattle.block.specs.Ask.{askName}
@@ -20,7 +21,7 @@ use Rattle.follow.specs.Walk.{entryRows, marksAt}
 module _
     (letters : List ℕ)
     (start : ℕ)
-    (hops : List (HopOf ℕ))
+    (hops : List (HopOf Turned))
     (cells : List ℕ)
     (s : ℕ)
     (x : PackedName)

@@ -7,12 +7,13 @@ use native.Mathlib.Numerals.{add-one}
 use lib.ListN.{length, getD, set, take, drop, length-append, length-take, List·getD-map}
 use lib.Seq.{getD-take, getD-drop, take-suc, take-suc-set, take-all}
 use Rattle.scope_graph.specs.Path.{HopOf}
+use Rattle.scope_graph.specs.Turns.{Turned}
 use Rattle.text_field.specs.Number.{numberText}
 use Rattle.text_field.specs.Buffer.{Buf, puts}
 use Rattle.text_field.proofs.BufferLaws.{puts-then}
 use Rattle.text_field.proofs.NumberLaws.{length-below}
 use Rattle.block.specs.Layout.{LETTER}
-use Rattle.block.specs.Block.{hopOf, letterCell}
+use Rattle.block.specs.Block.{turnOf, hopOf, letterCell}
 use Rattle.follow.specs.Text.{letterOf, hopsText, rowText}
 use Rattle.follow.specs.declared.Path.{Path}
 use Rattle.follow.specs.Walk.{pathHops, letterBytes}
@@ -39,7 +40,7 @@ cells-size l n h = sym (same l) ∙ h
     same (x ∷ k) = ap suc (same k)
 
 -- the first hops of a path's cells
-unfoldable pub firstHops : List ℕ → ℕ → List (HopOf ℕ)
+unfoldable pub firstHops : List ℕ → ℕ → List (HopOf Turned)
 firstHops hops i = map hopOf (take i hops)
 
 pub path-is : (p : Path) → pathHops p ≡ firstHops (p .hops) (p .depth)
@@ -65,25 +66,29 @@ module _ (hops : List ℕ) where
   unfolding firstHops
   first-more depth x h = rw (take-suc-set hops depth x h) (map-append hopOf (take depth hops) (x ∷ []))
 
-hop-narrow : (x : ℕ) → hopOf (x % 512) ≡ hopOf x
-unfolding hopOf
+-- the path's cells hold a hop whole
+hop-narrow : (x : ℕ) → hopOf (x % 65536) ≡ hopOf x
+unfolding hopOf turnOf
 hop-narrow x =
-    let to : x % 512 % 64 ≡ x % 64 = omega arith in
-    let whole : x / 64 ≡ 8 * (x / 512) + x % 512 / 64 = omega arith in
-    let step : x % 512 / 64 % 8 ≡ x / 64 % 8 = eight (x / 64) (x / 512) (x % 512 / 64) whole (omega arith) in
-    rw (to, step)
+    let to : x % 65536 % 64 ≡ x % 64 = omega arith in
+    let label : x % 65536 / 64 % 8 ≡ x / 64 % 8 = eight (x / 64) (x / 65536) (x % 65536 / 64) (omega arith) in
+    let turn : x % 65536 / 512 % 128 ≡ x / 512 % 128 = most (x / 512) (x / 65536) (x % 65536 / 512) (omega arith) in
+    rw (to, label, turn)
   where
-    eight : (a q m : ℕ) → a ≡ 8 * q + m → m < 8 → m % 8 ≡ a % 8
-    eight a q m e h = omega arith
+    eight : (a q m : ℕ) → a ≡ 1024 * q + m → m % 8 ≡ a % 8
+    eight a q m e = omega arith
+
+    most : (a q m : ℕ) → a ≡ 128 * q + m → m % 128 ≡ a % 128
+    most a q m e = omega arith
 
 -- one hop more is put on the path
-pub path-more : (p : Path) (x y depth : ℕ) → p .depth < length (p .hops) → y ≡ x % 512 → depth ≡ suc (p .depth)
+pub path-more : (p : Path) (x y depth : ℕ) → p .depth < length (p .hops) → y ≡ x % 65536 → depth ≡ suc (p .depth)
     → pathHops (record { hops = set (p .hops) (p .depth) y; depth = depth }) ≡ pathHops p ++ (hopOf x ∷ [])
 unfolding pathHops firstHops
 path-more p x y depth h e d =
-    rw (d, e) (first-more (p .hops) (p .depth) (x % 512) h ∙ ap (λ (k : HopOf ℕ). pathHops p ++ (k ∷ [])) (hop-narrow x))
+    rw (d, e) (first-more (p .hops) (p .depth) (x % 65536) h ∙ ap (λ (k : HopOf Turned). pathHops p ++ (k ∷ [])) (hop-narrow x))
 
-size-append : (hs ks : List (HopOf ℕ)) → hopsSize (hs ++ ks) ≡ hopsSize hs + hopsSize ks
+size-append : (hs ks : List (HopOf Turned)) → hopsSize (hs ++ ks) ≡ hopsSize hs + hopsSize ks
 unfolding hopsSize
 size-append [] ks = omega arith
 size-append (h ∷ hs) ks = omega (arith, size-append hs ks)
@@ -97,11 +102,11 @@ letter-is block l x h e =
     ∙ ap (λ (z : ℕ). z % 256) (getD-take 8 (drop LETTER block) l 0 h ∙ getD-drop LETTER block l 0))
 
 module _ (letters : List ℕ) where
-  hops-append : (hs ks : List (HopOf ℕ)) → hopsText letters (hs ++ ks) ≡ hopsText letters hs ++ hopsText letters ks
+  hops-append : (hs ks : List (HopOf Turned)) → hopsText letters (hs ++ ks) ≡ hopsText letters hs ++ hopsText letters ks
   unfolding hopsText
   hops-append [] ks = refl
   hops-append (h ∷ hs) ks =
-      ap (λ (z : List ℕ). letterOf letters (h .step) ∷ z)
+      ap (λ (z : List ℕ). letterOf letters (h .step .label) ∷ z)
       (ap (λ (z : List ℕ). numberText (h .to) ++ z) (hops-append hs ks) ∙ sym (append-assoc (numberText (h .to)) (hopsText letters hs) (hopsText letters ks)))
 
   pub hops-one : (x l : ℕ) → l ≡ letterOf letters (x / 64 % 8) → hopsText letters (hopOf x ∷ []) ≡ (l ∷ []) ++ numberText (x % 64)
@@ -121,24 +126,24 @@ module _ (letters : List ℕ) where
   hops-end p i h g = ap (hopsText letters) (path-is p ∙ sym (first-end (p .hops) i (p .depth) h g))
 
   -- a row, in its five parts
-  pub row-parts : (mark start : ℕ) (hops : List (HopOf ℕ))
+  pub row-parts : (mark start : ℕ) (hops : List (HopOf Turned))
       → rowText letters mark start hops ≡ (((numberText mark ++ (32 ∷ [])) ++ numberText start) ++ hopsText letters hops) ++ (10 ∷ [])
   unfolding rowText
   row-parts mark start hops = sym (simp append-assoc)
 
-  hops-size : (hs : List (HopOf ℕ)) → length (hopsText letters hs) ≡ hopsSize hs
+  hops-size : (hs : List (HopOf Turned)) → length (hopsText letters hs) ≡ hopsSize hs
   unfolding hopsText hopsSize
   hops-size [] = refl
   hops-size (h ∷ hs) = omega (arith, length-append (numberText (h .to)) (hopsText letters hs), hops-size hs)
 
-  row-size : (mark start : ℕ) (hops : List (HopOf ℕ)) → length (numberText mark) + pathSize start hops ≡ length (rowText letters mark start hops)
+  row-size : (mark start : ℕ) (hops : List (HopOf Turned)) → length (numberText mark) + pathSize start hops ≡ length (rowText letters mark start hops)
   unfolding pathSize
   row-size mark start hops =
       sym (ap length (row-parts mark start hops)
       ∙ simp length-append (omega (arith, hops-size hops)))
 
   -- the mark's digits, and the rest
-  pub row-sum : (mark start : ℕ) (hops : List (HopOf ℕ)) (a k : ℕ) → a ≡ length (numberText mark) → k ≡ pathSize start hops → a + k ≡ length (rowText letters mark start hops)
+  pub row-sum : (mark start : ℕ) (hops : List (HopOf Turned)) (a k : ℕ) → a ≡ length (numberText mark) → k ≡ pathSize start hops → a + k ≡ length (rowText letters mark start hops)
   row-sum mark start hops a k d e = rw (d, e) (row-size mark start hops)
 
 -- a number that a cell holds has twenty digits at most

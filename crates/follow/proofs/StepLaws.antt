@@ -4,19 +4,23 @@ use mathlib.Core.Path.{_≡_, sym, ap, _∙_}
 use mathlib.Core.Bool.{Bool, true, false}
 use mathlib.Core.Logic.{_⊎_, inl, inr, ⊎-elim}
 use mathlib.Core.List.{List, _∷_, _++_, append-assoc, List·Memᴰ·cases-cons, List·Memᴰ·append-cases}
-use Prim.Native.Nat.{ℕ, suc, _+_, _/_, _%_, _≤_, _<_}
+use Prim.Native.Nat.{ℕ, suc, _+_, _≤_, _<_}
 use native.Mathlib.Omega.{arith}
 use native.Mathlib.Numerals.{add-one}
+use Rattle.scope_graph.specs.Language.{End, by}
 use Rattle.scope_graph.specs.Order.{endOf}
 use Rattle.scope_graph.specs.Path.{HopOf}
+use Rattle.scope_graph.specs.Turns.{Turned}
 use Rattle.block.specs.Sets.{hasScope, ALL_LABELS}
 use Rattle.block.specs.Block.{firstEdge, edgeCell, hopOf, hopsOn}
 use Rattle.block.specs.Ask.{askGoal}
 use Rattle.search.specs.Board.{cutHere}
-use Rattle.search.specs.Tables.{tableOrder, tableBoard}
+use Rattle.search.specs.Tables.{plainEnd, tableOrder, tableBoard}
 use Rattle.search.specs.Steps.{worthState, NextHop}
 use Rattle.search.specs.declared.Node.{Node}
-use Rattle.follow.specs.Steps.{endCut, Skipped, NextFollowed}
+use Rattle.follow.specs.declared.cuts.Question.{Question}
+use Rattle.follow.specs.declared.cuts.Question.the-variants.{Sought, Edge}
+use Rattle.follow.specs.Steps.{askedEnd, endCut, Skipped, NextFollowed}
 
 module _ (block ask onward : List ℕ) (n : Node) (p : ℕ) where
   -- hops that are worth nothing
@@ -25,27 +29,27 @@ module _ (block ask onward : List ℕ) (n : Node) (p : ℕ) where
 
   -- one more whose label is cut, and again hops that are worth nothing
   pub skip-cut : (k i r : ℕ) → Skipped block ask onward n p i → NextHop block onward n ALL_LABELS k i → i < firstEdge block (suc (n .scope))
-      → endCut block ask n (hopOf (edgeCell block i) .step) ≡ true → NextHop block onward n ALL_LABELS (i + 1) r
+      → endCut block ask n (by (hopOf (edgeCell block i) .step)) ≡ true → NextHop block onward n ALL_LABELS (i + 1) r
       → Skipped block ask onward n p r
   skip-cut k i r past here inside cut next = record {
     on = omega (arith, past .on, next .on);
     skipped = past .skipped ++ (hopOf (edgeCell block i) ∷ next .skipped);
     split =
         past .split
-        ∙ ap (λ (z : List (HopOf ℕ)). past .skipped ++ z)
-        (here .found inside ∙ ap (λ (z : List (HopOf ℕ)). hopOf (edgeCell block i) ∷ z) (rw (add-one i) at (next .split)))
+        ∙ ap (λ (z : List (HopOf Turned)). past .skipped ++ z)
+        (here .found inside ∙ ap (λ (z : List (HopOf Turned)). hopOf (edgeCell block i) ∷ z) (rw (add-one i) at (next .split)))
         ∙ sym (append-assoc (past .skipped) (hopOf (edgeCell block i) ∷ next .skipped) (hopsOn block (n .scope) r));
     idle = λ h m. ⊎-elim (past .idle h) (λ t. ⊎-elim (first h) (λ u. inl (next .idle h u)) (List·Memᴰ·cases-cons t))
         (List·Memᴰ·append-cases (past .skipped) m);
   }
     where
-      first : (h : HopOf ℕ) → h ≡ hopOf (edgeCell block i)
-          → (16 ≤ worthState block onward (n .free) (n .state) ALL_LABELS h) ⊎ (endCut block ask n (h .step) ≡ true)
+      first : (h : HopOf Turned) → h ≡ hopOf (edgeCell block i)
+          → (16 ≤ worthState block onward (n .free) (n .state) ALL_LABELS h) ⊎ (endCut block ask n (by (h .step)) ≡ true)
       first h e = inr (rw e cut)
 
   -- the next that is followed
   pub next-is : (k r : ℕ) → Skipped block ask onward n p r → NextHop block onward n ALL_LABELS k r
-      → (r < firstEdge block (suc (n .scope)) → endCut block ask n (hopOf (edgeCell block r) .step) ≡ false)
+      → (r < firstEdge block (suc (n .scope)) → endCut block ask n (by (hopOf (edgeCell block r) .step)) ≡ false)
       → NextFollowed block ask onward n p r
   next-is k r past here uncut = record {
     past = past;
@@ -53,9 +57,24 @@ module _ (block ask onward : List ℕ) (n : Node) (p : ℕ) where
     none = here .none;
   }
 
--- what was learnt of an edge's label, as the code asks about it
-pub label-cut : (block ask : List ℕ) (n : Node) (i x goal : ℕ) (cut : Bool) → x ≡ edgeCell block i → goal ≡ askGoal ask
-    → cut ≡ cutHere (tableBoard block goal) (tableOrder block) (n .left) (hasScope (n .free)) (n .scope) (n .state) (endOf (x / 64 % 8 + 1))
-    → endCut block ask n (hopOf (edgeCell block i) .step) ≡ cut
-unfolding endOf hopOf
-label-cut block ask n i x goal cut e g says = sym (rw (add-one (edgeCell block i / 64 % 8)) at (rw (e, g) at says))
+-- what was learnt of the end asked about, as the code asks: the one sought, or an edge's step
+module _ (block ask : List ℕ) (n : Node) (goal : ℕ) (question : Question) (x : ℕ) (cut : Bool) (goal-is : goal ≡ askGoal ask) where
+  abbrev cutBy : ℕ → End Turned → Bool
+  cutBy g e = cutHere (tableBoard block g) (tableOrder block) (n .left) (hasScope (n .free)) (n .scope) (n .state) e
+
+  asked-cut : (e : End Turned) → e ≡ askedEnd question → cut ≡ cutBy goal e → cut ≡ endCut block ask n (askedEnd question)
+  asked-cut e is says = says ∙ ap (λ (g : ℕ). cutBy g e) goal-is ∙ ap (cutBy (askGoal ask)) is
+
+  pub sought-cut : question ≡ Sought x → cut ≡ cutBy goal (plainEnd (endOf x)) → cut ≡ endCut block ask n (askedEnd question)
+  unfolding askedEnd
+  sought-cut is says = asked-cut (plainEnd (endOf x)) (ap askedEnd (sym is)) says
+
+  pub edge-cut : question ≡ Edge x → cut ≡ cutBy goal (by (hopOf x .step)) → cut ≡ endCut block ask n (askedEnd question)
+  unfolding askedEnd
+  edge-cut is says = asked-cut (by (hopOf x .step)) (ap askedEnd (sym is)) says
+
+-- the step of edge number i, by its cell
+pub step-cut : (block ask : List ℕ) (n : Node) (i x : ℕ) (cut : Bool) → x ≡ edgeCell block i → cut ≡ endCut block ask n (askedEnd (Edge x))
+    → endCut block ask n (by (hopOf (edgeCell block i) .step)) ≡ cut
+unfolding askedEnd
+step-cut block ask n i x cut e says = sym (rw e at says)

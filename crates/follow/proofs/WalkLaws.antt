@@ -10,6 +10,7 @@ use borrow.Author.Tests.{lt-leb, le-leb, ltb-true, ltb-false, ne-eqb}
 use lib.Dec.{eqb, ltb, leb}
 use Rattle.scope_graph.specs.Rows.{anyOf}
 use Rattle.scope_graph.specs.Computed.{NodeOf}
+use Rattle.scope_graph.specs.Turns.{Turned}
 use Rattle.scope_graph.proofs.Lists.{Two}
 use Rattle.block.specs.Sets.{hasScope}
 use Rattle.block.specs.Block.{scopesCell}
@@ -61,7 +62,7 @@ module _ (block table ask : List ℕ) (aim : Aim) (st : State) where
 
 -- the question of its own: places are counted up to one
 module _ (block table ask : List ℕ) where
-  any-place : (b : Bounds) (out : List ℕ) → b .most ≡ 1 → (places : List (NodeOf ℕ))
+  any-place : (b : Bounds) (out : List ℕ) → b .most ≡ 1 → (places : List (NodeOf Turned))
       → not (eqb (takeRows b (out, none) (flatMap (placeRows block table ask Place []) places) .1 .entries) 0)
       ≡ anyOf (λ n. true) places
   unfolding placeRows flatMap anyOf takeRows

@@ -5,6 +5,7 @@ use mathlib.Core.List.{List, [], _∷_, _++_}
 use lib.ListN.{getD}
 use Rattle.scope_graph.specs.Language.{End, stop, by}
 use Rattle.scope_graph.specs.Path.{HopOf}
+use Rattle.scope_graph.specs.Turns.{Turned}
 use Rattle.scope_graph.specs.Computed.{Found, found-none, found-one, found-several}
 use Rattle.scope_graph.specs.Rows.{PackedName}
 use Rattle.text_field.specs.Number.{numberText}
@@ -40,12 +41,12 @@ module _ (letters : List ℕ) where
   unfoldable pub letterOf : ℕ → ℕ
   letterOf l = getD letters l 0
 
-  -- a path: its start, then each hop's letter and scope
-  unfoldable pub hopsText : List (HopOf ℕ) → List ℕ
+  -- a path: its start, then each hop's letter and scope; turns are not shown
+  unfoldable pub hopsText : List (HopOf Turned) → List ℕ
   hopsText [] = []
-  hopsText (h ∷ hs) = letterOf (h .step) ∷ (numberText (h .to) ++ hopsText hs)
+  hopsText (h ∷ hs) = letterOf (h .step .label) ∷ (numberText (h .to) ++ hopsText hs)
 
-  unfoldable pub rowText : ℕ → ℕ → List (HopOf ℕ) → List ℕ
+  unfoldable pub rowText : ℕ → ℕ → List (HopOf Turned) → List ℕ
   rowText mark start hops = numberText mark ++ (32 ∷ (numberText start ++ (hopsText hops ++ (10 ∷ []))))
 
   -- an open pair's end: `$` or the letter

@@ -8,6 +8,7 @@ use lib.Dec.{leb}
 use lib.ListN.{take, drop}
 use Rattle.scope_graph.specs.Order.{endOf}
 use Rattle.scope_graph.specs.Path.{HopOf}
+use Rattle.scope_graph.specs.Turns.{Turned}
 use Rattle.scope_graph.specs.Rows.{anyOf}
 use Rattle.scope_graph.specs.Computed.{NodeOf}
 use Rattle.block.specs.Sets.{placesOf}
@@ -15,7 +16,7 @@ use Rattle.block.specs.Layout.{LETTER}
 use Rattle.block.specs.Block.{hopOf, scopesCell, declaredPart}
 use Rattle.block.specs.Ask.{askStart, askName, askGoal}
 use Rattle.search.specs.Board.{hitsFrom}
-use Rattle.search.specs.Tables.{tableOrder, tableBoard}
+use Rattle.search.specs.Tables.{plainEnd, tableOrder, tableBoard}
 use Rattle.search.specs.Conditions.{freeAt}
 use Rattle.board.specs.Marks.{marksIn}
 use Rattle.follow.specs.declared.Task.{Task}
@@ -26,7 +27,7 @@ use Rattle.follow.specs.Text.{rowText}
 use Rattle.follow.specs.Tally.{Taken, State, takeRows}
 
 -- the hops of the path that a walk holds, `depth` of them and no more than it has places
-unfoldable pub pathHops : Path → List (HopOf ℕ)
+unfoldable pub pathHops : Path → List (HopOf Turned)
 pathHops p = map hopOf (take (p .depth) (p .hops))
 
 -- the labels' letters as bytes
@@ -34,7 +35,7 @@ unfoldable pub letterBytes : List ℕ → List ℕ
 letterBytes block = map (λ x. x % 256) (take 8 (drop LETTER block))
 
 -- the rows of the entries with these marks, by one path that ends at a scope
-unfoldable pub entryRows : List ℕ → ℕ → List (HopOf ℕ) → ℕ → List ℕ → List Taken
+unfoldable pub entryRows : List ℕ → ℕ → List (HopOf Turned) → ℕ → List ℕ → List Taken
 entryRows letters start hops at marks =
     map (λ mark. record { at = at; mark = mark; text = rowText letters mark start hops }) marks
 
@@ -49,20 +50,20 @@ module _ (block table ask : List ℕ) where
   marksAt s = marksIn (declaredPart block table s) s (askName ask)
 
   -- a place's rows, `hops` being the path up to where it was sought from
-  unfoldable pub placeRows : Task → List (HopOf ℕ) → NodeOf ℕ → List Taken
+  unfoldable pub placeRows : Task → List (HopOf Turned) → NodeOf Turned → List Taken
   placeRows Entries hops n = entryRows (letterBytes block) (askStart ask) (hops ++ n .hops) (n .at) (marksAt (n .at))
   placeRows Place hops n = placeRow ∷ []
 
   -- the followed places of a set of scopes and a set of states where the end is not cut, from a
   -- scope and state on
-  unfoldable pub placesFrom : ℕ → ℕ → ℕ → ℕ → (ℕ → Bool) → ℕ → ℕ → List (NodeOf ℕ)
+  unfoldable pub placesFrom : ℕ → ℕ → ℕ → ℕ → (ℕ → Bool) → ℕ → ℕ → List (NodeOf Turned)
   placesFrom scopes states e fuel free s q =
-      hitsFrom (tableBoard block (askGoal ask)) (tableOrder block) (placesOf scopes states) (endOf e) fuel free s q
+      hitsFrom (tableBoard block (askGoal ask)) (tableOrder block) (placesOf scopes states) (plainEnd (endOf e)) fuel free s q
 
   module _ (aim : Aim) where
     -- what the followed places behind a path give, from a scope and state on, with fewer than
     -- `fuel` hops
-    unfoldable pub rowsFrom : List (HopOf ℕ) → ℕ → (ℕ → Bool) → ℕ → ℕ → List Taken
+    unfoldable pub rowsFrom : List (HopOf Turned) → ℕ → (ℕ → Bool) → ℕ → ℕ → List Taken
     rowsFrom hops fuel free s q =
         flatMap (placeRows (aim .task) hops) (placesFrom (aim .scopes) (aim .states) (aim .end) fuel free s q)
 

@@ -8,6 +8,7 @@ use search::Node;
 use search::live_table;
 
 mod count;
+mod cuts;
 mod nodes;
 mod rows;
 
@@ -17,7 +18,7 @@ ghost use mathlib.Core.Path.{_≡_};
 ghost use Prim.Native.Nat.{_≤_, _<_};
 ghost use lib.ListN.{length};
 ghost use Rattle.block.specs.Layout.{IsBlock};
-ghost use Rattle.block.specs.Block.{Still};
+ghost use Rattle.block.specs.Block.{Bounds as BlockBounds};
 ghost use Rattle.block.specs.Ask.{IsAsk, askStart, askGoal};
 ghost use Rattle.search.specs.Conditions.{freeAt, LiveAt, WorthAt};
 ghost use Rattle.follow.specs.Tally.{State};
@@ -65,7 +66,7 @@ pub struct Tally {
     pub seen: Seen,
 }
 
-// The path that the walk stands behind: of each hop label * 64 + scope.
+// The path that the walk stands behind: of each hop turn * 512 + label * 64 + scope.
 pub struct Path {
     pub hops: [u16; 64],
     pub depth: usize,
@@ -83,7 +84,7 @@ pub fn walk(
     tally: Tally,
 ) -> Tally
     requires block { ⌜ IsBlock (now block) ⌝ }
-    requires still { ⌜ Still (now block) ⌝ }
+    requires bounds { ⌜ BlockBounds (now block) ⌝ }
     requires ask { ⌜ IsAsk (now ask) ⌝ }
     requires start { ⌜ askStart (now ask) < 64 ⌝ }
     requires live { ⌜ LiveAt (now block) (askGoal (now ask)) (freeAt (askStart (now ask))) (now ask) ⌝ }
@@ -132,7 +133,7 @@ pub fn is_followed(
     end: u64,
 ) -> bool
     requires block { ⌜ IsBlock (now block) ⌝ }
-    requires still { ⌜ Still (now block) ⌝ }
+    requires bounds { ⌜ BlockBounds (now block) ⌝ }
     requires ask { ⌜ IsAsk (now ask) ⌝ }
     requires start { ⌜ askStart (now ask) < 64 ⌝ }
     requires live { ⌜ LiveAt (now block) (askGoal (now ask)) (freeAt (askStart (now ask))) (now ask) ⌝ }

@@ -5,6 +5,8 @@ use crate::Tally;
 use crate::Task;
 use crate::count::is_done;
 use crate::count::put_place;
+use crate::cuts::Question;
+use crate::cuts::cut_at;
 use crate::rows::put_entries;
 use block::ask_goal;
 use block::edge_at;
@@ -18,7 +20,6 @@ use search::NOTHING_KNOWN;
 use search::Node;
 use search::Table;
 use search::entered;
-use search::learn;
 use search::live_table;
 use search::next_hop;
 use search::worth;
@@ -30,20 +31,19 @@ ghost use lib.ListN.{length};
 ghost use Rattle.scope_graph.specs.Order.{endOf};
 ghost use Rattle.block.specs.Layout.{IsBlock};
 ghost use Rattle.block.specs.Sets.{hasScope, placesOf};
-ghost use Rattle.block.specs.Block.{Still, hopOf, hopsOn};
+ghost use Rattle.block.specs.Block.{Bounds, hopOf, hopsOn};
 ghost use Rattle.block.specs.Ask.{IsAsk, askGoal};
-ghost use Rattle.search.specs.Board.{cutHere};
-ghost use Rattle.search.specs.Tables.{tableOrder, tableBoard};
+ghost use Rattle.search.specs.Tables.{plainEnd};
 ghost use Rattle.search.specs.Conditions.{Inside, LiveAt, WorthAt, Known};
 ghost use Rattle.follow.specs.Tally.{State, takeRows};
 ghost use Rattle.follow.specs.Walk.{pathHops, rowsFrom};
-ghost use Rattle.follow.specs.Steps.{NoRoom, ownRows, hopRows, FollowedEdge, NextFollowed};
+ghost use Rattle.follow.specs.Steps.{NoRoom, ownRows, hopRows, endCut, FollowedEdge, NextFollowed};
 
-// A hop as the path holds it: label * 64 + scope, below 512.
+// A hop as the path holds it: turn * 512 + label * 64 + scope, below 65536.
 fn narrow(x: u64) -> u16
-    ensures hop { λ r. ⌜ r ≡ x % 512 ⌝ }
+    ensures hop { λ r. ⌜ r ≡ x % 65536 ⌝ }
 {
-    (x % 512) as u16
+    (x % 65536) as u16
 }
 
 // The path with edge x's hop more.
@@ -73,16 +73,16 @@ fn is_asked(aim: Aim, n: Node) -> bool
     has_state(aim.states, n.state)
 }
 
-// Is the node passed over: not asked for, or the end sought is cut there? What was learnt of its
-// ends on the way is kept. A place that is not asked for costs no search.
+// Is the node passed over: not asked for, or the end sought is cut there? A place that is not asked
+// for costs no search.
 fn own_end(block: &[u64], ask: &[u64], aim: Aim, n: Node) -> Learnt
     requires block { ⌜ IsBlock (now block) ⌝ }
-    requires still { ⌜ Still (now block) ⌝ }
+    requires bounds { ⌜ Bounds (now block) ⌝ }
     requires ask { ⌜ IsAsk (now ask) ⌝ }
     requires live { ⌜ LiveAt (now block) (askGoal (now ask)) (hasScope (n .free)) (now ask) ⌝ }
     requires inside { ⌜ Inside n ⌝ }
     ensures known { λ r. ⌜ Known (now (block .entry)) (askGoal (now (ask .entry))) n (r .known) ⌝ }
-    ensures passed { λ r. ⌜ r .cut ≡ (not (placesOf (aim .scopes) (aim .states) (n .scope) (n .state)) || cutHere (tableBoard (now (block .entry)) (askGoal (now (ask .entry)))) (tableOrder (now (block .entry))) (n .left) (hasScope (n .free)) (n .scope) (n .state) (endOf (aim .end))) ⌝ }
+    ensures passed { λ r. ⌜ r .cut ≡ (not (placesOf (aim .scopes) (aim .states) (n .scope) (n .state)) || endCut (now (block .entry)) (now (ask .entry)) n (plainEnd (endOf (aim .end)))) ⌝ }
 {
     if !is_asked(aim, n) {
         return Learnt {
@@ -90,7 +90,7 @@ fn own_end(block: &[u64], ask: &[u64], aim: Aim, n: Node) -> Learnt
             cut: true,
         };
     }
-    learn(block, ask_goal(ask), ask, n, NOTHING_KNOWN, aim.end)
+    cut_at(block, ask, n, NOTHING_KNOWN, Question::Sought(aim.end))
 }
 
 // The node's own rows, unless it is passed over: those of its entries, or one where places are
@@ -128,11 +128,11 @@ struct Next {
     known: u64,
 }
 
-// From edge p on, the node's next edge that is followed: its hop is worth entering, and its label
-// is not cut.
+// From edge p on, the node's next edge that is followed: its hop is worth entering, and its step is
+// not cut.
 fn next_followed(block: &[u64], ask: &[u64], onward: &[u64], n: Node, known: u64, p: u64) -> Next
     requires block { ⌜ IsBlock (now block) ⌝ }
-    requires still { ⌜ Still (now block) ⌝ }
+    requires bounds { ⌜ Bounds (now block) ⌝ }
     requires ask { ⌜ IsAsk (now ask) ⌝ }
     requires live { ⌜ LiveAt (now block) (askGoal (now ask)) (hasScope (n .free)) (now ask) ⌝ }
     requires table { ⌜ 64 ≤ length (now onward) ⌝ }
@@ -142,12 +142,11 @@ fn next_followed(block: &[u64], ask: &[u64], onward: &[u64], n: Node, known: u64
     ensures next { λ r. ⌜ NextFollowed (now (block .entry)) (now (ask .entry)) (now (onward .entry)) n p (r .at) ⌝ }
 {
     let end = edges_end(block, n.scope);
-    let goal = ask_goal(ask);
     let mut more = known;
     let mut i = next_hop(block, onward, n, ALL_LABELS, p);
     while i < end {
-        let label = edge_at(block, i) / 64 % 8;
-        let learnt = learn(block, goal, ask, n, more, label + 1);
+        let x = edge_at(block, i);
+        let learnt = cut_at(block, ask, n, more, Question::Edge(x));
         more = learnt.known;
         if !learnt.cut {
             return Next { at: i, known: more };
@@ -186,7 +185,7 @@ pub fn follow_at(
     tally: Tally,
 ) -> Tally
     requires block { ⌜ IsBlock (now block) ⌝ }
-    requires still { ⌜ Still (now block) ⌝ }
+    requires bounds { ⌜ Bounds (now block) ⌝ }
     requires ask { ⌜ IsAsk (now ask) ⌝ }
     requires live { ⌜ LiveAt (now block) (askGoal (now ask)) (hasScope (node .free)) (now ask) ⌝ }
     requires table { ⌜ 64 ≤ length (now onward) ⌝ }
@@ -252,7 +251,7 @@ fn follow_from(
     tally: Tally,
 ) -> Tally
     requires block { ⌜ IsBlock (now block) ⌝ }
-    requires still { ⌜ Still (now block) ⌝ }
+    requires bounds { ⌜ Bounds (now block) ⌝ }
     requires ask { ⌜ IsAsk (now ask) ⌝ }
     requires live { ⌜ LiveAt (now block) (askGoal (now ask)) (hasScope (node .free)) (now ask) ⌝ }
     requires table { ⌜ 64 ≤ length (now onward) ⌝ }

@@ -1,22 +1,28 @@
 -- Laws of the tests that admit a row, as the code makes them. Assumes nothing.
-use Prim.Native.Nat.{ℕ, zero, suc, _+_, _-_, _*_, _%_, _≤_, _<_}
+use Prim.Native.Nat.{ℕ, zero, suc, _+_, _-_, _%_, _≤_, _<_}
 use mathlib.Core.Path.{_≡_, refl, sym, ap, _∙_}
-use mathlib.Core.List.{List, [], _∷_, _++_}
+use mathlib.Core.List.{List, [], _∷_}
 use mathlib.Core.Bool.{Bool, true, false, not, _&&_, _||_}
 use native.Mathlib.Omega.{arith}
 use borrow.Author.Tests.{lt-ltb, le-ltb, eq-eqb, ne-eqb, eqb-true, eqb-false}
-use lib.Dec.{eqb, ltb}
-use lib.ListN.{length, getD}
-use lib.ListN.{drop}
-use native.Mathlib.Nat.{sub-zero}
-use lib.Dec.{eqb·zero-suc, eqb·suc-suc}
+use lib.Dec.{eqb, ltb, eqb·zero-suc, eqb·suc-suc}
+use lib.ListN.{length, getD, drop}
+use Rattle.text_field.proofs.ByteLaws.{clash}
 use Rattle.graph_file.specs.declared.rows.Counts.{Counts}
-use Rattle.graph_file.specs.Format.{Item, Sequence, ascending, once, free, sectionAt, shapeAt}
-use Rattle.graph_file.specs.Admission.{Row, value, rowOf, inRange, keyLess, listed, follows, unless, admission}
+use Rattle.graph_file.specs.Format.{Content, state, scope, mark, count, letter, label, end, name, kind, plain, turn, Item, byte, field, everyItem, Sequence, ascending, apart, once, free, labels, pairs, transitions, accepts, scopeCount, edges, declarations, openPairs, queries, pastLast, sections, sectionAt, shapeAt, edgeSection}
+use Rattle.graph_file.specs.Admission.{Row, value, rowOf, contentInRange, itemInRange, inRange, keyLess, listed, ascends, sameSource, standsAbove, repeats, follows, unless, admission}
 use Rattle.graph_file.specs.Line.{place}
-use Rattle.graph_file.specs.Table.{formatBytes, keyStep, keyAt, itemsAt, rangePlace, lettersAt, lastAt, sofarAt}
-use Rattle.graph_file.proofs.FormatLaws.{keys-step, key-more, key-last, range-items, ranged-all}
+use Rattle.graph_file.specs.Table.{formatBytes, hasRange, keptRanged, ranged, keyAt, itemsAt, rangePlace, lettersAt, rowsBack, sofarAt}
+use Rattle.graph_file.proofs.FormatLaws.{keys-step, key-more, key-last, range-items}
 use Rattle.graph_file.proofs.RowLaws.{place-hit, place-miss, letters-length}
+
+or-none : (t : Bool) → (t || false) ≡ t
+or-none true = refl
+or-none false = refl
+
+and-none : (t : Bool) → (t && false) ≡ false
+and-none true = refl
+and-none false = refl
 
 -- the key at a place of the format, place by place: less, equal so far, greater, and at its end
 module _ (o x : ℕ) (a b : Row) (e : x ≡ getD formatBytes o 10) (n : x ≡ 10 → ⊥) where
@@ -36,10 +42,49 @@ pub key-end : (o x : ℕ) (a b : Row) → x ≡ getD formatBytes o 10 → x ≡ 
 unfolding keyLess
 key-end o x a b e n = rw (keys-step o, ← e, key-last x (keyAt (o + 1)) n)
 
--- the row before, where the section has rows
-pub last-row : (n p : ℕ) (t : List ℕ) → (n ≡ 0 → ⊥) → lastAt n p t ≡ rowOf (drop (p - 6) t)
-unfolding lastAt
-last-row n p t h = rw (ne-eqb n 0 h, lastAt)
+-- a key whose places are known: the rows differ at its first place, are equal there, and at its
+-- last
+module _ (c : ℕ) (key : List ℕ) (a b : Row) where
+  pub less-here : (value a c ≡ value b c → ⊥) → ltb (value a c) (value b c) ≡ keyLess (c ∷ key) a b
+  unfolding keyLess
+  less-here h = rw (ne-eqb (value a c) (value b c) h) (sym (or-none (ltb (value a c) (value b c))))
+
+  pub less-on : value a c ≡ value b c → keyLess key a b ≡ keyLess (c ∷ key) a b
+  unfolding keyLess
+  less-on h = rw (le-ltb (value a c) (value b c) (omega arith), eq-eqb (value a c) (value b c) h)
+
+pub less-last : (c : ℕ) (a b : Row) → ltb (value a c) (value b c) ≡ keyLess (c ∷ []) a b
+unfolding keyLess
+less-last c a b = sym (ap (λ (t : Bool). ltb (value a c) (value b c) || t) (and-none (eqb (value a c) (value b c))) ∙ or-none (ltb (value a c) (value b c)))
+
+-- the rows before, where the section has none, and where it has some
+pub back-none : (n p : ℕ) (t : List ℕ) → n ≡ 0 → rowsBack n p t ≡ []
+unfolding rowsBack
+back-none n p t h = rw h
+
+pub back-row : (n p : ℕ) (t : List ℕ) → 0 < n → rowsBack n p t ≡ rowOf (drop (p - 6) t) ∷ rowsBack (n - 1) (p - 6) t
+unfolding rowsBack
+back-row n p t h = let e : n ≡ suc (n - 1) = omega arith in ap (λ (m : ℕ). rowsBack m p t) e
+
+-- the edge rows directly above, one by one: none is left, one of another source, the same edge, and
+-- another edge of the source
+module _ (n q : ℕ) (t : List ℕ) (row : Row) where
+  pub above-none : n ≤ 0 → standsAbove (rowsBack n q t) row ≡ false
+  unfolding standsAbove
+  above-none h = rw (back-none n q t (omega arith))
+
+  module _ (some : 0 < n) where
+    pub above-other : sameSource (rowOf (drop (q - 6) t)) row ≡ false → standsAbove (rowsBack n q t) row ≡ false
+    unfolding standsAbove
+    above-other e = rw (back-row n q t some, e)
+
+    pub above-hit : sameSource (rowOf (drop (q - 6) t)) row ≡ true → value (rowOf (drop (q - 6) t)) 2 ≡ value row 2 → standsAbove (rowsBack n q t) row ≡ true
+    unfolding standsAbove
+    above-hit e f = rw (back-row n q t some, e, eq-eqb (value (rowOf (drop (q - 6) t)) 2) (value row 2) f)
+
+    pub above-on : sameSource (rowOf (drop (q - 6) t)) row ≡ true → (value (rowOf (drop (q - 6) t)) 2 ≡ value row 2 → ⊥) → standsAbove (rowsBack (n - 1) (q - 6) t) row ≡ standsAbove (rowsBack n q t) row
+    unfolding standsAbove
+    above-on e f = sym (rw (back-row n q t some, e, ne-eqb (value (rowOf (drop (q - 6) t)) 2) (value row 2) f))
 
 listed-hit : (x y : ℕ) (l : List ℕ) → eqb y x ≡ true → listed x (y ∷ l) ≡ true
 unfolding listed
@@ -63,18 +108,75 @@ pub letter-unlisted : (x n : ℕ) (t : List ℕ) → eqb (place x (lettersAt n t
 letter-unlisted x n t = rw (letters-length n t) at (listed-place x (lettersAt n t))
 
 -- how rows follow, by their sequence
-module _ (q : Sequence) (key letters : List ℕ) (rows : ℕ) (last row : Row) where
-  pub follows-ascending : ascending ≡ q → follows q key letters rows last row ≡ (eqb rows 0 || keyLess key last row)
+module _ (q : Sequence) (key letters : List ℕ) (own : List Row) (row : Row) where
+  pub follows-ascending : ascending ≡ q → follows q key letters own row ≡ ascends key own row
   unfolding follows
-  follows-ascending e = ap (λ (s : Sequence). follows s key letters rows last row) (sym e)
+  follows-ascending e = ap (λ (s : Sequence). follows s key letters own row) (sym e)
 
-  pub follows-once : once ≡ q → follows q key letters rows last row ≡ not (listed (value row 0) letters)
+  follows-apart : apart ≡ q → follows q key letters own row ≡ (ascends key own row && not (repeats own row))
   unfolding follows
-  follows-once e = ap (λ (s : Sequence). follows s key letters rows last row) (sym e)
+  follows-apart e = ap (λ (s : Sequence). follows s key letters own row) (sym e)
 
-  pub follows-free : free ≡ q → follows q key letters rows last row ≡ true
+  pub follows-once : once ≡ q → follows q key letters own row ≡ not (listed (value row 0) letters)
   unfolding follows
-  follows-free e = ap (λ (s : Sequence). follows s key letters rows last row) (sym e)
+  follows-once e = ap (λ (s : Sequence). follows s key letters own row) (sym e)
+
+  pub follows-free : free ≡ q → follows q key letters own row ≡ true
+  unfolding follows
+  follows-free e = ap (λ (s : Sequence). follows s key letters own row) (sym e)
+
+-- a value that has no range is in range, so the fields that have one tell of all
+unranged : (labels scopes : ℕ) (k : Content) (v : ℕ) → hasRange k ≡ false → contentInRange labels scopes k v ≡ true
+unfolding hasRange contentInRange
+unranged labels scopes state v h = absurd (clash refl h)
+unranged labels scopes scope v h = absurd (clash refl h)
+unranged labels scopes mark v h = absurd (clash refl h)
+unranged labels scopes count v h = absurd (clash refl h)
+unranged labels scopes letter v h = refl
+unranged labels scopes label v h = absurd (clash refl h)
+unranged labels scopes end v h = absurd (clash refl h)
+unranged labels scopes name v h = refl
+unranged labels scopes kind v h = refl
+unranged labels scopes plain v h = refl
+unranged labels scopes turn v h = absurd (clash refl h)
+
+pub ranged-all : (labels scopes : ℕ) (items : List Item) (row : Row) → inRange labels scopes (ranged items) row ≡ inRange labels scopes items row
+unfolding inRange everyItem itemInRange ranged
+ranged-all labels scopes [] row = refl
+ranged-all labels scopes (byte b ∷ items) row = ranged-all labels scopes items row
+ranged-all labels scopes (field k c ∷ items) row = by (hasRange k) refl (ranged-all labels scopes items row)
+  where
+    by : (t : Bool) → hasRange k ≡ t → everyItem (itemInRange labels scopes row) (ranged items) ≡ everyItem (itemInRange labels scopes row) items
+        → everyItem (itemInRange labels scopes row) (keptRanged t (field k c) (ranged items)) ≡ (contentInRange labels scopes k (value row c) && everyItem (itemInRange labels scopes row) items)
+    by true e h = unfold keptRanged in ap (λ (b : Bool). contentInRange labels scopes k (value row c) && b) h
+    by false e h = unfold keptRanged in rw (unranged labels scopes k (value row c) e) h
+
+-- the section whose rows stand apart has the key of edges
+unfoldable isApart : Sequence → Bool
+isApart ascending = false
+isApart apart = true
+isApart once = false
+isApart free = false
+
+key-apart : (k : ℕ) → isApart (sectionAt k .sequence) ≡ true → sectionAt edgeSection .key ≡ sectionAt k .key
+unfolding isApart sectionAt sections labels pairs transitions accepts scopeCount edges declarations openPairs queries pastLast
+key-apart zero e = absurd (clash e refl)
+key-apart (suc zero) e = absurd (clash e refl)
+key-apart (suc (suc zero)) e = absurd (clash e refl)
+key-apart (suc (suc (suc zero))) e = absurd (clash e refl)
+key-apart (suc (suc (suc (suc zero)))) e = absurd (clash e refl)
+key-apart (suc (suc (suc (suc (suc zero))))) e = refl
+key-apart (suc (suc (suc (suc (suc (suc zero)))))) e = absurd (clash e refl)
+key-apart (suc (suc (suc (suc (suc (suc (suc zero))))))) e = absurd (clash e refl)
+key-apart (suc (suc (suc (suc (suc (suc (suc (suc zero)))))))) e = absurd (clash e refl)
+key-apart (suc (suc (suc (suc (suc (suc (suc (suc (suc k))))))))) e = absurd (clash e refl)
+
+pub follows-edge : (k : ℕ) (letters : List ℕ) (own : List Row) (row : Row) → apart ≡ sectionAt k .sequence
+    → follows (sectionAt k .sequence) (sectionAt k .key) letters own row ≡ (ascends (sectionAt edgeSection .key) own row && not (repeats own row))
+unfolding isApart
+follows-edge k letters own row e =
+    follows-apart (sectionAt k .sequence) (sectionAt k .key) letters own row e
+    ∙ ap (λ (key : List ℕ). ascends key own row && not (repeats own row)) (sym (key-apart k (ap isApart (sym e))))
 
 -- the refusals of the row at place p of a table, in their sequence
 module _ (form k : ℕ) (t : List ℕ) (p : ℕ) (c : Counts) where
@@ -83,17 +185,17 @@ module _ (form k : ℕ) (t : List ℕ) (p : ℕ) (c : Counts) where
   refused-full h = rw (le-ltb (c .rows) (sectionAt k .most) h)
 
   -- the fields with a range tell whether the row is in range
-  fields-range : inRange (c .labels) (c .scopes) (itemsAt (rangePlace k)) (rowOf (drop p t)) ≡ inRange (c .labels) (c .scopes) (shapeAt form k .row) (rowOf (drop p t))
+  fields-range : inRange (c .labels) (c .scopes) (itemsAt (rangePlace form k)) (rowOf (drop p t)) ≡ inRange (c .labels) (c .scopes) (shapeAt form k .row) (rowOf (drop p t))
   fields-range =
       ap (λ (items : List Item). inRange (c .labels) (c .scopes) items (rowOf (drop p t))) (range-items form k)
       ∙ ranged-all (c .labels) (c .scopes) (shapeAt form k .row) (rowOf (drop p t))
 
   module _ (room : c .rows < sectionAt k .most) where
-    pub refused-range : inRange (c .labels) (c .scopes) (itemsAt (rangePlace k)) (rowOf (drop p t)) ≡ false → admission form k (sofarAt t p c) (rowOf (drop p t)) ≡ 3
+    pub refused-range : inRange (c .labels) (c .scopes) (itemsAt (rangePlace form k)) (rowOf (drop p t)) ≡ false → admission form k (sofarAt t p c) (rowOf (drop p t)) ≡ 3
     unfolding admission sofarAt unless
     refused-range e = rw (lt-ltb (c .rows) (sectionAt k .most) room, letters-length (c .labels) (drop 1 t), ← fields-range, e)
 
-    module _ (in-range : inRange (c .labels) (c .scopes) (itemsAt (rangePlace k)) (rowOf (drop p t)) ≡ true) where
-      pub follows-last : {b : Bool} → follows (sectionAt k .sequence) (sectionAt k .key) (lettersAt (c .labels) (drop 1 t)) (c .rows) (lastAt (c .rows) p t) (rowOf (drop p t)) ≡ b → admission form k (sofarAt t p c) (rowOf (drop p t)) ≡ unless b 4 0
+    module _ (in-range : inRange (c .labels) (c .scopes) (itemsAt (rangePlace form k)) (rowOf (drop p t)) ≡ true) where
+      pub follows-last : {b : Bool} → follows (sectionAt k .sequence) (sectionAt k .key) (lettersAt (c .labels) (drop 1 t)) (rowsBack (c .rows) p t) (rowOf (drop p t)) ≡ b → admission form k (sofarAt t p c) (rowOf (drop p t)) ≡ unless b 4 0
       unfolding admission sofarAt unless
       follows-last e = rw (lt-ltb (c .rows) (sectionAt k .most) room, letters-length (c .labels) (drop 1 t), ← fields-range, in-range, e)

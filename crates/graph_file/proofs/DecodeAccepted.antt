@@ -3,6 +3,7 @@ use Prim.Native.Nat.{ℕ, _<_}
 use mathlib.Core.Path.{_≡_, refl, sym, ap, subst}
 use mathlib.Core.Bool.{Bool, true, false, _&&_}
 use mathlib.Core.Logic.{_⊎_, inl, inr, ⊎-elim}
+use mathlib.Core.Option.{some}
 use mathlib.Core.List.{List, [], _∷_, map}
 use native.Mathlib.Omega.{arith}
 use lib.Dec.{leb}
@@ -16,14 +17,15 @@ use Rattle.scope_graph.specs.Order.{endOf}
 use Rattle.scope_graph.specs.Listing.{Pairwise, EdgeBefore, MarkBefore, Accepted}
 use Rattle.scope_graph.proofs.Lists.{here, there, and-left, and-right, map-elim}
 use Rattle.scope_graph.proofs.Rows.{language-laws}
-use Rattle.graph_file.specs.Format.{Content, state, scope, mark, count, label, end, field, ascending, labels, transitions, accepts, edges, declarations, openPairs, sections, sectionAt, hasKinds, declarationShape, queryShape, shapesOf, shapeAt, labelSection, pairSection, transitionSection, acceptSection, countSection, edgeSection, declarationSection, openSection, querySection}
+use Rattle.graph_file.specs.Format.{Content, state, scope, mark, count, label, end, field, labels, transitions, accepts, edges, declarations, openPairs, sections, sectionAt, hasKinds, hasTurns, edgeShape, declarationShape, queryShape, shapesOf, shapeAt, labelSection, pairSection, transitionSection, acceptSection, countSection, edgeSection, declarationSection, openSection, querySection, turnCount}
 use Rattle.graph_file.specs.Admission.{Row, value, blank, contentInRange, itemInRange, inRange}
 use Rattle.graph_file.specs.Decode.{rowsIn, lettersOf, orderPairOf, transitionOf, rulesOf, nameAt, edgeOf, declarationOf, openPairOf, queryOf, scopesOf, graphOf, opensOf, queriesOf}
 use Rattle.graph_file.specs.Accepted.{EndListed, TransitionBefore, AcceptedTable, ReadAccepted, WrittenAccepted}
 use Rattle.graph_file.proofs.DecodeWay.{AdmittedTable}
 use Rattle.graph_file.proofs.DecodeWritten.{read-admitted, written-admitted}
-use Rattle.graph_file.proofs.DecodeRows.{item-in, KeyBefore}
+use Rattle.graph_file.proofs.DecodeRows.{item-in, Ascends, KeyBefore}
 use Rattle.graph_file.proofs.DecodeTable.{table-limit, table-count, table-in-range, table-ascends, table-order, table-letters}
+use Rattle.graph_file.proofs.DecodeEdges.{edge-key, turn-in, one-turn}
 use Rattle.graph_file.proofs.DecodePlaces.{table-rows, table-length, table-most}
 use Rattle.graph_file.proofs.DecodeOrder.{endOf-before, endOf-listed, order-passes}
 
@@ -37,13 +39,6 @@ pairwise-map f R S [] h p = tt
 pairwise-map f R S (row ∷ rows) h p = (each f (S (f row)) rows (λ b m. h row b (p .0 b m)), pairwise-map f R S rows h (p .1))
 
 -- the orders of the rules, from the orders by key
-edge-key : (r : Rules) (a b : Row) → KeyBefore (sectionAt edgeSection .key) a b → EdgeBefore (language r) (edgeOf r a) (edgeOf r b)
-unfolding sectionAt sections edges edgeOf
-edge-key r a b k =
-    ⊎-elim (λ l. inl l)
-    (λ e. inr (e .0, ⊎-elim (λ l. inl l) (λ f. inr (f .0, ⊎-elim (λ l. l) (λ g. absurd (g .1)) (f .1))) (e .1)))
-    k
-
 mark-key : (r : Rules) (a b : Row) → KeyBefore (sectionAt declarationSection .key) a b → MarkBefore (language r) (declarationOf r a) (declarationOf r b)
 unfolding sectionAt sections declarations declarationOf nameAt
 mark-key r a b k at named =
@@ -93,7 +88,32 @@ module _ (cells : List ℕ) (t : AdmittedTable cells) where
     unfolding contentInRange
     end-in m row r = endOf-listed _ _ (leb-true _ _ (field-in k h end c m row r))
 
-  -- the scope and the mark of a declaration, and the scope of a query, in either form
+  -- from, label and to of an edge, with turns and without
+  edge-from : field scope 0 ∈ shapeAt (t .form) edgeSection .row
+  unfolding edgeShape shapeAt shapesOf
+  edge-from = by (hasTurns (t .form))
+    where
+      by : (b : Bool) → field scope 0 ∈ edgeShape b .row
+      by true = here
+      by false = here
+
+  edge-label : field label 1 ∈ shapeAt (t .form) edgeSection .row
+  unfolding edgeShape shapeAt shapesOf
+  edge-label = by (hasTurns (t .form))
+    where
+      by : (b : Bool) → field label 1 ∈ edgeShape b .row
+      by true = there (there here)
+      by false = there (there here)
+
+  edge-to : field scope 2 ∈ shapeAt (t .form) edgeSection .row
+  unfolding edgeShape shapeAt shapesOf
+  edge-to = by (hasTurns (t .form))
+    where
+      by : (b : Bool) → field scope 2 ∈ edgeShape b .row
+      by true = there (there (there (there (there (there here)))))
+      by false = there (there (there (there here)))
+
+  -- the scope and the mark of a declaration, and the scope of a query, with kinds and without
   declared-at : field scope 0 ∈ shapeAt (t .form) declarationSection .row
   unfolding declarationShape shapeAt shapesOf
   declared-at = by (hasKinds (t .form))
@@ -144,43 +164,48 @@ module _ (cells : List ℕ) (t : AdmittedTable cells) where
   abbrev asOpenPair : Row → OpenPair L
   asOpenPair = openPairOf (rulesOf cells)
 
+  abbrev Beside : Edge L → Edge L → Type 0
+  Beside e f = e .from ≡ f .from → e .to ≡ f .to → L .Together (e .step) (f .step)
+
   in-range : InRange L (graphOf cells)
   unfolding graphOf edgeOf declarationOf rulesOf shapeAt shapesOf
   in-range = record {
-    from-scope = each asEdge (λ (e : Edge L). e .from < scopesOf cells) (rowsIn edgeSection cells) (scope-in edgeSection (omega arith) 0 here);
+    from-scope = each asEdge (λ (e : Edge L). e .from < scopesOf cells) (rowsIn edgeSection cells) (scope-in edgeSection (omega arith) 0 edge-from);
     to-scope = each asEdge (λ (e : Edge L). e .to < scopesOf cells) (rowsIn edgeSection cells)
-        (scope-in edgeSection (omega arith) 2 (there (there (there (there here)))));
-    listed = each asEdge (λ (e : Edge L). e .step < length (lettersOf cells)) (rowsIn edgeSection cells)
-        (label-in edgeSection (omega arith) 1 (there (there here)));
+        (scope-in edgeSection (omega arith) 2 edge-to);
+    listed = each asEdge (λ (e : Edge L). e .step .label < length (lettersOf cells)) (rowsIn edgeSection cells)
+        (label-in edgeSection (omega arith) 1 edge-label);
+    carried = each asEdge (λ (e : Edge L). L .Carried (e .step)) (rowsIn edgeSection cells) (λ row m. (value row 3, refl));
     at-scope = each asDeclaration (λ (d : Declaration L). d .at < scopesOf cells) (rowsIn declarationSection cells)
         (scope-in declarationSection (omega arith) 0 declared-at);
-    together = λ e f m n p q. tt;
+    together = λ e f m n. each asEdge (λ (x : Edge L). Beside x f) (rowsIn edgeSection cells)
+        (λ a k. each asEdge (Beside (asEdge a)) (rowsIn edgeSection cells) (λ b l from to label. ap some (one-turn cells t a b k l from label to)) f n) e m;
   }
 
   -- a section that is to ascend, in the order of what its rows stand for
-  ascend : {B : Type 0} (f : Row → B) (S : B → B → Type 0) (k : ℕ) → k < 9 → sectionAt k .sequence ≡ ascending
+  ascend : {B : Type 0} (f : Row → B) (S : B → B → Type 0) (k : ℕ) → k < 9 → Ascends (sectionAt k .sequence)
       → ((a b : Row) → KeyBefore (sectionAt k .key) a b → S (f a) (f b)) → Pairwise S (map f (rowsIn k cells))
-  ascend f S k h e s = pairwise-map f (KeyBefore (sectionAt k .key)) S (rowsIn k cells) s (table-ascends cells t k h e)
+  ascend f S k h a s = pairwise-map f (KeyBefore (sectionAt k .key)) S (rowsIn k cells) s (table-ascends cells t k h a)
 
   accepted : (q : Query L) → q .start < scopesOf cells → Accepted L (graphOf cells) (opensOf cells) q
   unfolding graphOf opensOf sectionAt sections edges declarations openPairs
   accepted q s = record {
     laws = language-laws (rulesOf cells) rules-pass;
     in-range = in-range;
-    edges-ascend = ascend asEdge (EdgeBefore L) edgeSection (omega arith) refl (edge-key (rulesOf cells));
-    declarations-ascend = ascend asDeclaration (MarkBefore L) declarationSection (omega arith) refl (mark-key (rulesOf cells));
-    opens-ascend = ascend asOpenPair (PairBefore L) openSection (omega arith) refl (open-key (rulesOf cells));
+    edges-ascend = ascend asEdge (EdgeBefore L) edgeSection (omega arith) tt (edge-key (rulesOf cells));
+    declarations-ascend = ascend asDeclaration (MarkBefore L) declarationSection (omega arith) tt (mark-key (rulesOf cells));
+    opens-ascend = ascend asOpenPair (PairBefore L) openSection (omega arith) tt (open-key (rulesOf cells));
     starts = s;
   }
 
   pub table-accepted : AcceptedTable cells
-  unfolding rulesOf graphOf opensOf queriesOf orderPairOf transitionOf declarationOf openPairOf queryOf lettersOf sectionAt sections labels transitions shapeAt shapesOf
+  unfolding rulesOf graphOf opensOf queriesOf orderPairOf transitionOf edgeOf declarationOf openPairOf queryOf lettersOf sectionAt sections labels transitions shapeAt shapesOf
   table-accepted = record {
     rules = rules-pass;
     accepted = accepted;
     starts = each (queryOf (rulesOf cells)) (λ (q : Query L). q .start < scopesOf cells) (rowsIn querySection cells)
         (scope-in querySection (omega arith) 0 query-start);
-    transitions-ascend = ascend transitionOf TransitionBefore transitionSection (omega arith) refl transition-key;
+    transitions-ascend = ascend transitionOf TransitionBefore transitionSection (omega arith) tt transition-key;
     limits = table-limit cells t;
     labels = rw (length-map (rowsIn labelSection cells) (λ (row : Row). value row 0)) (table-limit cells t labelSection (omega arith));
     letters = table-letters cells t;
@@ -190,6 +215,8 @@ module _ (cells : List ℕ) (t : AdmittedTable cells) where
         (λ row m. (end-in pairSection (omega arith) 0 here row m, end-in pairSection (omega arith) 1 (there (there here)) row m));
     states = each transitionOf (λ (x : Transition). x .state < 16) (rowsIn transitionSection cells) (state-in transitionSection (omega arith) 0 here);
     accepts = each (λ (row : Row). value row 0) (λ s. s < 16) (rowsIn acceptSection cells) (state-in acceptSection (omega arith) 0 here);
+    turns = each asEdge (λ (e : Edge L). (n : ℕ) → e .step .turn ≡ some n → n < turnCount) (rowsIn edgeSection cells)
+        (λ row m n e. let same : value row 3 ≡ n = cc in subst (λ v. v < turnCount) same (turn-in cells t row m));
     marks = each asDeclaration (λ (d : Declaration L). d .mark < 65536) (rowsIn declarationSection cells)
         (mark-in declarationSection (omega arith) 4 declared-mark);
     open-at = each asOpenPair (λ (o : OpenPair L). o .at < scopesOf cells) (rowsIn openSection cells) (scope-in openSection (omega arith) 0 here);

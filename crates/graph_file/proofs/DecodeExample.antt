@@ -1,6 +1,7 @@
 -- The scope graph of document 01's example, and of a file with kinds, computed from their tables by
 -- the definitions. Assumes nothing.
 use mathlib.Core.Path.{_≡_, refl}
+use mathlib.Core.Option.{some}
 use mathlib.Core.List.{[], _∷_}
 use Rattle.scope_graph.specs.Language.{stop, by}
 use Rattle.scope_graph.specs.Rows.{PackedName}
@@ -31,7 +32,7 @@ example-rules = refl
 example-graph : graphOf exampleCells
     ≡ record {
       scopes = 5;
-      edges = record { from = 1; step = 1; to = 0 } ∷ record { from = 2; step = 0; to = 4 } ∷ record { from = 2; step = 1; to = 1 } ∷ record { from = 3; step = 1; to = 1 } ∷ [];
+      edges = record { from = 1; step = record { label = 1; turn = some 0 }; to = 0 } ∷ record { from = 2; step = record { label = 0; turn = some 0 }; to = 4 } ∷ record { from = 2; step = record { label = 1; turn = some 0 }; to = 1 } ∷ record { from = 3; step = record { label = 1; turn = some 0 }; to = 1 } ∷ [];
       declarations = record { at = 0; name = hours; mark = 5 } ∷ record { at = 1; name = service; mark = 10 } ∷ record { at = 2; name = service; mark = 21 } ∷ record { at = 4; name = hours; mark = 40 } ∷ [];
     }
 unfolding hours service keptIf rowsAmong rowsIn nameAt edgeOf declarationOf scopesOf graphOf

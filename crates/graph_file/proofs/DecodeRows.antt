@@ -13,8 +13,9 @@ use Rattle.scope_graph.specs.Language.{_∈_}
 use Rattle.scope_graph.specs.Path.{Distinct}
 use Rattle.scope_graph.specs.Listing.{Pairwise}
 use Rattle.scope_graph.proofs.Lists.{Two, and-left, and-right, and-both, or-cases, or-left, or-right, true-false, not-is, not-true}
-use Rattle.graph_file.specs.Format.{Content, state, scope, mark, count, letter, label, end, name, kind, plain, Item, byte, field, everyItem, ascending, labels, scopeCount, sections, sectionAt, shapeAt, labelSection, countSection}
-use Rattle.graph_file.specs.Admission.{Row, value, Sofar, joined, counted, taken, contentInRange, itemInRange, inRange, keyLess, listed, follows, unless, admission}
+use Rattle.graph_file.specs.Format.{Content, state, scope, mark, count, letter, label, end, name, kind, plain, turn, Item, byte, field, everyItem, Sequence, ascending, apart, once, free, labels, scopeCount, sections, sectionAt, shapeAt, labelSection, countSection}
+use Rattle.graph_file.specs.Admission.{Row, value, Sofar, joined, counted, taken, contentInRange, itemInRange, inRange, keyLess, listed, ascends, follows, unless, admission}
+use Rattle.graph_file.specs.Line.{formed}
 use Rattle.graph_file.proofs.DecodeWay.{takenAll, AdmittedRows}
 
 -- the three tests of an admitted row
@@ -26,7 +27,7 @@ unless-zero false n o e = absurd (let z : _≡_ {A = ℕ} (suc n) 0 = e in omega
 pub record Passed (form k : ℕ) (st : Sofar) (row : Row) : Type 0 where
   pub room : st .rows < sectionAt k .most
   pub in-range : inRange (length (st .letters)) (st .scopes) (shapeAt form k .row) row ≡ true
-  pub follow : follows (sectionAt k .sequence) (sectionAt k .key) (st .letters) (st .rows) (st .last) row ≡ true
+  pub follow : follows (sectionAt k .sequence) (sectionAt k .key) (st .letters) (st .own) row ≡ true
 
 pub passed : (form k : ℕ) (st : Sofar) (row : Row) → admission form k st row ≡ 0 → Passed form k st row
 unfolding admission
@@ -35,6 +36,13 @@ passed form k st row e =
     let b = unless-zero _ 2 _ (a .1) in
     let c = unless-zero _ 3 _ (b .1) in
     record { room = ltb-true _ _ (a .0); in-range = b .0; follow = c .0 }
+
+-- each admitted row has its five values, with a text
+pub rows-stand : (form k : ℕ) (st : Sofar) (rows : List Row) → AdmittedRows form k st rows → (row : Row) → row ∈ rows
+    → (length row ≡ 5) × (formed (shapeAt form k .row) row ≡ true)
+rows-stand form k st [] h row m = absurd (List·Memᴰ·not-nil m)
+rows-stand form k st (first ∷ rows) h row m =
+    ⊎-elim (λ e. rw e (h .1, h .3)) (λ n. rows-stand form k (taken k st first) rows (h .2) row n) (List·Memᴰ·cases-cons m)
 
 -- a section's limit
 pub rows-limit : (form k : ℕ) (st : Sofar) (rows : List Row) → AdmittedRows form k st rows → st .rows ≤ sectionAt k .most → st .rows + length rows ≤ sectionAt k .most
@@ -60,6 +68,7 @@ module _ (a b c d : ℕ) (labels : a ≤ b) (scopes : c ≤ d) where
   content-grows name v h = h
   content-grows kind v h = h
   content-grows plain v h = h
+  content-grows turn v h = h
 
   item-grows : (row : Row) (i : Item) → itemInRange a c row i ≡ true → itemInRange b d row i ≡ true
   unfolding itemInRange
@@ -174,28 +183,52 @@ key-then (p ∷ key) a b c (inl h) (inr k) = inl (let e = k .0 in omega arith)
 key-then (p ∷ key) a b c (inr h) (inl k) = inl (let e = h .0 in omega arith)
 key-then (p ∷ key) a b c (inr h) (inr k) = inr (h .0 ∙ k .0, key-then key a b c (h .1) (k .1))
 
--- rows of an ascending section ascend, each before all that come later
-follow-key : (form k : ℕ) (st : Sofar) (row : Row) → sectionAt k .sequence ≡ ascending → Passed form k st row → 1 ≤ st .rows
-    → KeyBefore (sectionAt k .key) (st .last) row
+-- The sections whose rows ascend.
+abbrev pub Ascends : Sequence → Type 0
+Ascends ascending = Unit {0}
+Ascends apart = Unit {0}
+Ascends once = ⊥
+Ascends free = ⊥
+
+follow-ascends : (q : Sequence) (key letters : List ℕ) (own : List Row) (row : Row) → Ascends q → follows q key letters own row ≡ true
+    → ascends key own row ≡ true
 unfolding follows
-follow-key form k st row e p n =
-    ⊎-elim (λ z. absurd (let q = eqb-true (st .rows) 0 z in omega arith)) (λ l. key-before (sectionAt k .key) (st .last) row l)
-    (or-cases (eqb (st .rows) 0) _ (rw e at (p .follow)))
+follow-ascends ascending key letters own row a h = h
+follow-ascends apart key letters own row a h = and-left _ _ h
+follow-ascends once key letters own row a h = absurd a
+follow-ascends free key letters own row a h = absurd a
 
-rows-ascend-after : (form k : ℕ) (st : Sofar) (rows : List Row) → sectionAt k .sequence ≡ ascending → AdmittedRows form k st rows → 1 ≤ st .rows
-    → ((row : Row) → row ∈ rows → KeyBefore (sectionAt k .key) (st .last) row) × Pairwise (KeyBefore (sectionAt k .key)) rows
+-- the last of the rows above, if there is any, stands before the row
+abbrev pub LastBefore : List ℕ → List Row → Row → Type 0
+LastBefore key [] row = Unit {0}
+LastBefore key (last ∷ above) row = KeyBefore key last row
+
+last-before : (key : List ℕ) (own : List Row) (row : Row) → ascends key own row ≡ true → LastBefore key own row
+unfolding ascends
+last-before key [] row h = tt
+last-before key (last ∷ above) row h = key-before key last row h
+
+last-then : (key : List ℕ) (own : List Row) (row later : Row) → LastBefore key own row → KeyBefore key row later → LastBefore key own later
+last-then key [] row later h k = tt
+last-then key (last ∷ above) row later h k = key-then key last row later h k
+
+pub row-after : (form k : ℕ) (st : Sofar) (row : Row) → Ascends (sectionAt k .sequence) → Passed form k st row → LastBefore (sectionAt k .key) (st .own) row
+row-after form k st row a p =
+    last-before (sectionAt k .key) (st .own) row (follow-ascends (sectionAt k .sequence) (sectionAt k .key) (st .letters) (st .own) row a (p .follow))
+
+-- rows of such a section ascend, each before all that come later
+rows-after : (form k : ℕ) (st : Sofar) (rows : List Row) → Ascends (sectionAt k .sequence) → AdmittedRows form k st rows
+    → ((row : Row) → row ∈ rows → LastBefore (sectionAt k .key) (st .own) row) × Pairwise (KeyBefore (sectionAt k .key)) rows
 unfolding taken
-rows-ascend-after form k st [] e h n = ((λ row m. absurd (List·Memᴰ·not-nil m)), tt)
-rows-ascend-after form k st (row ∷ rows) e h n =
-    let p = follow-key form k st row e (passed form k st row (h .0)) n in
-    let r = rows-ascend-after form k (taken k st row) rows e (h .2) (omega arith) in
-    ((λ later m. ⊎-elim (λ q. rw q p) (λ q. key-then (sectionAt k .key) (st .last) row later p (r .0 later q)) (List·Memᴰ·cases-cons m)), r)
+rows-after form k st [] a h = ((λ row m. absurd (List·Memᴰ·not-nil m)), tt)
+rows-after form k st (row ∷ rows) a h =
+    let p = row-after form k st row a (passed form k st row (h .0)) in
+    let r = rows-after form k (taken k st row) rows a (h .2) in
+    ((λ later m. ⊎-elim (λ q. rw q p) (λ q. last-then (sectionAt k .key) (st .own) row later p (r .0 later q)) (List·Memᴰ·cases-cons m)), r)
 
-pub rows-ascend : (form k : ℕ) (st : Sofar) (rows : List Row) → sectionAt k .sequence ≡ ascending → AdmittedRows form k st rows
+pub rows-ascend : (form k : ℕ) (st : Sofar) (rows : List Row) → Ascends (sectionAt k .sequence) → AdmittedRows form k st rows
     → Pairwise (KeyBefore (sectionAt k .key)) rows
-unfolding taken
-rows-ascend form k st [] e h = tt
-rows-ascend form k st (row ∷ rows) e h = rows-ascend-after form k (taken k st row) rows e (h .2) (omega arith)
+rows-ascend form k st rows a h = rows-after form k st rows a h .1
 
 -- a label's letter is none of the letters before it, so each stands once
 not-listed : (x : ℕ) (ys : List ℕ) → listed x ys ≡ false → ¬ (x ∈ ys)

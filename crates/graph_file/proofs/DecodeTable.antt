@@ -10,12 +10,14 @@ use lib.Seq.{append-snoc}
 use Rattle.scope_graph.specs.Language.{_∈_}
 use Rattle.scope_graph.specs.Path.{Distinct}
 use Rattle.scope_graph.specs.Listing.{Pairwise}
-use Rattle.graph_file.specs.Format.{scopeCount, sections, sectionAt, shapeAt, ascending, labelSection, pairSection, countSection}
-use Rattle.graph_file.specs.Admission.{Row, value, blank, Sofar, nothing, begun, joined, counted, taken, inRange}
+use Rattle.graph_file.specs.Format.{scopeCount, sections, sectionAt, shapeAt, labelSection, pairSection, countSection, edgeSection}
+use Rattle.graph_file.specs.Admission.{Row, value, blank, Sofar, nothing, begun, joined, counted, taken, inRange, sameEdge}
+use Rattle.graph_file.specs.Line.{formed}
 use Rattle.graph_file.specs.Order.{orderFault}
 use Rattle.graph_file.specs.Decode.{rowsAmong, rowsIn, lettersOf, scopesOf}
 use Rattle.graph_file.proofs.DecodeWay.{sofarAfter, AdmittedTable}
-use Rattle.graph_file.proofs.DecodeRows.{KeyBefore, rows-limit, rows-in-range, rows-ascend, rows-once}
+use Rattle.graph_file.proofs.DecodeRows.{Ascends, KeyBefore, rows-stand, rows-limit, rows-in-range, rows-ascend, rows-once}
+use Rattle.graph_file.proofs.ApartLaws.{rows-apart}
 use Rattle.graph_file.proofs.DecodeSections.{gathered, among-sections, SectionAt, section-at, fold, folded}
 
 -- the one row of a list of one
@@ -94,9 +96,18 @@ module _ (cells : List ℕ) (t : AdmittedTable cells) where
       let s = section-in k h in
       rw (end-letters, end-scopes) at (rows-in-range (t .form) k (begun (s .before)) atEnd (rowsIn k cells) (s .admitted) (s .fresh) (s .grows) row m)
 
+  -- every row has a text
+  pub table-formed : (k : ℕ) → k < 9 → (row : Row) → row ∈ rowsIn k cells → formed (shapeAt (t .form) k .row) row ≡ true
+  table-formed k h row m = let s = section-in k h in rows-stand (t .form) k (begun (s .before)) (rowsIn k cells) (s .admitted) row m .1
+
   -- the rows of a section that is to ascend do so by its key
-  pub table-ascends : (k : ℕ) → k < 9 → sectionAt k .sequence ≡ ascending → Pairwise (KeyBefore (sectionAt k .key)) (rowsIn k cells)
-  table-ascends k h e = let s = section-in k h in rows-ascend (t .form) k (begun (s .before)) (rowsIn k cells) e (s .admitted)
+  pub table-ascends : (k : ℕ) → k < 9 → Ascends (sectionAt k .sequence) → Pairwise (KeyBefore (sectionAt k .key)) (rowsIn k cells)
+  table-ascends k h a = let s = section-in k h in rows-ascend (t .form) k (begun (s .before)) (rowsIn k cells) a (s .admitted)
+
+  -- no edge stands twice
+  pub table-apart : Pairwise (λ (a b : Row). sameEdge a b ≡ false) (rowsIn edgeSection cells)
+  unfolding begun
+  table-apart = let s = section-in edgeSection (omega arith) in rows-apart (t .form) (begun (s .before)) (rowsIn edgeSection cells) tt (s .admitted) .1
 
   -- refusal 6 is not met
   pub table-order : orderFault (rowsIn pairSection cells) ≡ false

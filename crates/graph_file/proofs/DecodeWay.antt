@@ -8,7 +8,7 @@ use mathlib.Core.List.{List, [], _∷_, _++_}
 use native.Mathlib.Omega.{arith}
 use lib.ListN.{length, drop}
 use borrow.Author.Tests.{ltb-false, leb-true, eqb-true}
-use Rattle.graph_file.specs.Format.{sectionAt, shapeAt, kindForm}
+use Rattle.graph_file.specs.Format.{sectionAt, shapeAt, turnForm}
 use Rattle.text_field.specs.Outcome.{Outcome, refused, done, andThen, refuseIf}
 use Rattle.graph_file.specs.Admission.{Row, rowOf, Sofar, nothing, begun, taken, admission}
 use Rattle.graph_file.specs.Line.{formed}
@@ -117,16 +117,16 @@ unfolding hasForm formIn
 form-first [] h = absurd (false≢true h)
 form-first (x ∷ cells) h = refl
 
-pub known-form : (cells : List ℕ) → hasForm cells ≡ true → formIn cells ≤ kindForm
+pub known-form : (cells : List ℕ) → hasForm cells ≡ true → formIn cells ≤ turnForm
 unfolding hasForm formIn
 known-form [] h = absurd (false≢true h)
-known-form (x ∷ cells) h = leb-true x kindForm h
+known-form (x ∷ cells) h = leb-true x turnForm h
 
 -- A table whose rows, section by section, are admitted in a file of its form, which is a known one,
 -- and whose order pairs have no fault.
 pub record AdmittedTable (cells : List ℕ) : Type 0 where
   pub form : ℕ
-  pub known : form ≤ kindForm
+  pub known : form ≤ turnForm
   pub sections : List (List Row)
   pub count : length sections ≡ 9
   pub cells-are : cells ≡ form ∷ tableCells 0 sections

@@ -7,88 +7,101 @@ use mathlib.Core.Bool.{Bool, true, false, _&&_}
 use native.Mathlib.Omega.{arith}
 use native.Mathlib.Numerals.{add-one}
 use lib.Dec.{leb}
-use Rattle.text_field.proofs.ByteLaws.{clash}
 use borrow.Author.Tests.{ne-eqb, lt-ltb, le-ltb, le-leb}
 use lib.ListN.{length, getD, drop, List·getD-map}
-use Rattle.graph_file.specs.Format.{Content, state, scope, mark, count, letter, label, end, name, kind, plain, Item, byte, field, valuesOf, everyItem, Section, labels, pairs, transitions, accepts, scopeCount, edges, declarations, openPairs, queries, pastLast, sections, sectionAt, kindForm, hasKinds, declarationShape, queryShape, shapesOf, shapeAt}
-use Rattle.graph_file.specs.Admission.{Row, value, contentInRange, itemInRange, inRange}
+use Rattle.graph_file.specs.Format.{Item, byte, field, valuesOf, everyItem, Section, labels, pairs, transitions, accepts, scopeCount, edges, declarations, openPairs, queries, pastLast, sections, sectionAt, hasKinds, hasTurns, edgeShape, declarationShape, queryShape, shapesOf, shapeAt}
 use Rattle.graph_file.specs.Line.{sparesPlace}
-use Rattle.graph_file.specs.Table.{contentNumber, code, contentOf, itemOf, shapeBytes, hasRange, keptRanged, ranged, layout, layouts, formatBytes, lineStep, lineOf, itemsAt, keyStep, keyOf, keyAt, placeBy, namesPlace, rowPlace, rangePlace, keyPlace}
+use Rattle.graph_file.specs.Table.{contentNumber, code, contentOf, itemOf, shapeBytes, hasRange, keptRanged, ranged, rangeBytes, layout, layouts, formatBytes, lineStep, lineOf, itemsAt, keyStep, keyOf, keyAt, placeBy, namesPlace, rowPlace, rangePlace, keyPlace, filledPlace}
 
 -- where the shape goes by the form, the line at either place is the shape's: both are computed
-declaration-names : (t : Bool) → itemsAt (elim t as (λ _. ℕ) [ true ↦ 179 | false ↦ 113 ]) ≡ map byte (declarationShape t .names)
-unfolding labels pairs transitions accepts scopeCount edges declarations openPairs queries pastLast sections hasKinds declarationShape queryShape shapesOf contentNumber code contentOf itemOf shapeBytes hasRange keptRanged ranged layout layouts formatBytes lineStep lineOf itemsAt
+declaration-names : (t : Bool) → itemsAt (elim t as (λ _. ℕ) [ true ↦ 180 | false ↦ 114 ]) ≡ map byte (declarationShape t .names)
+unfolding labels pairs transitions accepts scopeCount edges declarations openPairs queries pastLast sections hasKinds hasTurns edgeShape declarationShape queryShape shapesOf contentNumber code contentOf itemOf shapeBytes hasRange keptRanged ranged rangeBytes layout layouts formatBytes lineStep lineOf itemsAt
 declaration-names true = refl
 declaration-names false = refl
 
-query-names : (t : Bool) → itemsAt (elim t as (λ _. ℕ) [ true ↦ 205 | false ↦ 160 ]) ≡ map byte (queryShape t .names)
-unfolding labels pairs transitions accepts scopeCount edges declarations openPairs queries pastLast sections hasKinds declarationShape queryShape shapesOf contentNumber code contentOf itemOf shapeBytes hasRange keptRanged ranged layout layouts formatBytes lineStep lineOf itemsAt
+query-names : (t : Bool) → itemsAt (elim t as (λ _. ℕ) [ true ↦ 206 | false ↦ 161 ]) ≡ map byte (queryShape t .names)
+unfolding labels pairs transitions accepts scopeCount edges declarations openPairs queries pastLast sections hasKinds hasTurns edgeShape declarationShape queryShape shapesOf contentNumber code contentOf itemOf shapeBytes hasRange keptRanged ranged rangeBytes layout layouts formatBytes lineStep lineOf itemsAt
 query-names true = refl
 query-names false = refl
 
-declaration-row : (t : Bool) → itemsAt (elim t as (λ _. ℕ) [ true ↦ 197 | false ↦ 126 ]) ≡ declarationShape t .row
-unfolding labels pairs transitions accepts scopeCount edges declarations openPairs queries pastLast sections hasKinds declarationShape queryShape shapesOf contentNumber code contentOf itemOf shapeBytes hasRange keptRanged ranged layout layouts formatBytes lineStep lineOf itemsAt
+declaration-row : (t : Bool) → itemsAt (elim t as (λ _. ℕ) [ true ↦ 198 | false ↦ 127 ]) ≡ declarationShape t .row
+unfolding labels pairs transitions accepts scopeCount edges declarations openPairs queries pastLast sections hasKinds hasTurns edgeShape declarationShape queryShape shapesOf contentNumber code contentOf itemOf shapeBytes hasRange keptRanged ranged rangeBytes layout layouts formatBytes lineStep lineOf itemsAt
 declaration-row true = refl
 declaration-row false = refl
 
-query-row : (t : Bool) → itemsAt (elim t as (λ _. ℕ) [ true ↦ 221 | false ↦ 171 ]) ≡ queryShape t .row
-unfolding labels pairs transitions accepts scopeCount edges declarations openPairs queries pastLast sections hasKinds declarationShape queryShape shapesOf contentNumber code contentOf itemOf shapeBytes hasRange keptRanged ranged layout layouts formatBytes lineStep lineOf itemsAt
+query-row : (t : Bool) → itemsAt (elim t as (λ _. ℕ) [ true ↦ 222 | false ↦ 172 ]) ≡ queryShape t .row
+unfolding labels pairs transitions accepts scopeCount edges declarations openPairs queries pastLast sections hasKinds hasTurns edgeShape declarationShape queryShape shapesOf contentNumber code contentOf itemOf shapeBytes hasRange keptRanged ranged rangeBytes layout layouts formatBytes lineStep lineOf itemsAt
 query-row true = refl
 query-row false = refl
 
-declaration-range : (t : Bool) → itemsAt 133 ≡ ranged (declarationShape t .row)
-unfolding labels pairs transitions accepts scopeCount edges declarations openPairs queries pastLast sections hasKinds declarationShape queryShape shapesOf contentNumber code contentOf itemOf shapeBytes hasRange keptRanged ranged layout layouts formatBytes lineStep lineOf itemsAt
+declaration-range : (t : Bool) → itemsAt 134 ≡ ranged (declarationShape t .row)
+unfolding labels pairs transitions accepts scopeCount edges declarations openPairs queries pastLast sections hasKinds hasTurns edgeShape declarationShape queryShape shapesOf contentNumber code contentOf itemOf shapeBytes hasRange keptRanged ranged rangeBytes layout layouts formatBytes lineStep lineOf itemsAt
 declaration-range true = refl
 declaration-range false = refl
 
-query-range : (t : Bool) → itemsAt 176 ≡ ranged (queryShape t .row)
-unfolding labels pairs transitions accepts scopeCount edges declarations openPairs queries pastLast sections hasKinds declarationShape queryShape shapesOf contentNumber code contentOf itemOf shapeBytes hasRange keptRanged ranged layout layouts formatBytes lineStep lineOf itemsAt
+query-range : (t : Bool) → itemsAt 177 ≡ ranged (queryShape t .row)
+unfolding labels pairs transitions accepts scopeCount edges declarations openPairs queries pastLast sections hasKinds hasTurns edgeShape declarationShape queryShape shapesOf contentNumber code contentOf itemOf shapeBytes hasRange keptRanged ranged rangeBytes layout layouts formatBytes lineStep lineOf itemsAt
 query-range true = refl
 query-range false = refl
+
+edge-names : (t : Bool) → itemsAt (elim t as (λ _. ℕ) [ true ↦ 228 | false ↦ 85 ]) ≡ map byte (edgeShape t .names)
+unfolding labels pairs transitions accepts scopeCount edges declarations openPairs queries pastLast sections hasKinds hasTurns edgeShape declarationShape queryShape shapesOf contentNumber code contentOf itemOf shapeBytes hasRange keptRanged ranged rangeBytes layout layouts formatBytes lineStep lineOf itemsAt
+edge-names true = refl
+edge-names false = refl
+
+edge-row : (t : Bool) → itemsAt (elim t as (λ _. ℕ) [ true ↦ 247 | false ↦ 99 ]) ≡ edgeShape t .row
+unfolding labels pairs transitions accepts scopeCount edges declarations openPairs queries pastLast sections hasKinds hasTurns edgeShape declarationShape queryShape shapesOf contentNumber code contentOf itemOf shapeBytes hasRange keptRanged ranged rangeBytes layout layouts formatBytes lineStep lineOf itemsAt
+edge-row true = refl
+edge-row false = refl
+
+edge-range : (t : Bool) → itemsAt (elim t as (λ _. ℕ) [ true ↦ 255 | false ↦ 105 ]) ≡ ranged (edgeShape t .row)
+unfolding labels pairs transitions accepts scopeCount edges declarations openPairs queries pastLast sections hasKinds hasTurns edgeShape declarationShape queryShape shapesOf contentNumber code contentOf itemOf shapeBytes hasRange keptRanged ranged rangeBytes layout layouts formatBytes lineStep lineOf itemsAt
+edge-range true = refl
+edge-range false = refl
 
 -- the line at each section's places is its names line, its row, its fields with a range, and the
 -- key there its key
 pub names-items : (form k : ℕ) → itemsAt (namesPlace form k) ≡ map byte (shapeAt form k .names)
-unfolding labels pairs transitions accepts scopeCount edges declarations openPairs queries pastLast sections hasKinds declarationShape queryShape shapesOf shapeAt contentNumber code contentOf itemOf shapeBytes hasRange keptRanged ranged layout layouts formatBytes lineStep lineOf itemsAt placeBy namesPlace
+unfolding labels pairs transitions accepts scopeCount edges declarations openPairs queries pastLast sections hasKinds hasTurns edgeShape declarationShape queryShape shapesOf shapeAt contentNumber code contentOf itemOf shapeBytes hasRange keptRanged ranged rangeBytes layout layouts formatBytes lineStep lineOf itemsAt placeBy namesPlace
 names-items form zero = refl
 names-items form (suc zero) = refl
 names-items form (suc (suc zero)) = refl
 names-items form (suc (suc (suc zero))) = refl
 names-items form (suc (suc (suc (suc zero)))) = refl
-names-items form (suc (suc (suc (suc (suc zero))))) = refl
+names-items form (suc (suc (suc (suc (suc zero))))) = edge-names (hasTurns form)
 names-items form (suc (suc (suc (suc (suc (suc zero)))))) = declaration-names (hasKinds form)
 names-items form (suc (suc (suc (suc (suc (suc (suc zero))))))) = refl
 names-items form (suc (suc (suc (suc (suc (suc (suc (suc zero)))))))) = query-names (hasKinds form)
 names-items form (suc (suc (suc (suc (suc (suc (suc (suc (suc k))))))))) = refl
 
 pub row-items : (form k : ℕ) → itemsAt (rowPlace form k) ≡ shapeAt form k .row
-unfolding labels pairs transitions accepts scopeCount edges declarations openPairs queries pastLast sections hasKinds declarationShape queryShape shapesOf shapeAt contentNumber code contentOf itemOf shapeBytes hasRange keptRanged ranged layout layouts formatBytes lineStep lineOf itemsAt placeBy rowPlace
+unfolding labels pairs transitions accepts scopeCount edges declarations openPairs queries pastLast sections hasKinds hasTurns edgeShape declarationShape queryShape shapesOf shapeAt contentNumber code contentOf itemOf shapeBytes hasRange keptRanged ranged rangeBytes layout layouts formatBytes lineStep lineOf itemsAt placeBy rowPlace
 row-items form zero = refl
 row-items form (suc zero) = refl
 row-items form (suc (suc zero)) = refl
 row-items form (suc (suc (suc zero))) = refl
 row-items form (suc (suc (suc (suc zero)))) = refl
-row-items form (suc (suc (suc (suc (suc zero))))) = refl
+row-items form (suc (suc (suc (suc (suc zero))))) = edge-row (hasTurns form)
 row-items form (suc (suc (suc (suc (suc (suc zero)))))) = declaration-row (hasKinds form)
 row-items form (suc (suc (suc (suc (suc (suc (suc zero))))))) = refl
 row-items form (suc (suc (suc (suc (suc (suc (suc (suc zero)))))))) = query-row (hasKinds form)
 row-items form (suc (suc (suc (suc (suc (suc (suc (suc (suc k))))))))) = refl
 
-pub range-items : (form k : ℕ) → itemsAt (rangePlace k) ≡ ranged (shapeAt form k .row)
-unfolding labels pairs transitions accepts scopeCount edges declarations openPairs queries pastLast sections hasKinds declarationShape queryShape shapesOf shapeAt contentNumber code contentOf itemOf shapeBytes hasRange keptRanged ranged layout layouts formatBytes lineStep lineOf itemsAt rangePlace
+pub range-items : (form k : ℕ) → itemsAt (rangePlace form k) ≡ ranged (shapeAt form k .row)
+unfolding labels pairs transitions accepts scopeCount edges declarations openPairs queries pastLast sections hasKinds hasTurns edgeShape declarationShape queryShape shapesOf shapeAt contentNumber code contentOf itemOf shapeBytes hasRange keptRanged ranged rangeBytes layout layouts formatBytes lineStep lineOf itemsAt placeBy rangePlace
 range-items form zero = refl
 range-items form (suc zero) = refl
 range-items form (suc (suc zero)) = refl
 range-items form (suc (suc (suc zero))) = refl
 range-items form (suc (suc (suc (suc zero)))) = refl
-range-items form (suc (suc (suc (suc (suc zero))))) = refl
+range-items form (suc (suc (suc (suc (suc zero))))) = edge-range (hasTurns form)
 range-items form (suc (suc (suc (suc (suc (suc zero)))))) = declaration-range (hasKinds form)
 range-items form (suc (suc (suc (suc (suc (suc (suc zero))))))) = refl
 range-items form (suc (suc (suc (suc (suc (suc (suc (suc zero)))))))) = query-range (hasKinds form)
 range-items form (suc (suc (suc (suc (suc (suc (suc (suc (suc k))))))))) = refl
 
 pub key-items : (k : ℕ) → keyAt (keyPlace k) ≡ sectionAt k .key
-unfolding labels pairs transitions accepts scopeCount edges declarations openPairs queries pastLast sections hasKinds declarationShape queryShape shapesOf contentNumber code contentOf itemOf shapeBytes hasRange keptRanged ranged layout layouts formatBytes sectionAt keyStep keyOf keyAt keyPlace
+unfolding labels pairs transitions accepts scopeCount edges declarations openPairs queries pastLast sections hasKinds hasTurns edgeShape declarationShape queryShape shapesOf contentNumber code contentOf itemOf shapeBytes hasRange keptRanged ranged rangeBytes layout layouts formatBytes sectionAt keyStep keyOf keyAt keyPlace
 key-items zero = refl
 key-items (suc zero) = refl
 key-items (suc (suc zero)) = refl
@@ -148,6 +161,11 @@ by-place A a b c e f g (suc (suc (suc (suc zero)))) = f
 by-place A a b c e f g (suc (suc (suc (suc (suc n))))) = g (suc (suc (suc (suc (suc n))))) (omega arith)
 
 -- the items of a row leave alone the places from this one on: at the five places by computing
+edge-spares : (t : Bool) (d : ℕ) → everyItem (sparesPlace d) (edgeShape t .row) ≡ leb (elim t as (λ _. ℕ) [ true ↦ 4 | false ↦ 3 ]) d
+unfolding edgeShape everyItem sparesPlace valuesOf
+edge-spares true = by-place (λ d. everyItem (sparesPlace d) (edgeShape true .row) ≡ leb 4 d) refl refl refl refl refl (λ d h. simp (le-ltb d 0 (omega arith), le-ltb d 1 (omega arith), le-ltb d 2 (omega arith), le-ltb d 3 (omega arith), le-leb 1 d (omega arith), le-leb 2 d (omega arith), le-leb 3 d (omega arith), le-leb 4 d (omega arith)))
+edge-spares false = by-place (λ d. everyItem (sparesPlace d) (edgeShape false .row) ≡ leb 3 d) refl refl refl refl refl (λ d h. simp (le-ltb d 0 (omega arith), le-ltb d 1 (omega arith), le-ltb d 2 (omega arith), le-leb 1 d (omega arith), le-leb 2 d (omega arith), le-leb 3 d (omega arith)))
+
 declaration-spares : (t : Bool) (d : ℕ) → everyItem (sparesPlace d) (declarationShape t .row) ≡ leb 5 d
 unfolding declarationShape everyItem sparesPlace valuesOf
 declaration-spares true = by-place (λ d. everyItem (sparesPlace d) (declarationShape true .row) ≡ leb 5 d) refl refl refl refl refl (λ d h. simp (le-ltb d 0 (omega arith), le-ltb d 1 (omega arith), le-ltb d 2 (omega arith), le-ltb d 4 (omega arith), le-leb 1 d (omega arith), le-leb 2 d (omega arith), le-leb 4 d (omega arith), le-leb 5 d (omega arith)))
@@ -158,37 +176,23 @@ unfolding queryShape everyItem sparesPlace valuesOf
 query-spares true = by-place (λ d. everyItem (sparesPlace d) (queryShape true .row) ≡ leb 4 d) refl refl refl refl refl (λ d h. simp (le-ltb d 0 (omega arith), le-ltb d 1 (omega arith), le-ltb d 2 (omega arith), le-leb 1 d (omega arith), le-leb 2 d (omega arith), le-leb 4 d (omega arith)))
 query-spares false = by-place (λ d. everyItem (sparesPlace d) (queryShape false .row) ≡ leb 4 d) refl refl refl refl refl (λ d h. simp (le-ltb d 0 (omega arith), le-ltb d 1 (omega arith), le-ltb d 2 (omega arith), le-leb 1 d (omega arith), le-leb 2 d (omega arith), le-leb 4 d (omega arith)))
 
-abbrev pub useds : List ℕ
-useds = 1 ∷ 2 ∷ 3 ∷ 1 ∷ 1 ∷ 3 ∷ 5 ∷ 2 ∷ 4 ∷ []
+pub filled-at : (form k d : ℕ) → everyItem (sparesPlace d) (shapeAt form k .row) ≡ leb (filledPlace form k) d
+unfolding shapesOf shapeAt everyItem sparesPlace valuesOf placeBy filledPlace
+filled-at form zero = by-place (λ d. everyItem (sparesPlace d) (shapeAt form 0 .row) ≡ leb 1 d) refl refl refl refl refl (λ d h. simp (le-ltb d 0 (omega arith), le-leb 1 d (omega arith)))
+filled-at form (suc zero) = by-place (λ d. everyItem (sparesPlace d) (shapeAt form 1 .row) ≡ leb 2 d) refl refl refl refl refl (λ d h. simp (le-ltb d 0 (omega arith), le-ltb d 1 (omega arith), le-leb 1 d (omega arith), le-leb 2 d (omega arith)))
+filled-at form (suc (suc zero)) = by-place (λ d. everyItem (sparesPlace d) (shapeAt form 2 .row) ≡ leb 3 d) refl refl refl refl refl (λ d h. simp (le-ltb d 0 (omega arith), le-ltb d 1 (omega arith), le-ltb d 2 (omega arith), le-leb 1 d (omega arith), le-leb 2 d (omega arith), le-leb 3 d (omega arith)))
+filled-at form (suc (suc (suc zero))) = by-place (λ d. everyItem (sparesPlace d) (shapeAt form 3 .row) ≡ leb 1 d) refl refl refl refl refl (λ d h. simp (le-ltb d 0 (omega arith), le-leb 1 d (omega arith)))
+filled-at form (suc (suc (suc (suc zero)))) = by-place (λ d. everyItem (sparesPlace d) (shapeAt form 4 .row) ≡ leb 1 d) refl refl refl refl refl (λ d h. simp (le-ltb d 0 (omega arith), le-leb 1 d (omega arith)))
+filled-at form (suc (suc (suc (suc (suc zero))))) = edge-spares (hasTurns form)
+filled-at form (suc (suc (suc (suc (suc (suc zero)))))) = declaration-spares (hasKinds form)
+filled-at form (suc (suc (suc (suc (suc (suc (suc zero))))))) = by-place (λ d. everyItem (sparesPlace d) (shapeAt form 7 .row) ≡ leb 2 d) refl refl refl refl refl (λ d h. simp (le-ltb d 0 (omega arith), le-ltb d 1 (omega arith), le-leb 1 d (omega arith), le-leb 2 d (omega arith)))
+filled-at form (suc (suc (suc (suc (suc (suc (suc (suc zero)))))))) = query-spares (hasKinds form)
+filled-at form (suc (suc (suc (suc (suc (suc (suc (suc (suc k))))))))) = λ d. sym (le-leb 0 d (omega arith))
 
-pub used-at : (form k d : ℕ) → everyItem (sparesPlace d) (shapeAt form k .row) ≡ leb (getD useds k 0) d
-unfolding shapesOf shapeAt everyItem sparesPlace valuesOf
-used-at form zero = by-place (λ d. everyItem (sparesPlace d) (shapeAt form 0 .row) ≡ leb 1 d) refl refl refl refl refl (λ d h. simp (le-ltb d 0 (omega arith), le-leb 1 d (omega arith)))
-used-at form (suc zero) = by-place (λ d. everyItem (sparesPlace d) (shapeAt form 1 .row) ≡ leb 2 d) refl refl refl refl refl (λ d h. simp (le-ltb d 0 (omega arith), le-ltb d 1 (omega arith), le-leb 1 d (omega arith), le-leb 2 d (omega arith)))
-used-at form (suc (suc zero)) = by-place (λ d. everyItem (sparesPlace d) (shapeAt form 2 .row) ≡ leb 3 d) refl refl refl refl refl (λ d h. simp (le-ltb d 0 (omega arith), le-ltb d 1 (omega arith), le-ltb d 2 (omega arith), le-leb 1 d (omega arith), le-leb 2 d (omega arith), le-leb 3 d (omega arith)))
-used-at form (suc (suc (suc zero))) = by-place (λ d. everyItem (sparesPlace d) (shapeAt form 3 .row) ≡ leb 1 d) refl refl refl refl refl (λ d h. simp (le-ltb d 0 (omega arith), le-leb 1 d (omega arith)))
-used-at form (suc (suc (suc (suc zero)))) = by-place (λ d. everyItem (sparesPlace d) (shapeAt form 4 .row) ≡ leb 1 d) refl refl refl refl refl (λ d h. simp (le-ltb d 0 (omega arith), le-leb 1 d (omega arith)))
-used-at form (suc (suc (suc (suc (suc zero))))) = by-place (λ d. everyItem (sparesPlace d) (shapeAt form 5 .row) ≡ leb 3 d) refl refl refl refl refl (λ d h. simp (le-ltb d 0 (omega arith), le-ltb d 1 (omega arith), le-ltb d 2 (omega arith), le-leb 1 d (omega arith), le-leb 2 d (omega arith), le-leb 3 d (omega arith)))
-used-at form (suc (suc (suc (suc (suc (suc zero)))))) = declaration-spares (hasKinds form)
-used-at form (suc (suc (suc (suc (suc (suc (suc zero))))))) = by-place (λ d. everyItem (sparesPlace d) (shapeAt form 7 .row) ≡ leb 2 d) refl refl refl refl refl (λ d h. simp (le-ltb d 0 (omega arith), le-ltb d 1 (omega arith), le-leb 1 d (omega arith), le-leb 2 d (omega arith)))
-used-at form (suc (suc (suc (suc (suc (suc (suc (suc zero)))))))) = query-spares (hasKinds form)
-used-at form (suc (suc (suc (suc (suc (suc (suc (suc (suc k))))))))) = λ d. sym (le-leb 0 d (omega arith))
-
--- the fixed string has 227 bytes
-pub format-length : length formatBytes ≡ 227
-unfolding labels pairs transitions accepts scopeCount edges declarations openPairs queries pastLast sections hasKinds declarationShape queryShape shapesOf contentNumber code shapeBytes hasRange keptRanged ranged layout layouts formatBytes
+-- the fixed string has 260 bytes
+pub format-length : length formatBytes ≡ 260
+unfolding labels pairs transitions accepts scopeCount edges declarations openPairs queries pastLast sections hasKinds hasTurns edgeShape declarationShape queryShape shapesOf contentNumber code shapeBytes hasRange keptRanged ranged rangeBytes layout layouts formatBytes
 format-length = refl
-
--- the place by the form
-pub place-new : (form old new : ℕ) → form ≡ kindForm → new ≡ placeBy form old new
-unfolding placeBy hasKinds
-place-new form old new e = rw e
-
-pub place-old : (form old new : ℕ) → (form ≡ kindForm → ⊥) → old ≡ placeBy form old new
-unfolding placeBy hasKinds
-place-old zero old new n = refl
-place-old (suc zero) old new n = absurd (n refl)
-place-old (suc (suc form)) old new n = refl
 
 -- one item, and the line after it
 line-step : (l : List ℕ) (o : ℕ) → lineOf (drop o l) ≡ lineStep (getD l o 10) (lineOf (drop (suc o) l))
@@ -219,36 +223,8 @@ within [] o h = absurd (h refl)
 within (x ∷ l) zero h = omega arith
 within (x ∷ l) (suc o) h = let w : o < length l = within l o h in omega arith
 
-pub within-format : (o : ℕ) → (getD formatBytes o 10 ≡ 10 → ⊥) → o < 227
+pub within-format : (o : ℕ) → (getD formatBytes o 10 ≡ 10 → ⊥) → o < 260
 within-format o h = let w : o < length formatBytes = within formatBytes o h in omega (arith, format-length)
-
--- a number that is none of the first nine contents' is the plain kind's
-pub content-plain : (n : ℕ) → 9 ≤ n → contentOf n ≡ plain
-unfolding contentOf
-content-plain zero h = absurd (omega arith)
-content-plain (suc zero) h = absurd (omega arith)
-content-plain (suc (suc zero)) h = absurd (omega arith)
-content-plain (suc (suc (suc zero))) h = absurd (omega arith)
-content-plain (suc (suc (suc (suc zero)))) h = absurd (omega arith)
-content-plain (suc (suc (suc (suc (suc zero))))) h = absurd (omega arith)
-content-plain (suc (suc (suc (suc (suc (suc zero)))))) h = absurd (omega arith)
-content-plain (suc (suc (suc (suc (suc (suc (suc zero))))))) h = absurd (omega arith)
-content-plain (suc (suc (suc (suc (suc (suc (suc (suc zero)))))))) h = absurd (omega arith)
-content-plain (suc (suc (suc (suc (suc (suc (suc (suc (suc n))))))))) h = refl
-
--- names and kinds have no range
-pub content-free : (labels scopes n v : ℕ) → (n ≡ 0 → ⊥) → (n ≡ 1 → ⊥) → (n ≡ 2 → ⊥) → (n ≡ 3 → ⊥) → (n ≡ 4 → ⊥) → (n ≡ 5 → ⊥) → (n ≡ 6 → ⊥) → contentInRange labels scopes (contentOf n) v ≡ true
-unfolding contentOf contentInRange
-content-free labels scopes zero v a b c d e f g = absurd (a refl)
-content-free labels scopes (suc zero) v a b c d e f g = absurd (b refl)
-content-free labels scopes (suc (suc zero)) v a b c d e f g = absurd (c refl)
-content-free labels scopes (suc (suc (suc zero))) v a b c d e f g = absurd (d refl)
-content-free labels scopes (suc (suc (suc (suc zero)))) v a b c d e f g = absurd (e refl)
-content-free labels scopes (suc (suc (suc (suc (suc zero))))) v a b c d e f g = absurd (f refl)
-content-free labels scopes (suc (suc (suc (suc (suc (suc zero)))))) v a b c d e f g = absurd (g refl)
-content-free labels scopes (suc (suc (suc (suc (suc (suc (suc zero))))))) v a b c d e f g = refl
-content-free labels scopes (suc (suc (suc (suc (suc (suc (suc (suc zero)))))))) v a b c d e f g = refl
-content-free labels scopes (suc (suc (suc (suc (suc (suc (suc (suc (suc n))))))))) v a b c d e f g = refl
 
 pub line-more : (x : ℕ) (items : List Item) → (x ≡ 10 → ⊥) → lineStep x items ≡ itemOf x ∷ items
 unfolding lineStep
@@ -289,28 +265,3 @@ item-byte x h = rw (lt-ltb x 128 h, itemOf)
 pub item-field : (x : ℕ) → 128 ≤ x → itemOf x ≡ field (contentOf ((x - 128) / 8)) (x % 8)
 unfolding itemOf
 item-field x h = rw (le-ltb x 128 h, itemOf)
-
--- a value that has no range is in range, so the fields that have one tell of all
-unranged : (labels scopes : ℕ) (k : Content) (v : ℕ) → hasRange k ≡ false → contentInRange labels scopes k v ≡ true
-unfolding hasRange contentInRange
-unranged labels scopes state v h = absurd (clash refl h)
-unranged labels scopes scope v h = absurd (clash refl h)
-unranged labels scopes mark v h = absurd (clash refl h)
-unranged labels scopes count v h = absurd (clash refl h)
-unranged labels scopes letter v h = refl
-unranged labels scopes label v h = absurd (clash refl h)
-unranged labels scopes end v h = absurd (clash refl h)
-unranged labels scopes name v h = refl
-unranged labels scopes kind v h = refl
-unranged labels scopes plain v h = refl
-
-pub ranged-all : (labels scopes : ℕ) (items : List Item) (row : Row) → inRange labels scopes (ranged items) row ≡ inRange labels scopes items row
-unfolding inRange everyItem itemInRange ranged
-ranged-all labels scopes [] row = refl
-ranged-all labels scopes (byte b ∷ items) row = ranged-all labels scopes items row
-ranged-all labels scopes (field k c ∷ items) row = by (hasRange k) refl (ranged-all labels scopes items row)
-  where
-    by : (t : Bool) → hasRange k ≡ t → everyItem (itemInRange labels scopes row) (ranged items) ≡ everyItem (itemInRange labels scopes row) items
-        → everyItem (itemInRange labels scopes row) (keptRanged t (field k c) (ranged items)) ≡ (contentInRange labels scopes k (value row c) && everyItem (itemInRange labels scopes row) items)
-    by true e h = unfold keptRanged in ap (λ (b : Bool). contentInRange labels scopes k (value row c) && b) h
-    by false e h = unfold keptRanged in rw (unranged labels scopes k (value row c) e) h

@@ -3,18 +3,19 @@
 use Prim.Native.Nat.{ℕ, zero, suc, _+_, _≤_, _<_}
 use mathlib.Core.Path.{_≡_, refl, sym, ap, _∙_}
 use mathlib.Core.Bool.{Bool, true, false, _&&_, _||_}
-use mathlib.Core.Logic.{_⊎_, inl, inr, ⊎-elim}
+use mathlib.Core.Logic.{⊎-elim}
 use mathlib.Core.List.{List, [], _∷_, _++_, List·Memᴰ·not-nil, List·Memᴰ·cases-cons, List·Memᴰ·append-cases, Memᴰ·cast}
 use native.Mathlib.Omega.{arith}
 use lib.Dec.{eqb, ltb}
 use lib.ListN.{length, getD, length-append}
-use borrow.Author.Tests.{ltb-true, eqb-true, eqb-false, lt-ltb, eq-eqb, ne-eqb}
+use borrow.Author.Tests.{ltb-true, eqb-true, eqb-false, lt-ltb, ne-eqb}
 use Rattle.scope_graph.specs.Language.{_∈_}
-use Rattle.scope_graph.proofs.Lists.{Two, here, there, and-left, and-right, or-cases, or-left, or-right, true-false, not-true, is-not, map-intro}
-use Rattle.graph_file.specs.Format.{Content, state, scope, mark, count, letter, label, end, name, kind, plain, Item, byte, field, everyItem, Sequence, ascending, once, free, labels, pairs, transitions, accepts, scopeCount, edges, declarations, openPairs, queries, sections, sectionAt, hasKinds, declarationShape, queryShape, shapesOf, shapeAt, oldForm, labelSection, countSection}
-use Rattle.graph_file.specs.Admission.{Row, value, blank, Sofar, nothing, begun, joined, counted, taken, contentInRange, itemInRange, inRange, keyLess, listed, follows, unless, admission}
+use Rattle.scope_graph.proofs.Lists.{Two, here, there, and-left, and-right, and-both, or-cases, true-false, not-true, is-not, map-intro}
+use Rattle.graph_file.specs.Format.{Content, state, scope, mark, count, letter, label, end, name, kind, plain, turn, Item, byte, field, everyItem, Sequence, ascending, apart, once, free, labels, pairs, transitions, accepts, scopeCount, edges, declarations, openPairs, queries, sections, sectionAt, hasKinds, hasTurns, edgeShape, declarationShape, queryShape, shapesOf, shapeAt, oldForm, labelSection, countSection, edgeSection}
+use Rattle.graph_file.specs.Admission.{Row, value, blank, Sofar, nothing, begun, joined, counted, taken, contentInRange, itemInRange, inRange, sameEdge, listed, ascends, follows, unless, admission}
 use Rattle.graph_file.specs.Formed.{scopesIn, InTurn, FormedRow, FormedRows}
 use Rattle.graph_file.proofs.DecodeWay.{takenAll, AdmittedRows, AdmittedSections}
+use Rattle.graph_file.proofs.ApartLaws.{repeats-none}
 
 -- Does what is in range stay so, where the labels (l) and the scopes (s) are known to stay?
 unfoldable stays : Bool → Bool → Content → Bool
@@ -28,6 +29,7 @@ stays l s end = l
 stays l s name = true
 stays l s kind = true
 stays l s plain = true
+stays l s turn = true
 
 unfoldable itemStays : Bool → Bool → Item → Bool
 itemStays l s (byte b) = true
@@ -46,6 +48,7 @@ module _ (l s : Bool) (a b c d : ℕ) (labels-stay : l ≡ true → a ≡ b) (sc
   content-stays name v h = refl
   content-stays kind v h = refl
   content-stays plain v h = refl
+  content-stays turn v h = refl
 
   item-stays : (row : Row) (i : Item) → itemStays l s i ≡ true → itemInRange a c row i ≡ itemInRange b d row i
   unfolding itemStays itemInRange
@@ -58,15 +61,16 @@ module _ (l s : Bool) (a b c d : ℕ) (labels-stay : l ≡ true → a ≡ b) (sc
   range-stays (i ∷ items) row h =
       rw (item-stays row i (and-left _ _ h), range-stays items row (and-right (itemStays l s i) _ h))
 
--- The labels are known from section 1 on, the scopes from section 5 on, and only the labels are
--- listed once: by computing, in any form.
-unfoldable pub onceFirst : ℕ → Sequence → Bool
-onceFirst k ascending = true
-onceFirst k once = eqb k labelSection
-onceFirst k free = true
+-- The labels are known from section 1 on, the scopes from section 5 on, only the labels are listed
+-- once and only the edges stand apart: by computing, in any form.
+unfoldable pub ownSequence : ℕ → Sequence → Bool
+ownSequence k ascending = true
+ownSequence k apart = eqb k edgeSection
+ownSequence k once = eqb k labelSection
+ownSequence k free = true
 
 unfoldable knownInTime : ℕ → ℕ → Bool
-knownInTime form k = everyItem (itemStays (ltb labelSection k) (ltb countSection k)) (shapeAt form k .row) && onceFirst k (sectionAt k .sequence)
+knownInTime form k = everyItem (itemStays (ltb labelSection k) (ltb countSection k)) (shapeAt form k .row) && ownSequence k (sectionAt k .sequence)
 
 unfoldable allBelow : ℕ → (ℕ → Bool) → Bool
 allBelow zero test = true
@@ -81,17 +85,18 @@ below (suc n) k test h l =
     (Two (eqb k n))
 
 in-time : (form : ℕ) → allBelow 9 (knownInTime form) ≡ true
-unfolding allBelow knownInTime onceFirst everyItem itemStays stays hasKinds declarationShape queryShape shapesOf shapeAt sectionAt sections labels pairs transitions accepts scopeCount edges declarations openPairs queries
+unfolding allBelow knownInTime ownSequence everyItem itemStays stays hasKinds hasTurns edgeShape declarationShape queryShape shapesOf shapeAt sectionAt sections labels pairs transitions accepts scopeCount edges declarations openPairs queries
 in-time zero = refl
 in-time (suc zero) = refl
-in-time (suc (suc n)) = refl
+in-time (suc (suc zero)) = refl
+in-time (suc (suc (suc n))) = refl
 
 time : (form k : ℕ) → k < 9 → knownInTime form k ≡ true
 time form k h = below 9 k (knownInTime form) (in-time form) h
 
-pub once-first : (k : ℕ) → k < 9 → onceFirst k (sectionAt k .sequence) ≡ true
+pub own-sequence : (k : ℕ) → k < 9 → ownSequence k (sectionAt k .sequence) ≡ true
 unfolding knownInTime
-once-first k h = and-right (everyItem (itemStays (ltb labelSection k) (ltb countSection k)) (shapeAt oldForm k .row)) _ (time oldForm k h)
+own-sequence k h = and-right (everyItem (itemStays (ltb labelSection k) (ltb countSection k)) (shapeAt oldForm k .row)) _ (time oldForm k h)
 
 -- What the rows so far must leave for a section's rows: the labels and the scopes, where they are
 -- known.
@@ -108,7 +113,8 @@ ready-taken k labels scopes st row r = record {
 
 -- The rows that are left follow those so far as their section asks.
 abbrev Turn : Sequence → List ℕ → Sofar → List Row → Type 0
-Turn ascending key st rows = ((st .rows ≡ 0) ⊎ ((row : Row) → row ∈ rows → keyLess key (st .last) row ≡ true)) × InTurn ascending key rows
+Turn ascending key st rows = ((row : Row) → row ∈ rows → ascends key (st .own) row ≡ true) × InTurn ascending key rows
+Turn apart key st rows = ((row : Row) → row ∈ rows → ascends key (st .own) row ≡ true) × ((a row : Row) → a ∈ st .own → row ∈ rows → sameEdge a row ≡ false) × InTurn apart key rows
 Turn once key st rows = ((row : Row) → row ∈ rows → ¬ (value row 0 ∈ st .letters)) × InTurn once key rows
 Turn free key st rows = Unit {0}
 
@@ -120,10 +126,11 @@ unlisted x (y ∷ ys) h =
     ⊎-elim (λ e. h (Memᴰ·cast (sym (eqb-true y x e)) here)) (λ e. true-false e (unlisted x ys (λ m. h (there m)))) (or-cases (eqb y x) _ t))
 
 turn-follows : (q : Sequence) (key : List ℕ) (st : Sofar) (row : Row) (rows : List Row) → Turn q key st (row ∷ rows)
-    → follows q key (st .letters) (st .rows) (st .last) row ≡ true
+    → follows q key (st .letters) (st .own) row ≡ true
 unfolding follows
-turn-follows ascending key st row rows t =
-    ⊎-elim (λ e. or-left _ _ (eq-eqb (st .rows) 0 e)) (λ f. or-right (eqb (st .rows) 0) _ (f row here)) (t .0)
+turn-follows ascending key st row rows t = t .0 row here
+turn-follows apart key st row rows t =
+    and-both _ _ (t .0 row here) (is-not _ (repeats-none (st .own) row (λ a m. t .1 a row m here)))
 turn-follows once key st row rows t = is-not _ (unlisted (value row 0) (st .letters) (t .0 row here))
 turn-follows free key st row rows t = refl
 
@@ -134,8 +141,13 @@ not-joined true x y ys h d m = ⊎-elim h (λ n. ⊎-elim d List·Memᴰ·not-ni
 not-joined false x y ys h d m = h m
 
 turn-next : (q : Sequence) (key : List ℕ) (k : ℕ) (st : Sofar) (row : Row) (rows : List Row) → Turn q key st (row ∷ rows) → Turn q key (taken k st row) rows
-unfolding taken
-turn-next ascending key k st row rows t = (inr (t .1 .0), t .1 .1)
+unfolding taken ascends
+turn-next ascending key k st row rows t = t .1
+turn-next apart key k st row rows t = (
+  t .2 .0 .0,
+  (λ a later m n. ⊎-elim (λ e. rw e (t .2 .1 .0 later n)) (λ h. t .1 a later h (there n)) (List·Memᴰ·cases-cons m)),
+  (t .2 .0 .1, t .2 .1 .1),
+)
 turn-next once key k st row rows t = (
   (λ later m. not-joined (eqb k labelSection) (value later 0) (value row 0) (st .letters) (t .0 later (there m))
       (λ e. t .1 .0 (Memᴰ·cast (sym e) (map-intro (λ (r : Row). value r 0) m)))),
@@ -144,17 +156,18 @@ turn-next once key k st row rows t = (
 turn-next free key k st row rows t = tt
 
 -- as a section begins
-turn-begins : (q : Sequence) (key : List ℕ) (k : ℕ) (st : Sofar) (rows : List Row) → onceFirst k q ≡ true → (k ≡ labelSection → st .letters ≡ []) → InTurn q key rows
+turn-begins : (q : Sequence) (key : List ℕ) (k : ℕ) (st : Sofar) (rows : List Row) → ownSequence k q ≡ true → (k ≡ labelSection → st .letters ≡ []) → InTurn q key rows
     → Turn q key (begun st) rows
-unfolding onceFirst begun
-turn-begins ascending key k st rows h e t = (inl refl, t)
+unfolding ownSequence begun ascends
+turn-begins ascending key k st rows h e t = ((λ row m. refl), t)
+turn-begins apart key k st rows h e t = ((λ row m. refl), (λ a row m n. absurd (List·Memᴰ·not-nil m)), t)
 turn-begins once key k st rows h e t =
     ((λ row m n. List·Memᴰ·not-nil (rw (e (eqb-true k labelSection h)) at n)), t)
 turn-begins free key k st rows h e t = tt
 
 -- the three tests passed
 passes : (form k : ℕ) (st : Sofar) (row : Row) → st .rows < sectionAt k .most → inRange (length (st .letters)) (st .scopes) (shapeAt form k .row) row ≡ true
-    → follows (sectionAt k .sequence) (sectionAt k .key) (st .letters) (st .rows) (st .last) row ≡ true → admission form k st row ≡ 0
+    → follows (sectionAt k .sequence) (sectionAt k .key) (st .letters) (st .own) row ≡ true → admission form k st row ≡ 0
 unfolding admission unless
 passes form k st row h r f = rw (lt-ltb (st .rows) (sectionAt k .most) h, r, f)
 
@@ -243,7 +256,7 @@ module _ (form : ℕ) (rows : ℕ → List Row) (f : FormedRows form rows) where
       let most = s .most in
       let first : Ready k labelCount (scopesIn rows) (begun st) = record { labelled = r .labelled; counted = r .counted } in (
         rows-admitted form labelCount (scopesIn rows) k inside (begun st) (rows k) (s .each) first
-            (turn-begins (sectionAt k .sequence) (sectionAt k .key) k st (rows k) (once-first k inside) e (s .in-turn)) (omega arith),
+            (turn-begins (sectionAt k .sequence) (sectionAt k .key) k st (rows k) (own-sequence k inside) e (s .in-turn)) (omega arith),
         s .least,
         sections-admitted left (suc k) (takenAll k (begun st) (rows k)) (omega arith)
             (record { labelled = λ l. labelled-next k st r e; counted = counted-next k st r }) (λ z. absurd (omega arith)),

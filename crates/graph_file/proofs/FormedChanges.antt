@@ -4,21 +4,22 @@ use Prim.Native.Nat.{ℕ, suc, _≤_}
 use mathlib.Core.Path.{_≡_, refl, sym, _∙_}
 use mathlib.Core.Bool.{Bool, true, false}
 use mathlib.Core.Logic.{⊎-elim}
-use mathlib.Core.List.{List, [], _∷_, _++_, List·Memᴰ·cases-cons, List·Memᴰ·append-cases, Memᴰ·append-left, Memᴰ·append-right}
+use mathlib.Core.List.{List, [], _∷_, _++_, map, List·Memᴰ·cases-cons, List·Memᴰ·append-cases, Memᴰ·cast, Memᴰ·append-left, Memᴰ·append-right}
 use native.Mathlib.Omega.{arith}
 use lib.Dec.{eqb, ltb}
 use lib.ListN.{length, length-append}
-use borrow.Author.Tests.{eqb-true, ltb-true, ne-eqb}
+use borrow.Author.Tests.{eqb-true, eqb-false, eq-eqb, ltb-true, ne-eqb}
 use Rattle.scope_graph.specs.Language.{_∈_}
+use Rattle.scope_graph.specs.Path.{Distinct}
 use Rattle.scope_graph.specs.Listing.{Pairwise}
 use Rattle.scope_graph.specs.Computed.{keep}
-use Rattle.scope_graph.proofs.Lists.{Two, here, there, keep-elim, keep-pairwise}
+use Rattle.scope_graph.proofs.Lists.{Two, here, there, keep-elim, keep-pairwise, map-intro, map-elim}
 use Rattle.text_field.specs.Outcome.{refused, done, andThen, refuseIf}
 use Rattle.text_field.specs.Answer.{answer}
-use Rattle.graph_file.specs.Format.{sectionAt, shapeAt, labelSection, pairSection, countSection}
-use Rattle.graph_file.specs.Admission.{Row, keyLess}
+use Rattle.graph_file.specs.Format.{Sequence, ascending, apart, once, free, sectionAt, shapeAt, labelSection, pairSection, countSection}
+use Rattle.graph_file.specs.Admission.{Row, value, keyLess, sameSource, sameEdge}
 use Rattle.graph_file.specs.File.{writeText}
-use Rattle.graph_file.specs.Formed.{scopesIn, FormedRow, NothingButNine, replaced, SectionReplaced, RowAdded, RowsKept}
+use Rattle.graph_file.specs.Formed.{scopesIn, InTurn, FormedRow, NothingButNine, replaced, SectionReplaced, MayJoin, RowAdded, RowsKept}
 use Rattle.graph_file.proofs.InverseFile.{written-short}
 use Rattle.graph_file.proofs.FormedTable.{formed-written}
 
@@ -80,13 +81,32 @@ each-insert P s t x h p y m =
     (λ z. ⊎-elim (λ e. rw e p) (λ n. h y (Memᴰ·append-right s n)) (List·Memᴰ·cases-cons z))
     (List·Memᴰ·append-cases s m)
 
+-- one edge is so either way round
+eqb-sym : (m n : ℕ) → eqb m n ≡ eqb n m
+eqb-sym m n =
+    ⊎-elim (λ e. e ∙ sym (eq-eqb n m (sym (eqb-true m n e)))) (λ e. e ∙ sym (ne-eqb n m (λ z. eqb-false m n e (sym z)))) (Two (eqb m n))
+
+edge-sym : (a b : Row) → sameEdge a b ≡ sameEdge b a
+unfolding sameEdge sameSource
+edge-sym a b = rw (eqb-sym (value a 0) (value b 0), eqb-sym (value a 1) (value b 1), eqb-sym (value a 2) (value b 2))
+
+turn-insert : (q : Sequence) (key : List ℕ) (s t : List Row) (x : Row) → MayJoin q x (s ++ t) → InTurn q key (s ++ t) → ((a : Row) → a ∈ s → keyLess key a x ≡ true)
+    → ((b : Row) → b ∈ t → keyLess key x b ≡ true) → InTurn q key (s ++ (x ∷ t))
+turn-insert ascending key s t x j h f g = pairwise-insert (λ a b. keyLess key a b ≡ true) s t x h f g
+turn-insert apart key s t x j h f g = (
+  pairwise-insert (λ a b. keyLess key a b ≡ true) s t x (h .0) f g,
+  pairwise-insert (λ a b. sameEdge a b ≡ false) s t x (h .1) (λ a m. j a (Memᴰ·append-left t m)) (λ b m. edge-sym x b ∙ j b (Memᴰ·append-right s m)),
+)
+turn-insert once key s t x j h f g = absurd j
+turn-insert free key s t x j h f g = absurd j
+
 pub row-added : RowAdded
-row-added labels scopes form k above below row e f one room before after =
+row-added labels scopes form k above below row j f one room before after =
     let least = f .least in
     let longer : length (above ++ (row ∷ below)) ≡ suc (length (above ++ below)) = omega (arith, length-append above (row ∷ below), length-append above below) in
     record {
       each = each-insert (FormedRow labels scopes (shapeAt form k .row)) above below row (f .each) one;
-      in-turn = rw e (pairwise-insert (λ a b. keyLess (sectionAt k .key) a b ≡ true) above below row (rw e at (f .in-turn)) before after);
+      in-turn = turn-insert (sectionAt k .sequence) (sectionAt k .key) above below row j (f .in-turn) before after;
       least = omega arith;
       most = omega arith;
     }
@@ -102,12 +122,32 @@ keep-length test (row ∷ rows) = step (test row) (keep-length test rows)
     step true h = omega arith
     step false h = omega arith
 
+abbrev firsts : List Row → List ℕ
+firsts rows = map (λ (row : Row). value row 0) rows
+
+distinct-kept : (test : Row → Bool) (rows : List Row) → Distinct (firsts rows) → Distinct (firsts (keep test rows))
+unfolding keep
+distinct-kept test [] h = tt
+distinct-kept test (row ∷ rows) h = step (test row) (distinct-kept test rows (h .1))
+  where
+    step : (t : Bool) → Distinct (firsts (keep test rows))
+        → Distinct (firsts (elim t as (λ _. List Row) [ true ↦ row ∷ keep test rows | false ↦ keep test rows ]))
+    step true d =
+        ((λ m. let r = map-elim (λ (a : Row). value a 0) (keep test rows) m in h .0 (Memᴰ·cast (r .2) (map-intro (λ (a : Row). value a 0) (keep-elim test rows (r .1) .0)))), d)
+    step false d = d
+
+turn-kept : (q : Sequence) (key : List ℕ) (test : Row → Bool) (rows : List Row) → InTurn q key rows → InTurn q key (keep test rows)
+turn-kept ascending key test rows h = keep-pairwise (λ a b. keyLess key a b ≡ true) test rows h
+turn-kept apart key test rows h = (keep-pairwise (λ a b. keyLess key a b ≡ true) test rows (h .0), keep-pairwise (λ a b. sameEdge a b ≡ false) test rows (h .1))
+turn-kept once key test rows h = distinct-kept test rows h
+turn-kept free key test rows h = tt
+
 pub rows-kept : RowsKept
-rows-kept labels scopes form k test rows e none f =
+rows-kept labels scopes form k test rows none f =
     let most = f .most in
     record {
       each = λ row m. f .each row (keep-elim test rows m .0);
-      in-turn = rw e (keep-pairwise (λ a b. keyLess (sectionAt k .key) a b ≡ true) test rows (rw e at (f .in-turn)));
+      in-turn = turn-kept (sectionAt k .sequence) (sectionAt k .key) test rows (f .in-turn);
       least = omega arith;
       most = omega (arith, keep-length test rows);
     }

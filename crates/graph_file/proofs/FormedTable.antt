@@ -2,28 +2,28 @@
 use Prim.Native.Nat.{ℕ, zero, suc, _+_, _<_}
 use mathlib.Core.Path.{_≡_, refl, sym, ap, subst, _∙_}
 use mathlib.Core.Bool.{true}
-use mathlib.Core.Logic.{inl, inr, ⊎-elim}
-use mathlib.Core.List.{List, [], _∷_, List·Memᴰ·not-nil, List·Memᴰ·cases-cons}
+use mathlib.Core.Logic.{inl, inr}
+use mathlib.Core.List.{List, [], _∷_}
 use native.Mathlib.Omega.{arith}
 use lib.Dec.{ltb}
 use lib.ListN.{length, getD, length-map}
 use borrow.Author.Tests.{eqb-true, lt-ltb, eq-eqb}
-use Rattle.scope_graph.specs.Language.{_∈_}
+use Rattle.scope_graph.specs.Listing.{Pairwise}
 use Rattle.scope_graph.proofs.Lists.{and-both, or-left, or-right, pairwise-weaken}
-use Rattle.graph_file.specs.Format.{Sequence, ascending, once, free, sectionAt, shapeAt, labelSection, pairSection}
-use Rattle.graph_file.specs.Admission.{Row, value, Sofar, begun, taken, keyLess}
+use Rattle.graph_file.specs.Format.{Sequence, ascending, apart, once, free, sectionAt, labelSection, pairSection, edgeSection}
+use Rattle.graph_file.specs.Admission.{Row, value, begun, keyLess}
 use Rattle.graph_file.specs.Line.{formed}
 use Rattle.graph_file.specs.File.{formIn}
 use Rattle.graph_file.specs.Decode.{rowsIn, lettersOf, scopesOf}
 use Rattle.graph_file.specs.Formed.{cellsFrom, tableOf, scopesIn, InTurn, FormedSection, FormedRows, FormedTable, FormedWritten, WrittenFormed, ReadFormed, TableFormed}
 use Rattle.graph_file.proofs.InverseFile.{written-then-read}
-use Rattle.graph_file.proofs.DecodeWay.{AdmittedRows, tableCells, AdmittedTable}
+use Rattle.graph_file.proofs.DecodeWay.{tableCells, AdmittedTable}
 use Rattle.graph_file.proofs.DecodeWritten.{read-admitted, written-admitted}
-use Rattle.graph_file.proofs.DecodeRows.{KeyBefore}
-use Rattle.graph_file.proofs.DecodeTable.{pairs-gathered, section-in, table-limit, table-in-range, table-ascends, table-order, table-letters}
+use Rattle.graph_file.proofs.DecodeRows.{Ascends, KeyBefore, rows-stand}
+use Rattle.graph_file.proofs.DecodeTable.{pairs-gathered, section-in, table-limit, table-in-range, table-ascends, table-apart, table-order, table-letters}
 use Rattle.graph_file.proofs.DecodePlaces.{gathered-at, listed-at}
 use Rattle.graph_file.proofs.FormedWriting.{admitted-written}
-use Rattle.graph_file.proofs.FormedAdmitted.{onceFirst, once-first, listOf, all-admitted}
+use Rattle.graph_file.proofs.FormedAdmitted.{ownSequence, own-sequence, listOf, all-admitted}
 
 -- the lists of rows by their sections' numbers
 list-at : (left k i j : ℕ) (rows : ℕ → List Row) → j ≡ k + i → i < left → getD (listOf left k rows) i [] ≡ rows j
@@ -66,14 +66,7 @@ formed-written cells t =
     let w = admitted-written cells (subst (λ (c : List ℕ). AdmittedTable c) (sym (t .in-turn)) (rows-table (formIn cells) (λ k. rowsIn k cells) (t .rows))) in
     (w .0, w .1, written-then-read cells (w .0) (w .1))
 
--- The converse. Each admitted row has its five values, with a text.
-rows-stand : (form k : ℕ) (st : Sofar) (rows : List Row) → AdmittedRows form k st rows → (row : Row) → row ∈ rows
-    → (length row ≡ 5) × (formed (shapeAt form k .row) row ≡ true)
-rows-stand form k st [] h row m = absurd (List·Memᴰ·not-nil m)
-rows-stand form k st (first ∷ rows) h row m =
-    ⊎-elim (λ e. rw e (h .1, h .3)) (λ n. rows-stand form k (taken k st first) rows (h .2) row n) (List·Memᴰ·cases-cons m)
-
--- before by the key, as a test
+-- The converse. Before by the key, as a test
 key-less : (key : List ℕ) (a b : Row) → KeyBefore key a b → keyLess key a b ≡ true
 unfolding keyLess
 key-less [] a b h = absurd h
@@ -81,9 +74,13 @@ key-less (c ∷ key) a b (inl h) = or-left _ _ (lt-ltb (value a c) (value b c) h
 key-less (c ∷ key) a b (inr h) = or-right (ltb (value a c) (value b c)) _ (and-both _ _ (eq-eqb (value a c) (value b c) (h .0)) (key-less key a b (h .1)))
 
 module _ (cells : List ℕ) (t : AdmittedTable cells) where
-  turn-of : (k : ℕ) → k < 9 → (q : Sequence) → sectionAt k .sequence ≡ q → onceFirst k q ≡ true → InTurn q (sectionAt k .key) (rowsIn k cells)
-  unfolding onceFirst lettersOf
-  turn-of k h ascending e o = pairwise-weaken (KeyBefore (sectionAt k .key)) (λ (a b : Row). keyLess (sectionAt k .key) a b ≡ true) (rowsIn k cells) (λ a b m n p. key-less (sectionAt k .key) a b p) (table-ascends cells t k h e)
+  keys-less : (k : ℕ) → k < 9 → Ascends (sectionAt k .sequence) → Pairwise (λ (a b : Row). keyLess (sectionAt k .key) a b ≡ true) (rowsIn k cells)
+  keys-less k h a = pairwise-weaken (KeyBefore (sectionAt k .key)) (λ (a b : Row). keyLess (sectionAt k .key) a b ≡ true) (rowsIn k cells) (λ a b m n p. key-less (sectionAt k .key) a b p) (table-ascends cells t k h a)
+
+  turn-of : (k : ℕ) → k < 9 → (q : Sequence) → sectionAt k .sequence ≡ q → ownSequence k q ≡ true → InTurn q (sectionAt k .key) (rowsIn k cells)
+  unfolding ownSequence lettersOf
+  turn-of k h ascending e o = keys-less k h (rw e tt)
+  turn-of k h apart e o = (keys-less k h (rw e tt), rw (eqb-true k edgeSection o) (table-apart cells t))
   turn-of k h once e o = rw (eqb-true k labelSection o) (table-letters cells t)
   turn-of k h free e o = tt
 
@@ -98,7 +95,7 @@ module _ (cells : List ℕ) (t : AdmittedTable cells) where
           formed = stand row m .1;
           in-range = rw (length-map (rowsIn labelSection cells) (λ (r : Row). value r 0)) at (table-in-range cells t k h row m);
         };
-        in-turn = turn-of k h (sectionAt k .sequence) refl (once-first k h);
+        in-turn = turn-of k h (sectionAt k .sequence) refl (own-sequence k h);
         least = s .enough;
         most = table-limit cells t k h;
       }

@@ -9,7 +9,7 @@ use lib.Dec.{ltb}
 use lib.ListN.{length, length-append}
 use lib.Seq.{drop-at}
 use borrow.Author.Tests.{eq-eqb, ne-eqb, le-ltb, le-leb}
-use Rattle.graph_file.specs.Format.{sectionAt, shapeAt, kindForm}
+use Rattle.graph_file.specs.Format.{sectionAt, shapeAt, turnForm}
 use Rattle.text_field.specs.Outcome.{done, andThen, refuseIf}
 use Rattle.graph_file.specs.Admission.{Row, Sofar, nothing, begun, taken}
 use Rattle.graph_file.specs.Line.{lineText, formed}
@@ -84,6 +84,6 @@ admitted-written cells t =
     let w = whole-writes cells t in (
       w .0 .made,
       ap writeText (t .cells-are)
-          ∙ cells-written (t .form) (tableCells 0 (t .sections)) (le-leb (t .form) kindForm (t .known))
+          ∙ cells-written (t .form) (tableCells 0 (t .sections)) (le-leb (t .form) turnForm (t .known))
           ∙ made-of (whole (writing (t .form)) [] (tableCells 0 (t .sections))) (w .0) (w .1),
     )

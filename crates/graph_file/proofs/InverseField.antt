@@ -19,7 +19,7 @@ use Rattle.text_field.specs.Name.{nameText, nameHere, isNameCells, nameMeaning}
 use Rattle.text_field.proofs.ByteLaws.{clash, within-bounds}
 use Rattle.text_field.proofs.NumberLaws.{number-back, number-found}
 use Rattle.text_field.proofs.NameLaws.{name-back, name-found}
-use Rattle.graph_file.specs.Format.{Content, state, scope, mark, count, letter, label, end, name, kind, plain, plainKind, valuesOf}
+use Rattle.graph_file.specs.Format.{Content, state, scope, mark, count, letter, label, end, name, kind, plain, turn, plainKind, valuesOf}
 use Rattle.text_field.specs.Outcome.{Outcome, done, andThen}
 use Rattle.graph_file.specs.Admission.{contentInRange}
 use Rattle.graph_file.specs.Line.{Reading, numberTaken, nameTaken, byteTaken, place, endTaken, first, readField, asByte, endByte, fieldText, fieldFormed}
@@ -97,6 +97,7 @@ field-count letters label text r e = byte-count (isCapital (first text)) (place 
 field-count letters end text r e = end-count letters (first text) text r e
 field-count letters name text r e = name-count (nameHere text) text r e
 field-count letters kind text r e = byte-count (isLower (first text)) (first text) text r e
+field-count letters turn text r e = number-count (numberHere text) text r e
 field-count letters plain text r e = sym (ap (λ (z : Reading). length (z .values)) (done-same (record { values = plainKind ∷ []; rest = text }) r e))
 
 record NumberFound (text : List ℕ) (r : Reading) (v : ℕ) : Type 0 where
@@ -209,6 +210,7 @@ field-found letters scopes state text r v w e p q g = let f = found-number (numb
 field-found letters scopes scope text r v w e p q g = let f = found-number (numberHere text) text r v refl e p in record { whole = f .whole; formed = f .formed }
 field-found letters scopes mark text r v w e p q g = let f = found-number (numberHere text) text r v refl e p in record { whole = f .whole; formed = f .formed }
 field-found letters scopes count text r v w e p q g = let f = found-number (numberHere text) text r v refl e p in record { whole = f .whole; formed = f .formed }
+field-found letters scopes turn text r v w e p q g = let f = found-number (numberHere text) text r v refl e p in record { whole = f .whole; formed = f .formed }
 field-found letters scopes letter text r v w e p q g = found-letter letters text r v w e p
 field-found letters scopes label text r v w e p q g = found-label letters text r v w e p (ltb-true v (length letters) g)
 field-found letters scopes end text r v w e p q g = found-end letters text r v w e p (leb-true v (length letters) g)
@@ -251,6 +253,7 @@ module _ (letters : List ℕ) (L : Letters letters) where
   field-again scopes scope v w rest f g c = number-again v rest f c
   field-again scopes mark v w rest f g c = number-again v rest f c
   field-again scopes count v w rest f g c = number-again v rest f c
+  field-again scopes turn v w rest f g c = number-again v rest f c
   field-again scopes letter v w rest f g c = rw (capital-byte v f .1, f)
   field-again scopes label v w rest f g c = let a = label-again v (ltb-true v (length letters) g) in rw (a .0, a .1)
   field-again scopes end v w rest f g c = end-again v w rest (leb-true v (length letters) g)

@@ -8,7 +8,7 @@ use native.Mathlib.Omega.{arith}
 use lib.Dec.{ltb, leb}
 use lib.ListN.{length, drop}
 use borrow.Author.Tests.{leb-true, le-ltb}
-use Rattle.graph_file.specs.Format.{kindForm}
+use Rattle.graph_file.specs.Format.{turnForm}
 use Rattle.text_field.specs.Outcome.{Outcome, refused, done, andThen}
 use Rattle.graph_file.specs.File.{Stage, whole, reading, writing, formOf, readStage, madeOf, readCells, hasForm, formIn, writeText}
 use Rattle.graph_file.specs.Inverse.{ReadThenWritten, WrittenThenRead}
@@ -52,7 +52,7 @@ unfolding madeOf andThen
 made-of o g e = rw e
 
 -- a table's cells: their form, and the rows
-pub cells-written : (form : ℕ) (rows : List ℕ) → leb form kindForm ≡ true → writeText (form ∷ rows) ≡ madeOf (whole (writing form) [] rows)
+pub cells-written : (form : ℕ) (rows : List ℕ) → leb form turnForm ≡ true → writeText (form ∷ rows) ≡ madeOf (whole (writing form) [] rows)
 unfolding hasForm formIn
 cells-written form rows h = text-formed (form ∷ rows) h
 
@@ -91,7 +91,7 @@ form-read text cells e = ap (λ (l : List ℕ). formIn l) (read-back text cells 
 -- What was written goes back whole, and takes no more than the sections' room.
 record Written (cells text : List ℕ) : Type 0 where
   stage : Stage
-  known : formIn cells ≤ kindForm
+  known : formIn cells ≤ turnForm
   back : whole (reading (formIn cells)) (formIn cells ∷ []) text ≡ done stage
   product : stage .made ≡ cells
   short : length text ≤ room (formIn cells) 9 0

@@ -9,7 +9,7 @@ use lib.ListN.{length, getD, take, set, length-set}
 use lib.Seq.{sets, length-sets, getD-set-same, getD-set-other, ext-getD}
 use borrow.Author.Tests.{ltb-true, ltb-false, leb-true, leb-false, eqb-true, eq-eqb}
 use Rattle.text_field.proofs.ByteLaws.{both, clash}
-use Rattle.graph_file.specs.Format.{Content, state, scope, mark, count, letter, label, end, name, kind, plain, Item, byte, field, valuesOf, everyItem}
+use Rattle.graph_file.specs.Format.{Content, state, scope, mark, count, letter, label, end, name, kind, plain, turn, Item, byte, field, valuesOf, everyItem}
 use Rattle.graph_file.specs.Admission.{Row, value, blank}
 use Rattle.graph_file.specs.Line.{placeOf, sparesPlace, idleZero, idleZeros}
 use Rattle.graph_file.proofs.InverseTable.{lastPlace, clear, orderly, field-clear}
@@ -27,6 +27,7 @@ values-some end = (omega arith, omega arith)
 values-some name = (omega arith, omega arith)
 values-some kind = (omega arith, omega arith)
 values-some plain = (omega arith, omega arith)
+values-some turn = (omega arith, omega arith)
 
 sets-below : (vs l : List ℕ) (i j : ℕ) → j < i → getD (sets l i vs) j 0 ≡ getD l j 0
 sets-below [] l i j h = refl

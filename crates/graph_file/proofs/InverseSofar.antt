@@ -12,7 +12,7 @@ use Rattle.text_field.specs.Bytes.{isCapital}
 use Rattle.text_field.proofs.ByteLaws.{both}
 use Rattle.text_field.proofs.NumberLaws.{length-below, length-most}
 use Rattle.text_field.proofs.CellLaws.{name-length}
-use Rattle.graph_file.specs.Format.{Content, state, scope, mark, count, letter, label, end, name, kind, plain, Item, byte, field, everyItem, labels, sections, sectionAt, shapesOf, shapeAt, labelSection, countSection}
+use Rattle.graph_file.specs.Format.{Content, state, scope, mark, count, letter, label, end, name, kind, plain, turn, Item, byte, field, everyItem, labels, sections, sectionAt, shapesOf, shapeAt, labelSection, countSection}
 use Rattle.graph_file.specs.Admission.{Row, value, Sofar, nothing, begun, joined, counted, taken, contentInRange, itemInRange, inRange, listed, follows, unless, admission}
 use Rattle.graph_file.specs.Line.{fieldText, itemText, lineText, fieldFormed, itemFormed, idleZeros, formed}
 use Rattle.graph_file.proofs.InverseOutcome.{held}
@@ -34,16 +34,16 @@ sound-begun st S = record { letters = S .letters; few = S .few }
 -- the two tests that an admitted row has passed, besides the section's limit
 pub record Admitted (form k : ℕ) (st : Sofar) (row : Row) : Type 0 where
   pub ranges : inRange (length (st .letters)) (st .scopes) (shapeAt form k .row) row ≡ true
-  pub turn : follows (sectionAt k .sequence) (sectionAt k .key) (st .letters) (st .rows) (st .last) row ≡ true
+  pub turn : follows (sectionAt k .sequence) (sectionAt k .key) (st .letters) (st .own) row ≡ true
 
 pub row-admitted : (form k : ℕ) (st : Sofar) (row : Row) → admission form k st row ≡ 0 → Admitted form k st row
 unfolding admission
 row-admitted form k st row e =
     let ranges = inRange (length (st .letters)) (st .scopes) (shapeAt form k .row) row
-    in let turn = follows (sectionAt k .sequence) (sectionAt k .key) (st .letters) (st .rows) (st .last) row
-    in let p = held (ltb (st .rows) (sectionAt k .most)) 4 (unless ranges 3 (unless turn 4 0)) e
-    in let q = held ranges 2 (unless turn 4 0) (p .1)
-    in record { ranges = q .0; turn = held turn 3 0 (q .1) .0 }
+    in let after = follows (sectionAt k .sequence) (sectionAt k .key) (st .letters) (st .own) row
+    in let p = held (ltb (st .rows) (sectionAt k .most)) 4 (unless ranges 3 (unless after 4 0)) e
+    in let q = held ranges 2 (unless after 4 0) (p .1)
+    in record { ranges = q .0; turn = held after 3 0 (q .1) .0 }
 
 -- a label's row holds a capital
 label-capital : (form : ℕ) (row : Row) → formed (shapeAt form 0 .row) row ≡ true → isCapital (value row 0) ≡ true
@@ -51,10 +51,10 @@ unfolding shapeAt shapesOf formed everyItem itemFormed fieldFormed
 label-capital form row h = let p = both (isCapital (value row 0) && true) (idleZeros (field letter 0 ∷ byte 10 ∷ []) row) h in both (isCapital (value row 0)) true (p .0) .0
 
 -- it was not yet listed
-label-new : (letters : List ℕ) (rows : ℕ) (last row : Row) → follows (sectionAt 0 .sequence) (sectionAt 0 .key) letters rows last row ≡ true
+label-new : (letters : List ℕ) (own : List Row) (row : Row) → follows (sectionAt 0 .sequence) (sectionAt 0 .key) letters own row ≡ true
     → listed (value row 0) letters ≡ false
 unfolding sectionAt sections labels follows
-label-new letters rows last row h = not-true (listed (value row 0) letters) h
+label-new letters own row h = not-true (listed (value row 0) letters) h
 
 -- the count of scopes is at most 64
 count-few : (form n m : ℕ) (row : Row) → inRange n m (shapeAt form 4 .row) row ≡ true → value row 0 ≤ 64
@@ -71,7 +71,7 @@ sound-taken form k st row S f A = record { letters = labelled (eqb k labelSectio
     labelled : (t : Bool) → eqb k labelSection ≡ t → Letters (joined t (st .letters) (value row 0))
     labelled true e =
         let z = eqb-true k 0 e
-        in unfold joined in letters-joined (st .letters) (value row 0) (S .letters) (label-capital form row (rw z at f)) (label-new (st .letters) (st .rows) (st .last) row (rw z at (A .turn)))
+        in unfold joined in letters-joined (st .letters) (value row 0) (S .letters) (label-capital form row (rw z at f)) (label-new (st .letters) (st .own) row (rw z at (A .turn)))
     labelled false e = unfold joined in S .letters
 
     numbered : (t : Bool) → eqb k countSection ≡ t → counted t (value row 0) (st .scopes) ≤ 64
@@ -92,6 +92,7 @@ field-width letters scopes end v w h g = omega arith
 field-width letters scopes name v w h g = name-length v w
 field-width letters scopes kind v w h g = omega arith
 field-width letters scopes plain v w h g = omega arith
+field-width letters scopes turn v w h g = let l = ltb-true v 100 g in length-below 1 v (omega arith)
 
 pub line-width : (letters : List ℕ) (scopes : ℕ) (items : List Item) (row : Row) → scopes ≤ 64
     → everyItem (itemInRange (length letters) scopes row) items ≡ true → length (lineText letters items row) ≤ longest items

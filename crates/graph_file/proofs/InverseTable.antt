@@ -10,7 +10,7 @@ use lib.ListN.{length, getD}
 use borrow.Author.Tests.{ltb-true}
 use Rattle.text_field.specs.Bytes.{within, isDigit, isLower, isNameByte}
 use Rattle.text_field.proofs.ByteLaws.{both, clash}
-use Rattle.graph_file.specs.Format.{Content, state, scope, mark, count, letter, label, end, name, kind, plain, Item, byte, field, valuesOf, everyItem, Shape, labels, pairs, transitions, accepts, scopeCount, edges, declarations, openPairs, queries, sections, sectionAt, hasKinds, declarationShape, queryShape, shapesOf, shapeAt}
+use Rattle.graph_file.specs.Format.{Content, state, scope, mark, count, letter, label, end, name, kind, plain, turn, Item, byte, field, valuesOf, everyItem, Shape, labels, pairs, transitions, accepts, scopeCount, edges, declarations, openPairs, queries, sections, sectionAt, hasKinds, hasTurns, edgeShape, declarationShape, queryShape, shapesOf, shapeAt}
 use Rattle.graph_file.specs.Line.{sparesPlace}
 
 -- Does the byte end a field of what it holds: could it be no byte of it?
@@ -25,6 +25,7 @@ closes end b = true
 closes name b = not (isNameByte b)
 closes kind b = true
 closes plain b = true
+closes turn b = not (isDigit b)
 
 -- Does a field of what it holds end by itself, whatever byte follows?
 unfoldable pub endsItself : Content → Bool
@@ -38,6 +39,7 @@ endsItself end = true
 endsItself name = false
 endsItself kind = true
 endsItself plain = true
+endsItself turn = false
 
 pub ends-closes : (k : Content) (b : ℕ) → endsItself k ≡ true → closes k b ≡ true
 unfolding endsItself closes
@@ -51,6 +53,7 @@ ends-closes end b h = refl
 ends-closes name b h = absurd (clash h refl)
 ends-closes kind b h = refl
 ends-closes plain b h = refl
+ends-closes turn b h = absurd (clash h refl)
 
 -- a field ends by itself, or a byte that ends it follows
 unfoldable pub bounded : Content → List Item → Bool
@@ -99,6 +102,7 @@ startsField end = true
 startsField name = false
 startsField kind = false
 startsField plain = false
+startsField turn = true
 
 -- a row's line begins with no lower-case letter
 unfoldable pub startsRow : List Item → Bool
@@ -106,7 +110,7 @@ startsRow [] = false
 startsRow (byte b ∷ items) = not (isLower b)
 startsRow (field k c ∷ items) = startsField k
 
--- how many bytes a field takes at most: states and scopes have two digits, marks five
+-- how many bytes a field takes at most: states, scopes and turns have two digits, marks five
 unfoldable pub widest : Content → ℕ
 widest state = 2
 widest scope = 2
@@ -118,6 +122,7 @@ widest end = 1
 widest name = 16
 widest kind = 1
 widest plain = 0
+widest turn = 2
 
 unfoldable pub longest : List Item → ℕ
 longest [] = 0
@@ -138,10 +143,11 @@ allFine (s ∷ ss) = fine s && allFine ss
 
 -- the nine sections are as they must be, in a file of any form: by computing
 shapes-fine : (form : ℕ) → allFine (shapesOf form) ≡ true
-unfolding hasKinds declarationShape queryShape shapesOf allFine fine startsNames startsRow startsField orderly clear lastPlace bounded endsItself closes everyItem sparesPlace valuesOf isLower isDigit isNameByte within
+unfolding hasKinds hasTurns edgeShape declarationShape queryShape shapesOf allFine fine startsNames startsRow startsField orderly clear lastPlace bounded endsItself closes everyItem sparesPlace valuesOf isLower isDigit isNameByte within
 shapes-fine zero = refl
 shapes-fine (suc zero) = refl
-shapes-fine (suc (suc n)) = refl
+shapes-fine (suc (suc zero)) = refl
+shapes-fine (suc (suc (suc n))) = refl
 
 at-fine : (ss : List Shape) (d : Shape) (k : ℕ) → allFine ss ≡ true → k < length ss → fine (getD ss k d) ≡ true
 unfolding allFine
@@ -175,10 +181,11 @@ room form (suc left) k = length (shapeAt form k .names) + (sectionAt k .most * l
 
 -- the nine sections' room is within what refusal 1 allows: by computing
 pub room-enough : (form : ℕ) → leb (room form 9 0) 32768 ≡ true
-unfolding labels pairs transitions accepts scopeCount edges declarations openPairs queries sections sectionAt hasKinds declarationShape queryShape shapesOf shapeAt room longest widest
+unfolding labels pairs transitions accepts scopeCount edges declarations openPairs queries sections sectionAt hasKinds hasTurns edgeShape declarationShape queryShape shapesOf shapeAt room longest widest
 room-enough zero = refl
 room-enough (suc zero) = refl
-room-enough (suc (suc n)) = refl
+room-enough (suc (suc zero)) = refl
+room-enough (suc (suc (suc n))) = refl
 
 -- the bytes of a names line are a line that holds no field
 pub bytes-orderly : (bs : List ℕ) → orderly (map byte bs) ≡ true

@@ -13,7 +13,7 @@ use Rattle.text_field.specs.Bytes.{within, isDigit, isCapital, isLower}
 use Rattle.text_field.specs.Number.{numberHere, numberMeaning}
 use Rattle.text_field.proofs.ByteLaws.{clash, within-bounds, within-below, digit-bounds}
 use Rattle.text_field.proofs.NumberLaws.{first-off}
-use Rattle.graph_file.specs.Format.{Content, state, scope, mark, count, letter, label, end, name, kind, plain, Item, byte, field, sectionAt, shapeAt}
+use Rattle.graph_file.specs.Format.{Content, state, scope, mark, count, letter, label, end, name, kind, plain, turn, Item, byte, field, sectionAt, shapeAt}
 use Rattle.text_field.specs.Outcome.{done, andThen, refuseIf}
 use Rattle.graph_file.specs.Admission.{Row, rowOf, blank, Sofar, inRange}
 use Rattle.graph_file.specs.Line.{Reading, numberTaken, byteTaken, place, endTaken, first, readField, readItem, placeOf, readItems, lineText, formed}
@@ -75,6 +75,7 @@ field-starts letters end text r h e = end-starts letters text r e
 field-starts letters name text r h e = absurd (clash h refl)
 field-starts letters kind text r h e = absurd (clash h refl)
 field-starts letters plain text r h e = absurd (clash h refl)
+field-starts letters turn text r h e = number-starts text r e
 
 -- a text that was read as a row does not begin with a lower-case letter
 row-starts : (letters : List ℕ) (items : List Item) (acc : Row) (text : List ℕ) (r : Reading) → startsRow items ≡ true

@@ -1,6 +1,7 @@
 -- What the proofs of several functions use, and the examples.
 pub mod Examples
 pub mod FormatLaws
+pub mod ColumnLaws
 pub mod RowLaws
 pub mod AdmissionLaws
 pub mod LineLaws
@@ -34,10 +35,12 @@ pub mod SoughtStart
 pub mod DecodeWay
 pub mod DecodeWritten
 pub mod DecodeRows
+pub mod ApartLaws
 pub mod DecodeSections
 pub mod DecodeTable
 pub mod DecodeOrder
 pub mod DecodePlaces
+pub mod DecodeEdges
 pub mod DecodeAccepted
 pub mod FormedAdmitted
 pub mod FormedWriting
@@ -51,3 +54,5 @@ pub mod SoughtRows
 pub mod SoughtIs
 pub mod NameOrderLaws
 pub mod Refusals
+pub mod TurnExamples
+pub mod TurnRefusals

@@ -126,5 +126,5 @@ read-declarations-ascend text cells e = record {
   kinds = kinds-read text cells e;
   names = names-read text cells e;
   ascend = all-declared (rowsIn declarationSection cells) (names-read text cells e)
-      (table-ascends cells (read-admitted text cells e) declarationSection (omega arith) refl);
+      (table-ascends cells (read-admitted text cells e) declarationSection (omega arith) tt);
 }

@@ -20,7 +20,7 @@ use Rattle.text_field.specs.Name.{nameMeaning, nameHere}
 use Rattle.text_field.specs.Outcome.{done, andThen}
 use Rattle.text_field.proofs.OutcomeLaws.{done-same, not-done}
 use Rattle.graph_file.specs.declared.rows.Counts.{Counts}
-use Rattle.graph_file.specs.Format.{Content, state, scope, mark, count, letter, label, end, name, kind, plain, Item, byte, field, hasKinds, declarationShape, queryShape, sectionAt, shapesOf, shapeAt, ownCells}
+use Rattle.graph_file.specs.Format.{Content, state, scope, mark, count, letter, label, end, name, kind, plain, turn, Item, byte, field, hasKinds, hasTurns, edgeShape, declarationShape, queryShape, sectionAt, shapesOf, shapeAt, ownCells}
 use Rattle.graph_file.specs.Admission.{Row, blank, begun, taken}
 use Rattle.graph_file.specs.Line.{Reading, numberTaken, nameTaken, byteTaken, place, endTaken, first, readField, startsWith, readItem, placeOf, readItems}
 use Rattle.graph_file.specs.File.{Piece, Stage, afterRow, oneRow, throughRows, afterNames, throughSection, readNames, readRow, reading}
@@ -75,6 +75,7 @@ field-later letters label text r e = byte-later (isCapital (first text)) (place 
 field-later letters end text r e = end-later letters (first text) text r e
 field-later letters name text r e = name-later (nameHere text) text r e
 field-later letters kind text r e = byte-later (isLower (first text)) (first text) text r e
+field-later letters turn text r e = number-later (numberHere text) text r e
 field-later letters plain text r e = (0, ap (λ (z : Reading). z .rest) (done-same _ r e))
 
 -- how many ends of line stand among the items
@@ -116,7 +117,12 @@ items-lines letters (i ∷ items) row text r e =
     let g = items-lines letters items (sets row (placeOf i) (s .0 .values)) (s .0 .rest) r (s .2) in
     omega arith
 
--- each section's row ends its line, in both forms
+-- each section's row ends its line, in every form
+edge-ends : (turns : Bool) → lineEnds (edgeShape turns .row) ≡ 1
+unfolding lineEnds itemEnds lineCount edgeShape
+edge-ends true = refl
+edge-ends false = refl
+
 declaration-ends : (kinds : Bool) → lineEnds (declarationShape kinds .row) ≡ 1
 unfolding lineEnds itemEnds lineCount declarationShape
 declaration-ends true = refl
@@ -134,7 +140,7 @@ row-ends f (suc zero) = refl
 row-ends f (suc (suc zero)) = refl
 row-ends f (suc (suc (suc zero))) = refl
 row-ends f (suc (suc (suc (suc zero)))) = refl
-row-ends f (suc (suc (suc (suc (suc zero))))) = refl
+row-ends f (suc (suc (suc (suc (suc zero))))) = edge-ends (hasTurns f)
 row-ends f (suc (suc (suc (suc (suc (suc zero)))))) = declaration-ends (hasKinds f)
 row-ends f (suc (suc (suc (suc (suc (suc (suc zero))))))) = refl
 row-ends f (suc (suc (suc (suc (suc (suc (suc (suc zero)))))))) = query-ends (hasKinds f)

@@ -18,7 +18,7 @@ use Rattle.graph_file.specs.Admission.{Row, blank, Sofar, nothing, begun
 use Rattle.graph_file.specs.Line.{Reading, readItems}
 use Rattle.graph_file.specs.File.{Piece, Way, Stage, throughRows, afterNames, enough, throughSection, isEmpty, throughSections, throughSome, atStart, ordered, whole, readNames, reading, formOf, readStage}
 use Rattle.graph_file.specs.Order.{orderFault}
-use Rattle.graph_file.specs.Table.{itemsAt, namesPlace, rowsAt, lettersAt, pairsAt, lastAt, sofarAt}
+use Rattle.graph_file.specs.Table.{itemsAt, namesPlace, rowsAt, lettersAt, pairsAt, rowsBack, sofarAt}
 use Rattle.graph_file.specs.Reader.{lineOutcome, stageAt, refusedOr, partOutcome, Placed, RowsTaken, SectionTaken, SomeTaken, roomBefore}
 use Rattle.graph_file.proofs.FormatLaws.{names-items}
 use Rattle.graph_file.proofs.LineLaws.{outcome-ok, outcome-not}
@@ -43,7 +43,7 @@ module _ (form k n : ℕ) (t part : List ℕ) (c : Counts) (l : Line) (e : lineO
 
   -- the names line stands there
   pub names-read : l .ok ≡ true → throughSection (reading form) k (stageAt t n c part) ≡ andThen (throughRows (reading form) (suc (sectionAt k .most)) k (stageAt t n (fresh c) (drop (l .next) part))) (enough k)
-  unfolding throughSection reading readNames stageAt andThen afterNames begun sofarAt lastAt
+  unfolding throughSection reading readNames stageAt andThen afterNames begun sofarAt rowsBack
   names-read p = rw (named, outcome-ok l part p, append-nil (take n t))
 
   module _ (ok : l .ok ≡ true) (r : Part) (u : List ℕ) (h : partOutcome r u part ≡ throughRows (reading form) (suc (sectionAt k .most)) k (stageAt t n (fresh c) (drop (l .next) part))) where
@@ -133,7 +133,7 @@ room-below (suc (suc (suc (suc (suc (suc (suc (suc (suc (suc k)))))))))) h = abs
 
 -- the empty table's stage
 pub start-stage : (t text : List ℕ) → 0 < length t → stageAt (set t 0 0) 1 (record { labels = 0; pairs = 0; scopes = 0; rows = 0 }) text ≡ atStart (oldForm ∷ []) text
-unfolding stageAt atStart sofarAt nothing lettersAt pairsAt rowsAt lastAt
+unfolding stageAt atStart sofarAt nothing lettersAt pairsAt rowsAt rowsBack
 start-stage [] text h = absurd (omega arith)
 start-stage (x ∷ t) text h = refl
 

@@ -20,7 +20,7 @@ use Rattle.text_field.specs.Name.{nameHere, namePlaced, nameMeaning}
 use Rattle.text_field.specs.Bytes.{isCapital, isLower}
 use Rattle.graph_file.specs.declared.rows.Part.{Part}
 use Rattle.graph_file.specs.declared.sought.NamePlace.{NamePlace}
-use Rattle.graph_file.specs.Format.{Item, byte, field, state, scope, mark, count, letter, label, end, name, kind, plain, shapeAt, querySection}
+use Rattle.graph_file.specs.Format.{Item, byte, field, state, scope, mark, count, letter, label, end, name, kind, plain, turn, shapeAt, querySection}
 use Rattle.text_field.specs.Outcome.{Outcome, refused, done, andThen}
 use Rattle.graph_file.specs.Line.{Reading, numberTaken, nameTaken, byteTaken, place, endTaken, readField, startsWith, readItem}
 use Rattle.graph_file.specs.File.{Stage, formOf, readStage}
@@ -178,6 +178,7 @@ item-last (field end c) t = end-last [] (getD t 0 0) t
 item-last (field name c) t = name-last (nameHere t) t
 item-last (field kind c) t = byte-last (isLower (getD t 0 0)) (getD t 0 0) t
 item-last (field plain c) t = (0, refl)
+item-last (field turn c) t = number-last (numberHere t) t
 
 from-last : (items : List Item) (t : List ℕ) → LastOf (fromName items t) t
 unfolding fromName

@@ -1,5 +1,5 @@
 -- Where the name stands in a query's line, in either form. Assumes nothing.
-use Prim.Native.Nat.{ℕ, zero, suc, _+_, _-_, _≤_, _<_}
+use Prim.Native.Nat.{ℕ, _+_, _-_, _≤_, _<_}
 use mathlib.Core.Path.{_≡_, refl, sym, ap, _∙_}
 use mathlib.Core.List.{List, []}
 use mathlib.Core.Bool.{Bool, true, false}
@@ -11,7 +11,7 @@ use Rattle.text_field.specs.declared.NumberRead.{NumberRead}
 use Rattle.text_field.specs.declared.NumberRead.the-variants.{Number, NoNumber}
 use Rattle.text_field.specs.Number.{numberHere, numberPlaced, numberMeaning}
 use Rattle.text_field.specs.Bytes.{within, isLower}
-use Rattle.graph_file.specs.Format.{Item, byte, field, kind, valuesOf, kindForm, hasKinds, queryShape, shapesOf, shapeAt, querySection}
+use Rattle.graph_file.specs.Format.{Item, byte, field, kind, valuesOf, hasKinds, queryShape, shapesOf, shapeAt, querySection}
 use Rattle.text_field.specs.Outcome.{andThen}
 use Rattle.graph_file.specs.Line.{numberTaken, byteTaken, readField, startsWith, readItem}
 use Rattle.graph_file.specs.NameSought.{restOf, isNameField, fromName}
@@ -110,14 +110,15 @@ module _ (s : List ℕ) (at p a : ℕ) (numbered : drop p s ≡ afterNumber (dro
   behind-space : drop a s ≡ afterItem (byte 32) (afterNumber (drop at s))
   behind-space = spaced ∙ ap (afterItem (byte 32)) numbered
 
-  pub start-plain : (form : ℕ) → (form ≡ kindForm → ⊥) → a ≤ length s → a ≡ length s - length (fromName (shapeAt form querySection .row) (drop at s))
-  unfolding hasKinds shapeAt shapesOf
-  start-plain zero n h = placed-at s _ a (behind-space ∙ sym (line-plain (drop at s))) h
-  start-plain (suc zero) n h = absurd (n refl)
-  start-plain (suc (suc form)) n h = placed-at s _ a (behind-space ∙ sym (line-plain (drop at s))) h
+  -- the queries' line is the one with kinds where the form shows them
+  line-by : (form : ℕ) (t : Bool) → hasKinds form ≡ t → fromName (queryShape t .row) (drop at s) ≡ fromName (shapeAt form querySection .row) (drop at s)
+  unfolding shapeAt shapesOf
+  line-by form t e = ap (λ (b : Bool). fromName (queryShape b .row) (drop at s)) (sym e)
 
-  pub start-kinds : (form b d : ℕ) → form ≡ kindForm → drop b s ≡ afterItem (field kind 1) (drop a s) → drop d s ≡ afterItem (byte 32) (drop b s) → d ≤ length s
+  pub start-plain : (form : ℕ) → hasKinds form ≡ false → a ≤ length s → a ≡ length s - length (fromName (shapeAt form querySection .row) (drop at s))
+  start-plain form e h = placed-at s _ a (behind-space ∙ sym (line-plain (drop at s)) ∙ line-by form false e) h
+
+  pub start-kinds : (form b d : ℕ) → hasKinds form ≡ true → drop b s ≡ afterItem (field kind 1) (drop a s) → drop d s ≡ afterItem (byte 32) (drop b s) → d ≤ length s
       → d ≡ length s - length (fromName (shapeAt form querySection .row) (drop at s))
-  unfolding hasKinds shapeAt shapesOf
   start-kinds form b d e f g h =
-      rw e (placed-at s _ d (g ∙ ap (afterItem (byte 32)) (f ∙ ap (afterItem (field kind 1)) behind-space) ∙ sym (line-kinds (drop at s))) h)
+      placed-at s _ d (g ∙ ap (afterItem (byte 32)) (f ∙ ap (afterItem (field kind 1)) behind-space) ∙ sym (line-kinds (drop at s)) ∙ line-by form true e) h

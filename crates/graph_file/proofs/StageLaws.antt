@@ -9,9 +9,8 @@ use Rattle.text_field.specs.Buffer.{Buf, put, puts}
 use Rattle.text_field.proofs.BufferLaws.{put-in}
 use Rattle.graph_file.specs.declared.rows.Counts.{Counts}
 use Rattle.graph_file.specs.Admission.{Row, value, rowOf, taken}
-use Rattle.graph_file.specs.Table.{rowsAt, lettersAt, pairsAt, lastAt, sofarAt}
+use Rattle.graph_file.specs.Table.{rowsAt, lettersAt, pairsAt, rowsBack, sofarAt}
 use Rattle.graph_file.specs.Reader.{Placed, countsAfter}
-use Rattle.graph_file.proofs.AdmissionLaws.{last-row}
 use Rattle.graph_file.proofs.TakenLaws.{sofar-taken}
 use Rattle.graph_file.proofs.RowLaws.{row-cells}
 
@@ -81,18 +80,17 @@ row-new t n k row ys h l = rw (drop-at (take n t) ((k ∷ row) ++ ys) n (length-
     inner : (r : List ℕ) → length r ≡ 5 → getD (r ++ ys) 0 0 ∷ getD (r ++ ys) 1 0 ∷ getD (r ++ ys) 2 0 ∷ getD (r ++ ys) 3 0 ∷ getD (r ++ ys) 4 0 ∷ [] ≡ r
     inner r e = rw (List·getD-append r ys 0 0 (omega arith), List·getD-append r ys 0 1 (omega arith), List·getD-append r ys 0 2 (omega arith), List·getD-append r ys 0 3 (omega arith), List·getD-append r ys 0 4 (omega arith)) (five r e)
 
--- the last row is kept, where the section has one
-last-kept : (t : List ℕ) (n : ℕ) (ys : List ℕ) (rows : ℕ) → n ≤ length t → 1 + 6 * rows ≤ n → lastAt rows n (take n t ++ ys) ≡ lastAt rows n t
-unfolding lastAt
-last-kept t n ys zero h r = refl
-last-kept t n ys (suc rows) h r =
-    let z : suc rows ≡ 0 → ⊥ = λ e. omega arith in
-    last-row (suc rows) n (take n t ++ ys) z ∙ row-kept t n ys h (n - 6) (omega arith) ∙ sym (last-row (suc rows) n t z)
+-- the rows before place n are kept
+own-kept : (t : List ℕ) (n : ℕ) (ys : List ℕ) (rows p : ℕ) → n ≤ length t → p ≤ n → 6 * rows ≤ p → rowsBack rows p (take n t ++ ys) ≡ rowsBack rows p t
+unfolding rowsBack
+own-kept t n ys zero p h l r = refl
+own-kept t n ys (suc rows) p h l r =
+    rw (row-kept t n ys h (p - 6) (omega arith), own-kept t n ys rows (p - 6) h (omega arith) (omega arith))
 
 -- what is written from place n on changes nothing of what the rows before leave
 pub sofar-kept : (k n : ℕ) (t ys : List ℕ) (c : Counts) → Placed k n c → n ≤ length t → sofarAt (take n t ++ ys) n c ≡ sofarAt t n c
 unfolding sofarAt pairsAt
-sofar-kept k n t ys c p h = λ i. record { letters = letters-kept t n ys h (c .labels) 1 (omega (arith, p .within)) i; pairs = rows-kept t n ys h (c .pairs) (1 + 6 * c .labels) (p .within) i; scopes = c .scopes; rows = c .rows; last = last-kept t n ys (c .rows) h (p .rowed) i }
+sofar-kept k n t ys c p h = λ i. record { letters = letters-kept t n ys h (c .labels) 1 (omega (arith, p .within)) i; pairs = rows-kept t n ys h (c .pairs) (1 + 6 * c .labels) (p .within) i; scopes = c .scopes; rows = c .rows; own = own-kept t n ys (c .rows) n h (omega arith) (omega (arith, p .rowed)) i }
 
 -- the table with a row of section k written at place n
 unfoldable pub grown : ℕ → ℕ → List ℕ → Row → List ℕ

@@ -12,9 +12,8 @@ use native.Mathlib.Nat.{add-zero}
 use borrow.Author.Tests.{eqb-true}
 use Rattle.graph_file.specs.declared.rows.Counts.{Counts}
 use Rattle.graph_file.specs.Admission.{Row, value, rowOf, counted, joined, taken}
-use Rattle.graph_file.specs.Table.{rowsAt, lettersAt, pairsAt, lastAt, sofarAt}
+use Rattle.graph_file.specs.Table.{rowsAt, lettersAt, pairsAt, rowsBack, sofarAt}
 use Rattle.graph_file.specs.Reader.{Placed, countsAfter}
-use Rattle.graph_file.proofs.AdmissionLaws.{last-row}
 
 -- one row more, at the end
 pub rows-more : (m f : ℕ) (t : List ℕ) → rowsAt (suc m) (drop f t) ≡ rowsAt m (drop f t) ++ (rowOf (drop (f + 6 * m) t) ∷ [])
@@ -63,12 +62,11 @@ module _ (k n : ℕ) (t : List ℕ) (c : Counts) (p : Placed k n c) where
           rw (add-one (c .pairs), rows-more (c .pairs) (1 + 6 * c .labels) t, ← q)
       go false false d e = refl
 
-  taken-last : lastAt (c .rows + 1) (n + 6) t ≡ rowOf (drop n t)
-  taken-last =
-      let e : n + 6 - 6 ≡ n = omega arith in
-      last-row (c .rows + 1) (n + 6) t (λ z. omega arith) ∙ rw e
+  taken-own : rowsBack (c .rows + 1) (n + 6) t ≡ rowOf (drop n t) ∷ rowsBack (c .rows) n t
+  unfolding rowsBack
+  taken-own = let e : n + 6 - 6 ≡ n = omega arith in rw (add-one (c .rows), e)
 
   -- with the row at place n taken
   pub sofar-taken : sofarAt t (n + 6) (countsAfter k c (value (rowOf (drop n t)) 0)) ≡ taken k (sofarAt t n c) (rowOf (drop n t))
   unfolding sofarAt countsAfter taken
-  sofar-taken = λ i. record { letters = taken-letters i; pairs = taken-pairs i; scopes = counted (eqb k 4) (value (rowOf (drop n t)) 0) (c .scopes); rows = c .rows + 1; last = taken-last i }
+  sofar-taken = λ i. record { letters = taken-letters i; pairs = taken-pairs i; scopes = counted (eqb k 4) (value (rowOf (drop n t)) 0) (c .scopes); rows = c .rows + 1; own = taken-own i }

@@ -11,7 +11,7 @@ use Rattle.text_field.specs.Number.{numberText}
 use Rattle.text_field.specs.Name.{nameText}
 use Rattle.text_field.specs.Buffer.{Buf, put, puts}
 use Rattle.text_field.proofs.BufferLaws.{puts-one}
-use Rattle.graph_file.specs.Format.{plain, Item, byte, everyItem}
+use Rattle.graph_file.specs.Format.{turn, Item, byte, everyItem}
 use Rattle.graph_file.specs.Admission.{Row, value, rowOf}
 use Rattle.graph_file.specs.Line.{endByte, fieldText, itemText, lineText, fieldFormed, sparesPlace, idleZero}
 use Rattle.graph_file.specs.Table.{contentOf, itemOf, formatBytes, itemsAt, rowsAt, lettersAt}
@@ -62,9 +62,13 @@ module _ (letters : List ℕ) (n v w : ℕ) where
   unfolding fieldText contentOf
   text-kind e = sym (rw e)
 
-  pub text-plain : contentOf n ≡ plain → [] ≡ fieldText letters (contentOf n) v w
-  unfolding fieldText
+  pub text-plain : n ≡ 9 → [] ≡ fieldText letters (contentOf n) v w
+  unfolding fieldText contentOf
   text-plain e = sym (rw e)
+
+  pub text-turn : contentOf n ≡ turn → numberText v ≡ fieldText letters (contentOf n) v w
+  unfolding fieldText
+  text-turn e = sym (rw e)
 
 -- a place that the items fill, and one that they leave alone, where they fill the first u places
 module _ (items : List Item) (row : Row) (d u : ℕ) (e : (d : ℕ) → everyItem (sparesPlace d) items ≡ leb u d) where

@@ -19,7 +19,7 @@ use Rattle.graph_file.specs.Admission.{Row, value, rowOf, nothing, begun
 use Rattle.graph_file.specs.Line.{lineText, formed}
 use Rattle.graph_file.specs.Order.{orderFault}
 use Rattle.graph_file.specs.File.{Piece, Stage, ifAdmitted, afterRow, oneRow, throughRows, afterNames, enough, throughSection, throughSections, atStart, ordered, whole, writeNames, cellsFollow, writeRow, writing, hasForm, formIn}
-use Rattle.graph_file.specs.Table.{itemsAt, namesPlace, rowPlace, rowsAt, lettersAt, pairsAt, lastAt, sofarAt}
+use Rattle.graph_file.specs.Table.{itemsAt, namesPlace, rowPlace, rowsAt, lettersAt, pairsAt, rowsBack, sofarAt}
 use Rattle.graph_file.specs.Reader.{Placed, countsAfter, roomBefore}
 use Rattle.graph_file.specs.Writer.{rowFormed, Poured, stageFrom, poured, pour, pouredAt, refusedOrPoured, partWritten, countsBegun, noCounts}
 use Rattle.graph_file.proofs.ReadLaws.{admitted-room}
@@ -44,7 +44,7 @@ unfolding hasForm
 no-form [] e = refl
 no-form (x ∷ t) e = absurd (omega arith)
 
-pub form-cell : (t : List ℕ) → (length t ≡ 0 → ⊥) → leb (getD t 0 0) 1 ≡ hasForm t
+pub form-cell : (t : List ℕ) → (length t ≡ 0 → ⊥) → leb (getD t 0 0) 2 ≡ hasForm t
 unfolding hasForm
 form-cell [] n = absurd (n refl)
 form-cell (x ∷ t) n = refl
@@ -174,7 +174,7 @@ names-text form k letters row = rw (names-items form k) (text-bytes letters (sha
 
 -- a section after its names line
 sofar-begun : (t : List ℕ) (p : ℕ) (c : Counts) → begun (sofarAt t p c) ≡ sofarAt t p (countsBegun c)
-unfolding begun sofarAt countsBegun lastAt
+unfolding begun sofarAt countsBegun rowsBack
 sofar-begun t p c = refl
 
 pub section-begun : (form k : ℕ) (t : List ℕ) (p : ℕ) (c : Counts) (b : Buf) → pour (puts b (shapeAt form k .names)) (andThen (throughRows (writing form) (suc (sectionAt k .most)) k (stageFrom (sofarAt t p (countsBegun c)) (drop p t))) (enough k)) ≡ pour b (throughSection (writing form) k (stageFrom (sofarAt t p c) (drop p t)))
@@ -217,7 +217,7 @@ sections-end form k t p c out n h l =
 
 -- before any row
 pub sofar-none : (t : List ℕ) → sofarAt t 1 noCounts ≡ nothing
-unfolding sofarAt nothing lettersAt pairsAt rowsAt lastAt
+unfolding sofarAt nothing lettersAt pairsAt rowsAt rowsBack
 sofar-none t = refl
 
 pub sections-start : (form : ℕ) (t : List ℕ) (b : Buf) → pour b (throughSections (writing form) 9 0 (stageFrom (sofarAt t 1 noCounts) (drop 1 t))) ≡ pour b (throughSections (writing form) 9 0 (stageFrom nothing (drop 1 t)))

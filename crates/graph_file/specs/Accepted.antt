@@ -4,14 +4,15 @@
 use Prim.Native.Nat.{ℕ, _≤_, _<_}
 use mathlib.Core.Path.{_≡_}
 use mathlib.Core.Logic.{_⊎_}
+use mathlib.Core.Option.{some}
 use mathlib.Core.List.{List}
 use lib.ListN.{length, drop}
 use Rattle.scope_graph.specs.Language.{_∈_, End, stop, by}
 use Rattle.scope_graph.specs.Rows.{OrderPair, Transition, RulesPass, language}
-use Rattle.scope_graph.specs.Graph.{Declaration, Query, OpenPair}
+use Rattle.scope_graph.specs.Graph.{Edge, Declaration, Query, OpenPair}
 use Rattle.scope_graph.specs.Path.{Distinct}
 use Rattle.scope_graph.specs.Listing.{Pairwise, Accepted}
-use Rattle.graph_file.specs.Format.{sectionAt, stateCount, markCount, mostScopes, tableCells}
+use Rattle.graph_file.specs.Format.{sectionAt, stateCount, markCount, turnCount, mostScopes, tableCells}
 use Rattle.text_field.specs.Outcome.{done}
 use Rattle.graph_file.specs.File.{readCells, writeText}
 use Rattle.graph_file.specs.Table.{rowsAt}
@@ -47,6 +48,7 @@ pub record AcceptedTable (cells : List ℕ) : Type 0 where
       → EndListed (rulesOf cells .labels) (p .less) × EndListed (rulesOf cells .labels) (p .more)
   pub states : (t : Transition) → t ∈ rulesOf cells .transitions → t .state < stateCount
   pub accepts : (s : ℕ) → s ∈ rulesOf cells .accept → s < stateCount
+  pub turns : (e : Edge (language (rulesOf cells))) → e ∈ graphOf cells .edges → (n : ℕ) → e .step .turn ≡ some n → n < turnCount
   pub marks : (d : Declaration (language (rulesOf cells))) → d ∈ graphOf cells .declarations → d .mark < markCount
   pub open-at : (o : OpenPair (language (rulesOf cells))) → o ∈ opensOf cells → o .at < scopesOf cells
   pub open-end : (o : OpenPair (language (rulesOf cells))) → o ∈ opensOf cells

@@ -6,7 +6,7 @@ use mathlib.Core.List.{List, [], _∷_, _++_}
 use mathlib.Core.Bool.{Bool, true, false, not, _&&_, _||_}
 use lib.Dec.{eqb, ltb, leb}
 use lib.ListN.{length, getD}
-use Rattle.graph_file.specs.Format.{Content, state, scope, mark, count, letter, label, end, name, kind, plain, Item, byte, field, everyItem, Sequence, ascending, once, free, sectionAt, shapeAt, labelSection, pairSection, countSection, stateCount, markCount, mostScopes}
+use Rattle.graph_file.specs.Format.{Content, state, scope, mark, count, letter, label, end, name, kind, plain, turn, Item, byte, field, everyItem, Sequence, ascending, apart, once, free, sectionAt, shapeAt, labelSection, pairSection, countSection, stateCount, markCount, turnCount, mostScopes}
 
 -- a row's five values
 abbrev pub Row : Type 0
@@ -25,22 +25,22 @@ abbrev pub blank : Row
 blank = 0 ∷ 0 ∷ 0 ∷ 0 ∷ 0 ∷ []
 
 -- What the rows above leave for the next one: the labels' letters in sequence, the order pairs'
--- rows, the count of scopes (0 before its row), how many rows this section has so far, and the last
--- of them.
+-- rows, the count of scopes (0 before its row), how many rows this section has so far, and its own
+-- rows, the last of them first.
 pub record Sofar : Type 0 where
   pub letters : List ℕ
   pub pairs : List Row
   pub scopes : ℕ
   pub rows : ℕ
-  pub last : Row
+  pub own : List Row
 
 -- before any row
 unfoldable pub nothing : Sofar
-nothing = record { letters = []; pairs = []; scopes = 0; rows = 0; last = blank }
+nothing = record { letters = []; pairs = []; scopes = 0; rows = 0; own = [] }
 
 -- a section begins: it has no row yet
 unfoldable pub begun : Sofar → Sofar
-begun st = record { letters = st .letters; pairs = st .pairs; scopes = st .scopes; rows = 0; last = blank }
+begun st = record { letters = st .letters; pairs = st .pairs; scopes = st .scopes; rows = 0; own = [] }
 
 -- a row joins the rows of a section
 unfoldable pub joined : {A : Type 0} → Bool → List A → A → List A
@@ -58,12 +58,13 @@ taken k st row = record {
   pairs = joined (eqb k pairSection) (st .pairs) row;
   scopes = counted (eqb k countSection) (value row 0) (st .scopes);
   rows = st .rows + 1;
-  last = row;
+  own = row ∷ st .own;
 }
 
 -- Is the value in its range or list? States are 0 to 15, scopes below their count, marks 0 to
--- 65,535, the count 1 to 64. A label is its number among those listed; an end is 0 for the end mark
--- and one more than the label's number for a label. Names and kinds have no range.
+-- 65,535, turns 0 to 99 (02, K12), the count 1 to 64. A label is its number among those listed; an
+-- end is 0 for the end mark and one more than the label's number for a label. Names and kinds have
+-- no range.
 unfoldable pub contentInRange : ℕ → ℕ → Content → ℕ → Bool
 contentInRange labels scopes state v = ltb v stateCount
 contentInRange labels scopes scope v = ltb v scopes
@@ -75,6 +76,7 @@ contentInRange labels scopes end v = leb v labels
 contentInRange labels scopes name v = true
 contentInRange labels scopes kind v = true
 contentInRange labels scopes plain v = true
+contentInRange labels scopes turn v = ltb v turnCount
 
 -- of an item of a line, whose value the row holds
 unfoldable pub itemInRange : ℕ → ℕ → Row → Item → Bool
@@ -95,12 +97,37 @@ unfoldable pub listed : ℕ → List ℕ → Bool
 listed x [] = false
 listed x (y ∷ ys) = eqb y x || listed x ys
 
--- Does the row follow those above as its section asks: by its key, the letters listed so far, how
--- many rows the section has and the last of them? The first row always ascends.
-unfoldable pub follows : Sequence → List ℕ → List ℕ → ℕ → Row → Row → Bool
-follows ascending key letters rows last row = eqb rows 0 || keyLess key last row
-follows once key letters rows last row = not (listed (value row 0) letters)
-follows free key letters rows last row = true
+-- Does the row ascend from the last one above it? The first row always does.
+unfoldable pub ascends : List ℕ → List Row → Row → Bool
+ascends key [] row = true
+ascends key (last ∷ above) row = keyLess key last row
+
+-- Do the edge rows leave one scope by one label?
+unfoldable pub sameSource : Row → Row → Bool
+sameSource a b = eqb (value a 0) (value b 0) && eqb (value a 1) (value b 1)
+
+-- Are they one edge, whatever their turns: the same from, label and to?
+unfoldable pub sameEdge : Row → Row → Bool
+sameEdge a b = sameSource a b && eqb (value a 2) (value b 2)
+
+-- Is the row's edge among those directly above that leave the same scope by the same label?
+unfoldable pub standsAbove : List Row → Row → Bool
+standsAbove [] row = false
+standsAbove (a ∷ above) row = sameSource a row && (eqb (value a 2) (value row 2) || standsAbove above row)
+
+-- Does the edge row repeat one of those above it (02, K12)? In rows that ascend, those of one scope
+-- and label stand together, lower turns above higher ones, so that a row of turn 0 repeats none.
+-- What this comes to is said in specs/Formed.
+unfoldable pub repeats : List Row → Row → Bool
+repeats own row = ltb 0 (value row 3) && standsAbove own row
+
+-- Does the row follow those above as its section asks: by its key, the letters listed so far and
+-- the section's own rows?
+unfoldable pub follows : Sequence → List ℕ → List ℕ → List Row → Row → Bool
+follows ascending key letters own row = ascends key own row
+follows apart key letters own row = ascends key own row && not (repeats own row)
+follows once key letters own row = not (listed (value row 0) letters)
+follows free key letters own row = true
 
 unfoldable pub unless : Bool → ℕ → ℕ → ℕ
 unless true n otherwise = otherwise
@@ -113,4 +140,4 @@ unfoldable pub admission : ℕ → ℕ → Sofar → Row → ℕ
 admission form k st row =
     unless (ltb (st .rows) (sectionAt k .most)) 5
     (unless (inRange (length (st .letters)) (st .scopes) (shapeAt form k .row) row) 3
-    (unless (follows (sectionAt k .sequence) (sectionAt k .key) (st .letters) (st .rows) (st .last) row) 4 0))
+    (unless (follows (sectionAt k .sequence) (sectionAt k .key) (st .letters) (st .own) row) 4 0))

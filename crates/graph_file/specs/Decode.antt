@@ -5,6 +5,7 @@ use Prim.Native.Nat.{ℕ, zero, suc, _+_, _*_}
 use mathlib.Core.Path.{_≡_}
 use mathlib.Core.List.{List, [], _∷_, map}
 use mathlib.Core.Bool.{Bool, true, false}
+use mathlib.Core.Option.{some}
 use lib.Dec.{eqb}
 use lib.ListN.{length, getD, drop}
 use Rattle.scope_graph.specs.Rows.{OrderPair, Transition, PackedName, Rules, language}
@@ -61,9 +62,9 @@ unfoldable pub nameAt : ℕ → Row → PackedName
 nameAt c row = record { kind = value row c; high = value row (c + 1); low = value row (c + 2) }
 
 module _ (r : Rules) where
-  -- `from label to`
+  -- `from label turn to`, or `from label to`, where the turn is 0 (02, K12)
   unfoldable pub edgeOf : Row → Edge (language r)
-  edgeOf row = record { from = value row 0; step = value row 1; to = value row 2 }
+  edgeOf row = record { from = value row 0; step = record { label = value row 1; turn = some (value row 3) }; to = value row 2 }
 
   -- `at kind name mark`
   unfoldable pub declarationOf : Row → Declaration (language r)

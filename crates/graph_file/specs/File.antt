@@ -7,7 +7,7 @@ use mathlib.Core.Bool.{Bool, true, false, not}
 use lib.Dec.{eqb, ltb, leb}
 use lib.ListN.{length, getD, drop}
 use Rattle.text_field.specs.Bytes.{isLower}
-use Rattle.graph_file.specs.Format.{byte, sectionAt, shapeAt, oldForm, kindForm, labelSection, declarationSection, textBytes}
+use Rattle.graph_file.specs.Format.{byte, sectionAt, shapeAt, oldForm, kindForm, turnForm, hasTurns, labelSection, edgeSection, declarationSection, textBytes}
 use Rattle.text_field.specs.Outcome.{Outcome, refused, done, andThen, refuseIf}
 use Rattle.graph_file.specs.Admission.{Row, rowOf, blank, Sofar, nothing, begun, taken, admission}
 use Rattle.graph_file.specs.Line.{Reading, readItems, lineText, formed}
@@ -116,20 +116,33 @@ readRow form k letters text =
 unfoldable pub reading : ℕ → Way
 reading form = record { form = form; names = readNames form; more = λ k text. rowFollows text; row = readRow form }
 
--- The form of a text shows where the names line of declarations is due (02, K8): by its place,
--- behind the sections above, which are the same in both forms. It is the form with kinds if that
--- line is the one with kinds. In all other cases it is the old form, also where the sections above
--- are refused or no names line comes: then the text is refused there in either form.
-unfoldable pub formShown : Outcome Piece → ℕ
-formShown (refused n) = oldForm
-formShown (done p) = kindForm
+-- The form of a text shows at two names lines, by their places, behind the sections above them: a
+-- form is shown where its line is read. In all other cases it is the old form, also where the
+-- sections above are refused or no names line comes: then the text is refused there in any form.
+unfoldable pub formShown : ℕ → Outcome Piece → ℕ
+formShown form (refused n) = oldForm
+formShown form (done p) = form
 
-unfoldable pub formAfter : Outcome Stage → ℕ
-formAfter (refused n) = oldForm
-formAfter (done g) = formShown (readNames kindForm declarationSection (g .rest))
+unfoldable pub formAfter : ℕ → ℕ → Outcome Stage → ℕ
+formAfter form k (refused n) = oldForm
+formAfter form k (done g) = formShown form (readNames form k (g .rest))
+
+-- Turns show where the names line of edges is due (02, K12): the sections above are the same in all
+-- forms.
+unfoldable pub turnsIn : List ℕ → ℕ
+turnsIn text = formAfter turnForm edgeSection (throughSome (reading oldForm) edgeSection labelSection (atStart [] text))
+
+-- Without turns the kinds show where the names line of declarations is due (02, K8): the sections
+-- above are the same in the two forms that are left.
+unfoldable pub kindsIn : List ℕ → ℕ
+kindsIn text = formAfter kindForm declarationSection (throughSome (reading oldForm) declarationSection labelSection (atStart [] text))
+
+-- Turns stand only in a file with kinds: behind their line the one without kinds is 2 (02, K12).
+unfoldable pub formWith : ℕ → ℕ → ℕ
+formWith turns kinds = elim (hasTurns turns) [ true ↦ turnForm | false ↦ kinds ]
 
 unfoldable pub formOf : List ℕ → ℕ
-formOf text = formAfter (throughSome (reading oldForm) declarationSection labelSection (atStart [] text))
+formOf text = formWith (turnsIn text) (kindsIn text)
 
 -- The graph table's cells that a text stands for: refused by 1 where it is too long, then line by
 -- line in its form, then by 6.
@@ -165,7 +178,7 @@ writing form = record { form = form; names = writeNames form; more = cellsFollow
 -- Is the first cell there, and a form's number?
 unfoldable pub hasForm : List ℕ → Bool
 hasForm [] = false
-hasForm (x ∷ rest) = leb x kindForm
+hasForm (x ∷ rest) = leb x turnForm
 
 -- the form of a graph table
 unfoldable pub formIn : List ℕ → ℕ

@@ -1,5 +1,5 @@
 -- The gym file as one table: nine sections, each with its limits and its key, and by the file's
--- form its names line and the items of a row (document 01, "The gym file"; 02, K8). Assumes
+-- form its names line and the items of a row (document 01, "The gym file"; 02, K8 and K12). Assumes
 -- nothing: these are definitions.
 use Prim.Native.Nat.{ℕ, zero, suc}
 use mathlib.Core.List.{List, [], _∷_}
@@ -8,9 +8,9 @@ use lib.ListN.{getD}
 
 -- What a field of a row holds: a state, a scope, a mark, the count of scopes, the letter of a new
 -- label, a label, one end of an order pair or of an open pair (the end mark or a label), a name, a
--- kind (02, K8), or the kind that a line without kinds leaves out, which is `v`.
+-- kind (02, K8), the kind that a line without kinds leaves out, which is `v`, or a turn (02, K12).
 pub data Content : Type 0 where
-  state scope mark count letter label end name kind plain : Content
+  state scope mark count letter label end name kind plain turn : Content
 
 -- `v`, the kind of all that stands in a file without kinds
 abbrev pub plainKind : ℕ
@@ -34,16 +34,17 @@ valuesOf end = 1
 valuesOf name = 2
 valuesOf kind = 1
 valuesOf plain = 1
+valuesOf turn = 1
 
 -- a test of every item of a line
 unfoldable pub everyItem : (Item → Bool) → List Item → Bool
 everyItem test [] = true
 everyItem test (i ∷ items) = test i && everyItem test items
 
--- How the rows of a section follow one another: they ascend strictly by the key, they do not
--- repeat, or they are free.
+-- How the rows of a section follow one another: they ascend strictly by the key; they ascend, and
+-- no edge stands twice, at whatever turn (02, K12); they do not repeat; or they are free.
 pub data Sequence : Type 0 where
-  ascending once free : Sequence
+  ascending apart once free : Sequence
 
 -- A section, whatever the form of its file: how many rows it must have and may have; the places of
 -- the values that rows are sorted by, first the weightiest; how rows follow one another.
@@ -59,18 +60,29 @@ pub record Shape : Type 0 where
   pub row : List Item
 
 -- A file's form has a number, which is the graph table's first cell: document 01's form, which 02
--- calls the old one, and the form with kinds (02, K8).
+-- calls the old one, the form with kinds (02, K8), and the one with kinds and turns (02, K12).
 abbrev pub oldForm : ℕ
 oldForm = 0
 
 abbrev pub kindForm : ℕ
 kindForm = 1
 
+abbrev pub turnForm : ℕ
+turnForm = 2
+
 -- Does a file of this form show kinds? A number that is no form's counts as the old one.
 unfoldable pub hasKinds : ℕ → Bool
 hasKinds zero = false
 hasKinds (suc zero) = true
-hasKinds (suc (suc n)) = false
+hasKinds (suc (suc zero)) = true
+hasKinds (suc (suc (suc n))) = false
+
+-- And does it show turns? Only a file with kinds can (02, K12).
+unfoldable pub hasTurns : ℕ → Bool
+hasTurns zero = false
+hasTurns (suc zero) = false
+hasTurns (suc (suc zero)) = true
+hasTurns (suc (suc (suc n))) = false
 
 abbrev space : Item
 space = byte 32
@@ -128,12 +140,18 @@ countShape = record {
   row = field count 0 ∷ lineEnd ∷ [];
 }
 
--- `from label to`: an edge
+-- `from label turn to`, or `from label to` without turns: an edge, sorted by from, label, turn and
+-- to. Its turn is the value 3: the line without turns leaves that place idle, so it is 0 there (02,
+-- K12: the old names line means turn 0 for all).
 unfoldable pub edges : Section
-edges = record { least = 0; most = 512; key = 0 ∷ 1 ∷ 2 ∷ []; sequence = ascending }
+edges = record { least = 0; most = 512; key = 0 ∷ 1 ∷ 3 ∷ 2 ∷ []; sequence = apart }
 
-abbrev edgeShape : Shape
-edgeShape = record {
+unfoldable pub edgeShape : Bool → Shape
+edgeShape true = record {
+  names = 102 ∷ 114 ∷ 111 ∷ 109 ∷ 32 ∷ 108 ∷ 97 ∷ 98 ∷ 101 ∷ 108 ∷ 32 ∷ 116 ∷ 117 ∷ 114 ∷ 110 ∷ 32 ∷ 116 ∷ 111 ∷ 10 ∷ [];
+  row = field scope 0 ∷ space ∷ field label 1 ∷ space ∷ field turn 3 ∷ space ∷ field scope 2 ∷ lineEnd ∷ [];
+}
+edgeShape false = record {
   names = 102 ∷ 114 ∷ 111 ∷ 109 ∷ 32 ∷ 108 ∷ 97 ∷ 98 ∷ 101 ∷ 108 ∷ 32 ∷ 116 ∷ 111 ∷ 10 ∷ [];
   row = field scope 0 ∷ space ∷ field label 1 ∷ space ∷ field scope 2 ∷ lineEnd ∷ [];
 }
@@ -189,10 +207,10 @@ pastLast = record { least = 0; most = 0; key = []; sequence = free }
 unfoldable pub sectionAt : ℕ → Section
 sectionAt k = getD sections k pastLast
 
--- The nine sections' shapes in a file of a form: only declarations and queries have kinds, and both
--- have them or neither.
+-- The nine sections' shapes in a file of a form: only edges have turns; only declarations and
+-- queries have kinds, and both have them or neither.
 unfoldable pub shapesOf : ℕ → List Shape
-shapesOf form = labelShape ∷ pairShape ∷ transitionShape ∷ acceptShape ∷ countShape ∷ edgeShape ∷ declarationShape (hasKinds form) ∷ openShape ∷ queryShape (hasKinds form) ∷ []
+shapesOf form = labelShape ∷ pairShape ∷ transitionShape ∷ acceptShape ∷ countShape ∷ edgeShape (hasTurns form) ∷ declarationShape (hasKinds form) ∷ openShape ∷ queryShape (hasKinds form) ∷ []
 
 abbrev pastShape : Shape
 pastShape = record { names = 10 ∷ []; row = lineEnd ∷ [] }
@@ -233,12 +251,15 @@ querySection = 8
 abbrev pub textBytes : ℕ
 textBytes = 32768
 
--- how many states and marks there are, and the count of scopes at most
+-- how many states, marks and turns there are, and the count of scopes at most
 abbrev pub stateCount : ℕ
 stateCount = 16
 
 abbrev pub markCount : ℕ
 markCount = 65536
+
+abbrev pub turnCount : ℕ
+turnCount = 100
 
 abbrev pub mostScopes : ℕ
 mostScopes = 64

@@ -1,11 +1,12 @@
 -- Which graph tables are written, told by the rows of their sections: the other way round than
 -- specs/Accepted. A table is written exactly if it is formed, and its text is then read back as the
--- table (document 01, "Who can cause a refusal"; 02, K8 and K9). These are the statements; their
--- proofs are in proofs/. Assumes nothing: these are definitions.
+-- table (document 01, "Who can cause a refusal"; 02, K8, K9 and K12). These are the statements;
+-- their proofs are in proofs/. Assumes nothing: these are definitions.
 use Prim.Native.Nat.{ℕ, zero, suc, _≤_, _<_}
 use mathlib.Core.Path.{_≡_}
 use mathlib.Core.List.{List, [], _∷_, _++_, map}
 use mathlib.Core.Bool.{Bool, true, false, not, _||_}
+use mathlib.Core.Logic.{_↔_}
 use lib.Dec.{eqb}
 use lib.ListN.{length, getD, drop}
 use Rattle.scope_graph.specs.Language.{_∈_}
@@ -14,8 +15,8 @@ use Rattle.scope_graph.specs.Listing.{Pairwise}
 use Rattle.scope_graph.specs.Computed.{keep}
 use Rattle.text_field.specs.Outcome.{refused, done}
 use Rattle.text_field.specs.Answer.{answer}
-use Rattle.graph_file.specs.Format.{plainKind, Item, Sequence, ascending, once, free, sectionAt, shapeAt, oldForm, kindForm, labelSection, pairSection, countSection, declarationSection, querySection, textBytes}
-use Rattle.graph_file.specs.Admission.{Row, value, blank, inRange, keyLess}
+use Rattle.graph_file.specs.Format.{plainKind, Item, Sequence, ascending, apart, once, free, sectionAt, shapeAt, oldForm, kindForm, turnForm, labelSection, pairSection, countSection, edgeSection, declarationSection, querySection, textBytes}
+use Rattle.graph_file.specs.Admission.{Row, value, blank, inRange, keyLess, sameEdge, repeats}
 use Rattle.graph_file.specs.Line.{formed}
 use Rattle.graph_file.specs.Order.{someRow, orderFault}
 use Rattle.graph_file.specs.File.{readCells, formIn, writeText}
@@ -40,11 +41,19 @@ unfoldable pub scopesIn : (ℕ → List Row) → ℕ
 scopesIn rows = value (getD (rows countSection) 0 blank) 0
 
 -- The rows follow one another as their section asks: each stands by the key before all that come
--- later, no two have one letter, or they are free.
+-- later, and where they stand apart no two are one edge; no two have one letter; or they are free.
 abbrev pub InTurn : Sequence → List ℕ → List Row → Type 0
 InTurn ascending key rows = Pairwise (λ (a b : Row). keyLess key a b ≡ true) rows
+InTurn apart key rows = Pairwise (λ (a b : Row). keyLess key a b ≡ true) rows × Pairwise (λ (a b : Row). sameEdge a b ≡ false) rows
 InTurn once key rows = Distinct (map (λ (row : Row). value row 0) rows)
 InTurn free key rows = Unit {0}
+
+-- The test that looks back through the edge rows (specs/Admission) comes to this: where a row and
+-- those above it, the last of them first, ascend by the key of edges, it repeats one exactly if
+-- some row above has its from, label and to.
+abbrev pub RepeatsTold : Type 0
+RepeatsTold = (own : List Row) (row : Row) → Pairwise (λ (a b : Row). keyLess (sectionAt edgeSection .key) b a ≡ true) (row ∷ own)
+    → repeats own row ≡ someRow (λ above. sameEdge above row) own
 
 -- A row by the items of its line, with so many labels and so many scopes: five values that have a
 -- text (no refusal 2), each in its range (no 3).
@@ -61,10 +70,10 @@ pub record FormedSection (labels scopes form k : ℕ) (rows : List Row) : Type 0
   pub least : sectionAt k .least ≤ length rows
   pub most : length rows ≤ sectionAt k .most
 
--- The rows of all sections, in one of the two forms: each section's are formed, by the labels and
+-- The rows of all sections, in one of the three forms: each section's are formed, by the labels and
 -- the scopes that the rows themselves tell, and the order has no fault (no 6).
 pub record FormedRows (form : ℕ) (rows : ℕ → List Row) : Type 0 where
-  pub known : form ≤ kindForm
+  pub known : form ≤ turnForm
   pub sections : (k : ℕ) → k < 9 → FormedSection (length (rows labelSection)) (scopesIn rows) form k (rows k)
   pub order : orderFault (rows pairSection) ≡ false
 
@@ -91,7 +100,8 @@ TableFormed = (form : ℕ) (rows : ℕ → List Row) → FormedRows form rows
     → FormedTable (tableOf form rows) × ((k : ℕ) → k < 9 → rowsIn k (tableOf form rows) ≡ rows k)
 
 -- Writing a formed table is refused by nothing but 9, and by nothing where as many bytes are lent
--- as a file has at most: in neither form is a formed table's text longer.
+-- as a file has at most: in no form is a formed table's text longer; with kinds and turns it has
+-- 29,823 at most.
 abbrev pub NothingButNine : Type 0
 NothingButNine = (cells : List ℕ) → FormedTable cells → (room n : ℕ) → answer (writeText cells) room ≡ refused n
     → (n ≡ 9) × (room < textBytes)
@@ -100,9 +110,17 @@ NothingButNine = (cells : List ℕ) → FormedTable cells → (room n : ℕ) →
 unfoldable pub otherKind : Row → Bool
 otherKind row = not (eqb (value row 1) plainKind)
 
--- the test of a table that is to have the old form (02, K9)
+-- the test of a table that is to have a form without kinds (02, K9)
 unfoldable pub otherKinds : List ℕ → Bool
 otherKinds cells = someRow otherKind (rowsIn declarationSection cells) || someRow otherKind (rowsIn querySection cells)
+
+-- Does the row, an edge's, have another turn than 0?
+unfoldable pub otherTurn : Row → Bool
+otherTurn row = not (eqb (value row 3) 0)
+
+-- the test of a table that is to have a form without turns (02, K9 as K12 has it)
+unfoldable pub otherTurns : List ℕ → Bool
+otherTurns cells = someRow otherTurn (rowsIn edgeSection cells)
 
 -- a table with another form in its first cell
 unfoldable pub inForm : ℕ → List ℕ → List ℕ
@@ -112,14 +130,18 @@ inForm form cells = form ∷ drop 1 cells
 abbrev pub RowsStay : Type 0
 RowsStay = (form k : ℕ) (cells : List ℕ) → rowsIn k (inForm form cells) ≡ rowsIn k cells
 
--- A formed table of either form is formed in the form with kinds, and in the old one exactly if no
--- declaration and no query has another kind than `v`; in its own form it is the table itself.
+-- In which forms a table is formed: in the form with turns always; in the form with kinds alone
+-- exactly if no edge has another turn than 0; in the old one exactly if besides no declaration and
+-- no query has another kind than `v`. In its own form it is the table itself.
+pub record FormsOf (cells : List ℕ) : Type 0 where
+  pub turned : FormedTable (inForm turnForm cells)
+  pub kinded : FormedTable (inForm kindForm cells) ↔ (otherTurns cells ≡ false)
+  pub old : FormedTable (inForm oldForm cells) ↔ ((otherKinds cells ≡ false) × (otherTurns cells ≡ false))
+  pub own : inForm (formIn cells) cells ≡ cells
+
+-- so it is with every formed table, whatever its form
 abbrev pub FormChanged : Type 0
-FormChanged = (cells : List ℕ) → FormedTable cells
-    → FormedTable (inForm kindForm cells)
-    × (otherKinds cells ≡ false → FormedTable (inForm oldForm cells))
-    × (FormedTable (inForm oldForm cells) → otherKinds cells ≡ false)
-    × (inForm (formIn cells) cells ≡ cells)
+FormChanged = (cells : List ℕ) → FormedTable cells → FormsOf cells
 
 -- other rows for section k
 unfoldable pub replaced : ℕ → List Row → (ℕ → List Row) → ℕ → List Row
@@ -133,16 +155,23 @@ SectionReplaced = (form : ℕ) (rows : ℕ → List Row) (k : ℕ) (new : List R
     → FormedSection (length (rows labelSection)) (scopesIn rows) form k new → (k ≡ pairSection → orderFault new ≡ false)
     → FormedRows form (replaced k new rows)
 
--- A section that ascends may have a formed row more, at its place, while it has room; and, where it
--- may be empty, any of its rows less (02, K10).
+-- May a row join rows that ascend? Where they stand apart, only if it is none of the edges there.
+abbrev pub MayJoin : Sequence → Row → List Row → Type 0
+MayJoin ascending row rows = Unit {0}
+MayJoin apart row rows = (a : Row) → a ∈ rows → sameEdge a row ≡ false
+MayJoin once row rows = ⊥
+MayJoin free row rows = ⊥
+
+-- A section that ascends may have a formed row more, at its place, while it has room (02, K10).
 abbrev pub RowAdded : Type 0
-RowAdded = (labels scopes form k : ℕ) (above below : List Row) (row : Row) → sectionAt k .sequence ≡ ascending
+RowAdded = (labels scopes form k : ℕ) (above below : List Row) (row : Row) → MayJoin (sectionAt k .sequence) row (above ++ below)
     → FormedSection labels scopes form k (above ++ below) → FormedRow labels scopes (shapeAt form k .row) row
     → length (above ++ below) < sectionAt k .most
     → ((a : Row) → a ∈ above → keyLess (sectionAt k .key) a row ≡ true)
     → ((b : Row) → b ∈ below → keyLess (sectionAt k .key) row b ≡ true)
     → FormedSection labels scopes form k (above ++ (row ∷ below))
 
+-- A section that may be empty may have any of its rows less.
 abbrev pub RowsKept : Type 0
-RowsKept = (labels scopes form k : ℕ) (test : Row → Bool) (rows : List Row) → sectionAt k .sequence ≡ ascending → sectionAt k .least ≡ 0
+RowsKept = (labels scopes form k : ℕ) (test : Row → Bool) (rows : List Row) → sectionAt k .least ≡ 0
     → FormedSection labels scopes form k rows → FormedSection labels scopes form k (keep test rows)

@@ -1,6 +1,7 @@
 -- One line of the file against the items of its form, read and written (document 01, "The gym
 -- file"). Assumes nothing: these are definitions.
 use Prim.Native.Nat.{ℕ, zero, suc, _+_, _%_}
+use mathlib.Core.Path.{_≡_}
 use mathlib.Core.List.{List, [], _∷_, _++_}
 use mathlib.Core.Bool.{Bool, true, false, not, _&&_, _||_}
 use lib.Dec.{eqb, leb, ltb}
@@ -11,7 +12,7 @@ use Rattle.text_field.specs.declared.NameRead.{NameRead}
 use Rattle.text_field.specs.Bytes.{isCapital, isLower}
 use Rattle.text_field.specs.Number.{NumberFound, numberMeaning, numberText, numberHere}
 use Rattle.text_field.specs.Name.{NameFound, nameMeaning, nameText, nameHere, isNameCells}
-use Rattle.graph_file.specs.Format.{Content, state, scope, mark, count, letter, label, end, name, kind, plain, plainKind, Item, byte, field, valuesOf, everyItem}
+use Rattle.graph_file.specs.Format.{Content, state, scope, mark, count, letter, label, end, name, kind, plain, turn, plainKind, Item, byte, field, valuesOf, everyItem}
 use Rattle.text_field.specs.Outcome.{Outcome, refused, done, andThen}
 use Rattle.graph_file.specs.Admission.{Row, value}
 
@@ -64,6 +65,7 @@ readField letters end text = endTaken letters (first text) text
 readField letters name text = nameTaken (nameHere text) text
 readField letters kind text = byteTaken (isLower (first text)) (first text) text
 readField letters plain text = done (record { values = plainKind ∷ []; rest = text })
+readField letters turn text = numberTaken (numberHere text) text
 
 -- Does this byte come first?
 unfoldable pub startsWith : ℕ → List ℕ → Bool
@@ -108,6 +110,7 @@ fieldText letters end v w = endByte letters v ∷ []
 fieldText letters name v w = nameText v w
 fieldText letters kind v w = asByte v ∷ []
 fieldText letters plain v w = []
+fieldText letters turn v w = numberText v
 
 -- an item's text in a row's line
 unfoldable pub itemText : List ℕ → Row → Item → List ℕ
@@ -134,6 +137,7 @@ fieldFormed end v w = true
 fieldFormed name v w = isNameCells v w
 fieldFormed kind v w = isLower v
 fieldFormed plain v w = eqb v plainKind
+fieldFormed turn v w = leb v 99999
 
 unfoldable pub itemFormed : Row → Item → Bool
 itemFormed row (byte b) = true
@@ -144,13 +148,18 @@ unfoldable pub sparesPlace : ℕ → Item → Bool
 sparesPlace d (byte b) = true
 sparesPlace d (field k c) = ltb d c || leb (c + valuesOf k) d
 
--- a place that every item leaves alone holds 0
+-- A place that every item leaves alone holds 0. So a line without turns can hold no turn but 0 (02,
+-- K12: in a graph of the old line any other turn is 2).
 unfoldable pub idleZero : List Item → Row → ℕ → Bool
 idleZero items row d = not (everyItem (sparesPlace d) items) || eqb (value row d) 0
 
 unfoldable pub idleZeros : List Item → Row → Bool
 idleZeros items row =
     idleZero items row 0 && (idleZero items row 1 && (idleZero items row 2 && (idleZero items row 3 && idleZero items row 4)))
+
+-- the items fill the first n places, and leave the others alone
+abbrev pub Fills : ℕ → List Item → Type 0
+Fills n items = (d : ℕ) → everyItem (sparesPlace d) items ≡ leb n d
 
 -- Can the row be written in this form? If not, it is refused by 2.
 unfoldable pub formed : List Item → Row → Bool

@@ -1,23 +1,25 @@
 // Whether a row is admitted after those above it.
+use crate::apart::stands_apart;
+use crate::format::Layout;
 use crate::format::MARKS;
 use crate::format::MOST_SCOPES;
 use crate::format::STATES;
 use crate::format::Sequence;
+use crate::format::TURNS;
 use crate::format::item;
 use crate::format::key_place;
-use crate::format::range_place;
 use crate::format::sequence_of;
 use crate::rows::Counts;
 use crate::rows::label_place;
+use crate::rows::row_before;
 use crate::rows::value_at;
 ghost use mathlib.Core.Path.{_≡_};
-ghost use mathlib.Core.Bool.{Bool, not, _||_};
-ghost use Prim.Native.Nat.{ℕ, _+_, _-_, _≤_};
-ghost use lib.Dec.{eqb};
+ghost use mathlib.Core.Bool.{not};
+ghost use Prim.Native.Nat.{_+_, _≤_};
 ghost use lib.ListN.{length, drop};
 ghost use Rattle.graph_file.specs.Format.{sectionAt};
-ghost use Rattle.graph_file.specs.Admission.{rowOf, value, contentInRange, itemInRange, inRange, keyLess, listed, follows, admission};
-ghost use Rattle.graph_file.specs.Table.{contentOf, itemOf, formatBytes, itemsAt, keyAt, lettersAt, lastAt, sofarAt};
+ghost use Rattle.graph_file.specs.Admission.{rowOf, value, contentInRange, itemInRange, inRange, keyLess, listed, ascends, follows, admission};
+ghost use Rattle.graph_file.specs.Table.{contentOf, itemOf, formatBytes, itemsAt, keyAt, lettersAt, rowsBack, sofarAt, Known};
 
 // Is the value in its range, by what its field holds?
 fn content_in_range(labels: u32, scopes: u64, content: u8, v: u64) -> bool
@@ -31,7 +33,10 @@ fn content_in_range(labels: u32, scopes: u64, content: u8, v: u64) -> bool
         4 => true,
         5 => v < labels as u64,
         6 => v <= labels as u64,
-        _ => true,
+        7 => true,
+        8 => true,
+        9 => true,
+        _ => v < TURNS,
     }
 }
 
@@ -89,20 +94,12 @@ fn key_less(format: &[u8], o: usize, table: &[u64], q: usize, p: usize) -> bool
     false
 }
 
-// The place of the row before the one at p.
-fn row_before(p: usize) -> usize
-    ensures answer { λ r. ⌜ r ≡ p - 6 ⌝ }
-{
-    if p < 6 { 0 } else { p - 6 }
-}
-
 // Does the row at place p ascend from the one before it, if the section has any?
 fn ascends(format: &[u8], k: usize, table: &[u64], p: usize, rows: u32) -> bool
     requires format { ⌜ now format ≡ formatBytes ⌝ }
     requires room { ⌜ p + 6 ≤ length (now table) ⌝ }
     ensures answer { λ r. ⌜ r ≡
-        (eqb rows 0 || keyLess (sectionAt k .key) (lastAt rows p (now (table .entry)))
-        (rowOf (drop p (now (table .entry))))) ⌝ }
+        ascends (sectionAt k .key) (rowsBack rows p (now (table .entry))) (rowOf (drop p (now (table .entry)))) ⌝ }
 {
     if rows == 0 {
         return true;
@@ -122,35 +119,36 @@ fn row_follows(format: &[u8], k: usize, table: &[u64], p: usize, labels: u32, ro
     requires format { ⌜ now format ≡ formatBytes ⌝ }
     requires room { ⌜ p + 6 ≤ length (now table) ⌝ }
     ensures answer { λ r. ⌜ r ≡ follows (sectionAt k .sequence) (sectionAt k .key)
-        (lettersAt labels (drop 1 (now (table .entry)))) rows (lastAt rows p (now (table .entry)))
+        (lettersAt labels (drop 1 (now (table .entry)))) (rowsBack rows p (now (table .entry)))
         (rowOf (drop p (now (table .entry)))) ⌝ }
 {
     let asked = sequence_of(k);
     match asked {
         Sequence::Ascending => ascends(format, k, table, p, rows),
+        Sequence::Apart => stands_apart(table, p, rows),
         Sequence::Once => unlisted(table, labels, value_at(table, p, 0)),
         Sequence::Free => true,
     }
 }
 
-// The row at place p as a row of section k after the rows above, whatever the form: 5, 3 or 4 where
-// it is refused, 0 where it is admitted. The section's limit comes from its reader or writer.
-pub fn admitted(format: &[u8], k: usize, limit: usize, table: &[u64], p: usize, c: Counts) -> u64
+// The row at place p as a row of a section, after the rows above: 5, 3 or 4 where it is refused, 0
+// where it is admitted.
+pub fn admitted(format: &[u8], s: Layout, table: &[u64], p: usize, c: Counts) -> u64
     requires format { ⌜ now format ≡ formatBytes ⌝ }
     requires room { ⌜ p + 6 ≤ length (now table) ⌝ }
-    requires limit { ⌜ limit ≡ sectionAt k .most ⌝ }
-    ensures answer { λ r. ⌜ ((form : ℕ) → r ≡ admission form k (sofarAt (now (table .entry)) p c)
-        (rowOf (drop p (now (table .entry))))) ⌝ }
+    requires layout { ⌜ Known s ⌝ }
+    ensures answer { λ r. ⌜ r ≡ admission (s .form) (s .section) (sofarAt (now (table .entry)) p c)
+        (rowOf (drop p (now (table .entry)))) ⌝ }
 {
     let labels = c.labels;
     let rows = c.rows;
-    if limit <= rows as usize {
+    if s.limit <= rows as usize {
         return 5;
     }
-    if !in_range(format, range_place(k), labels, c.scopes, table, p) {
+    if !in_range(format, s.range, labels, c.scopes, table, p) {
         return 3;
     }
-    if !row_follows(format, k, table, p, labels, rows) {
+    if !row_follows(format, s.section, table, p, labels, rows) {
         return 4;
     }
     0

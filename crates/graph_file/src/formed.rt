@@ -1,15 +1,14 @@
 // Whether a row of the table can be written as a line of its section.
+use crate::format::Layout;
 use crate::format::PLAIN_KIND;
 use crate::format::item;
-use crate::format::row_place;
-use crate::format::used;
 use text_field::cell;
 use text_field::is_name;
 ghost use mathlib.Core.Path.{_≡_};
-ghost use Prim.Native.Nat.{ℕ};
-ghost use Rattle.graph_file.specs.Format.{shapeAt, everyItem};
-ghost use Rattle.graph_file.specs.Line.{fieldFormed, itemFormed, idleZero, idleZeros, formed};
-ghost use Rattle.graph_file.specs.Table.{contentOf, itemOf, formatBytes, itemsAt};
+ghost use mathlib.Core.List.{List};
+ghost use Rattle.graph_file.specs.Format.{Item, shapeAt, everyItem};
+ghost use Rattle.graph_file.specs.Line.{fieldFormed, itemFormed, idleZero, idleZeros, Fills, formed};
+ghost use Rattle.graph_file.specs.Table.{contentOf, itemOf, formatBytes, itemsAt, Known};
 
 // The greatest number of five digits.
 const MOST_NUMBER: u64 = 99999;
@@ -27,7 +26,8 @@ fn field_formed(content: u8, v: u64, w: u64) -> bool
         6 => true,
         7 => is_name(v, w),
         8 => 97 <= v && v <= 122,
-        _ => v == PLAIN_KIND,
+        9 => v == PLAIN_KIND,
+        _ => v <= MOST_NUMBER,
     }
 }
 
@@ -59,26 +59,28 @@ fn items_formed(format: &[u8], o: usize, row: &[u64]) -> bool
     true
 }
 
-// A place that every item of section k leaves alone holds 0, whatever the form.
-fn idle_zero(k: usize, row: &[u64], d: usize) -> bool
-    ensures answer { λ r. ⌜ ((form : ℕ) → r ≡ idleZero (shapeAt form k .row) (now (row .entry)) d) ⌝ }
+// A place behind the first ones, which the items of a line fill, holds 0.
+fn idle_zero(filled: usize, row: &[u64], d: usize) -> bool
+    ensures answer { λ r. ⌜ ((items : List Item) → Fills filled items → r ≡ idleZero items (now (row .entry)) d) ⌝ }
 {
-    d < used(k) || cell(row, d, 0) == 0
+    d < filled || cell(row, d, 0) == 0
 }
 
 // Do all such places of the row hold 0?
-fn idle_zeros(k: usize, row: &[u64]) -> bool
-    ensures answer { λ r. ⌜ ((form : ℕ) → r ≡ idleZeros (shapeAt form k .row) (now (row .entry))) ⌝ }
+fn idle_zeros(filled: usize, row: &[u64]) -> bool
+    ensures answer { λ r. ⌜ ((items : List Item) → Fills filled items → r ≡ idleZeros items (now (row .entry))) ⌝ }
 {
-    idle_zero(k, row, 0)
-        && (idle_zero(k, row, 1)
-            && (idle_zero(k, row, 2) && (idle_zero(k, row, 3) && idle_zero(k, row, 4))))
+    idle_zero(filled, row, 0)
+        && (idle_zero(filled, row, 1)
+            && (idle_zero(filled, row, 2)
+                && (idle_zero(filled, row, 3) && idle_zero(filled, row, 4))))
 }
 
-// Can the row be written as a line of section k in a file of a form?
-pub fn is_formed(format: &[u8], form: u64, k: usize, row: &[u64]) -> bool
+// Can the row be written as a line of a section?
+pub fn is_formed(format: &[u8], s: Layout, row: &[u64]) -> bool
     requires format { ⌜ now format ≡ formatBytes ⌝ }
-    ensures answer { λ r. ⌜ r ≡ formed (shapeAt form k .row) (now (row .entry)) ⌝ }
+    requires layout { ⌜ Known s ⌝ }
+    ensures answer { λ r. ⌜ r ≡ formed (shapeAt (s .form) (s .section) .row) (now (row .entry)) ⌝ }
 {
-    items_formed(format, row_place(form, k), row) && idle_zeros(k, row)
+    items_formed(format, s.line, row) && idle_zeros(s.filled, row)
 }

@@ -1,5 +1,6 @@
 // A gym file's text, and the same graph as a table of cells.
 mod admission;
+mod apart;
 mod cells;
 mod format;
 mod formed;
@@ -15,6 +16,8 @@ mod writer;
 pub use format::KIND_FORM;
 pub use format::OLD_FORM;
 pub use format::PLAIN_KIND;
+pub use format::TURN_FORM;
+pub use format::has_kinds;
 pub use rows::OWN_CELLS;
 pub use rows::SHORT_CELLS;
 pub use sought::NamePlace;

@@ -1,14 +1,18 @@
 // One line of the file, read against the items at a place of the format.
 use crate::format::DECLARATIONS;
+use crate::format::EDGES;
 use crate::format::KIND_FORM;
 use crate::format::OLD_FORM;
 use crate::format::PLAIN_KIND;
+use crate::format::TURN_FORM;
+use crate::format::has_turns;
 use crate::format::item;
 use crate::format::names_place;
 use crate::rows::label_place;
 use text_field::NameRead;
 use text_field::NumberRead;
 use text_field::byte_at;
+use text_field::cell;
 use text_field::is_capital;
 use text_field::is_lower;
 use text_field::read_name;
@@ -20,11 +24,11 @@ ghost use mathlib.Core.List.{List, []};
 ghost use lib.ListN.{drop, set};
 ghost use Rattle.text_field.specs.Number.{numberHere};
 ghost use Rattle.text_field.specs.Name.{nameHere};
-ghost use Rattle.graph_file.specs.Format.{byte, kindForm, declarationSection};
+ghost use Rattle.graph_file.specs.Format.{byte, kindForm, turnForm, edgeSection, declarationSection};
 ghost use Rattle.graph_file.specs.Admission.{blank};
 ghost use Rattle.graph_file.specs.Line.{numberTaken, nameTaken, byteTaken, endTaken, readField, readItem, placeOf, readItems};
 ghost use Rattle.graph_file.specs.Table.{contentOf, itemOf, formatBytes, itemsAt, lettersAt};
-ghost use Rattle.graph_file.specs.File.{readNames, formShown};
+ghost use Rattle.graph_file.specs.File.{readNames, formShown, formWith, formIn};
 ghost use Rattle.graph_file.specs.Reader.{took, lineOutcome, itemLine};
 
 // What an item at the front of a text gives: the place after it and its values, or nothing where it
@@ -119,7 +123,8 @@ fn take_field(table: &[u64], labels: u32, content: u8, text: &[u8], at: usize) -
         6 => take_end(table, labels, x, text, at),
         7 => take_name(text, at),
         8 => take_byte(is_lower(x), x as u64, text, at),
-        _ => Took::One(at, PLAIN_KIND),
+        9 => Took::One(at, PLAIN_KIND),
+        _ => take_number(text, at),
     }
 }
 
@@ -256,18 +261,37 @@ pub fn read_line(
     end_line(row, text, place)
 }
 
-// The form that a text shows at a place where the names line of declarations is due.
-pub fn form_at(format: &[u8], table: &[u64], text: &[u8], at: usize) -> u64
+// The form, where its names line of section k stands at a place of the text; else the old one.
+fn form_at(format: &[u8], table: &[u64], form: u64, k: usize, text: &[u8], at: usize) -> u64
     requires format { ⌜ now format ≡ formatBytes ⌝ }
-    ensures answer { λ r. ⌜ r ≡ formShown (readNames kindForm declarationSection (drop at (now (text .entry)))) ⌝ }
+    ensures answer { λ r. ⌜ r ≡ formShown form (readNames form k (drop at (now (text .entry)))) ⌝ }
 {
-    let l = read_line(
-        format,
-        table,
-        0,
-        names_place(KIND_FORM, DECLARATIONS),
-        text,
-        at,
-    );
-    if l.ok { KIND_FORM } else { OLD_FORM }
+    let l = read_line(format, table, 0, names_place(form, k), text, at);
+    if l.ok { form } else { OLD_FORM }
+}
+
+// Does the part of a text begin with turns' names line of edges? Then it is of the form with turns.
+// The byte that tells `from label turn to` from `from label to` is looked at first, so that a text
+// without turns is not read against the longer line.
+pub fn turns_at(format: &[u8], table: &[u64], part: &[u8]) -> u64
+    requires format { ⌜ now format ≡ formatBytes ⌝ }
+    ensures answer { λ r. ⌜ r ≡ formShown turnForm (readNames turnForm edgeSection (now (part .entry))) ⌝ }
+{
+    if byte_at(part, 12, 0) != b'u' {
+        return OLD_FORM;
+    }
+    form_at(format, table, TURN_FORM, EDGES, part, 0)
+}
+
+// The form of a text whose edges were read: the one with turns if the table's first cell says so,
+// else as the text shows it at a place where the names line of declarations is due.
+pub fn kinds_at(format: &[u8], table: &[u64], text: &[u8], at: usize) -> u64
+    requires format { ⌜ now format ≡ formatBytes ⌝ }
+    ensures answer { λ r. ⌜ r ≡ formWith (formIn (now (table .entry)))
+        (formShown kindForm (readNames kindForm declarationSection (drop at (now (text .entry))))) ⌝ }
+{
+    if has_turns(cell(table, 0, OLD_FORM)) {
+        return TURN_FORM;
+    }
+    form_at(format, table, KIND_FORM, DECLARATIONS, text, at)
 }

@@ -61,7 +61,8 @@ fn put_field(
         6 => put_byte(out, n, end_byte(table, labels, v)),
         7 => put_name(out, n, v, w),
         8 => put_byte(out, n, byte_of(v)),
-        _ => n,
+        9 => n,
+        _ => put_number(out, n, v),
     }
 }
 

@@ -2,16 +2,18 @@
 use crate::admission::admitted;
 use crate::cells::put_row;
 use crate::format::DECLARATIONS;
+use crate::format::EDGES;
 use crate::format::FORMAT;
+use crate::format::Layout;
 use crate::format::OLD_FORM;
 use crate::format::SECTIONS;
 use crate::format::TEXT_BYTES;
+use crate::format::layout_of;
 use crate::format::least;
-use crate::format::most;
 use crate::format::names_place;
-use crate::format::row_place;
-use crate::line::form_at;
+use crate::line::kinds_at;
 use crate::line::read_line;
+use crate::line::turns_at;
 use crate::order::order_fault;
 use crate::rows::Counts;
 use crate::rows::Part;
@@ -23,17 +25,15 @@ ghost use mathlib.Core.List.{List, [], _∷_};
 ghost use Prim.Native.Nat.{ℕ, suc, _+_, _-_, _*_, _≤_};
 ghost use lib.ListN.{length, drop};
 ghost use Rattle.graph_file.specs.Format.{sectionAt, tableCells};
-ghost use Rattle.graph_file.specs.Table.{formatBytes};
-ghost use Rattle.graph_file.specs.File.{oneRow, throughRows, throughSection, throughSections, throughSome, atStart, rowFollows, reading, formOf, readStage, formIn};
+ghost use Rattle.graph_file.specs.Table.{formatBytes, Known};
+ghost use Rattle.graph_file.specs.File.{oneRow, throughRows, throughSection, throughSections, throughSome, atStart, rowFollows, reading, turnsIn, formOf, readStage, formIn};
 ghost use Rattle.graph_file.specs.Reader.{stageAt, partOutcome, Placed, RowTaken, RowsTaken, SectionTaken, SomeTaken, RowsRoom, TextRoom};
 
-// One row of section k, in a file of a form, at a place of the section's part of the text, written
-// after the table's first n cells.
+// One row of a section, at a place of the section's part of the text, written after the table's
+// first n cells.
 fn read_row(
     format: &[u8],
-    form: u64,
-    k: usize,
-    limit: usize,
+    s: Layout,
     part: &[u8],
     at: usize,
     table: &mut [u64],
@@ -41,13 +41,13 @@ fn read_row(
     c: Counts,
 ) -> Part
     requires format { ⌜ now format ≡ formatBytes ⌝ }
-    requires room { ⌜ (n + 6 ≤ length (now table)) × (n ≤ tableCells) × Placed k n c
-        × (limit ≡ sectionAt k .most) ⌝ }
+    requires room { ⌜ (n + 6 ≤ length (now table)) × (n ≤ tableCells) × Placed (s .section) n c
+        × Known s ⌝ }
     ensures answer { λ r. ⌜ partOutcome r (now (table .exit)) (now (part .entry))
-        ≡ oneRow (reading form) k (stageAt (now (table .entry)) n c (drop at (now (part .entry)))) ⌝ }
-    ensures taken { λ r. ⌜ (r .refusal ≡ 0 → RowTaken k n c (r .cells) (r .counts)) ⌝ }
+        ≡ oneRow (reading (s .form)) (s .section) (stageAt (now (table .entry)) n c (drop at (now (part .entry)))) ⌝ }
+    ensures taken { λ r. ⌜ (r .refusal ≡ 0 → RowTaken (s .section) n c (r .cells) (r .counts)) ⌝ }
 {
-    let l = read_line(format, table, c.labels, row_place(form, k), part, at);
+    let l = read_line(format, table, c.labels, s.line, part, at);
     if !l.ok {
         return Part {
             refusal: 2,
@@ -58,8 +58,8 @@ fn read_row(
     }
     let row = l.row;
     let next = l.next;
-    put_row(table, n, k as u64, row);
-    let a = admitted(format, k, limit, table, n, c);
+    put_row(table, n, s.section as u64, row);
+    let a = admitted(format, s, table, n, c);
     if a != 0 {
         return Part {
             refusal: a,
@@ -68,7 +68,7 @@ fn read_row(
             counts: c,
         };
     }
-    let after = counts_after(k, c, row[0]);
+    let after = counts_after(s.section, c, row[0]);
     Part {
         refusal: 0,
         next: next,
@@ -87,12 +87,10 @@ fn row_comes(part: &[u8], at: usize) -> bool
     !is_lower(byte_at(part, at, 0))
 }
 
-// The rows of section k from a place of the section's part of the text on.
+// The rows of a section from a place of the section's part of the text on.
 fn read_rows(
     format: &[u8],
-    form: u64,
-    k: usize,
-    limit: usize,
+    s: Layout,
     part: &[u8],
     at: usize,
     table: &mut [u64],
@@ -100,19 +98,19 @@ fn read_rows(
     c: Counts,
 ) -> Part
     requires format { ⌜ now format ≡ formatBytes ⌝ }
-    requires room { ⌜ RowsRoom k n (drop at (now part)) (length (now table))
-        × (n + 6 * sectionAt k .most ≤ tableCells) × Placed k n c × (c .rows ≡ 0) × (limit ≡ sectionAt k .most) ⌝ }
+    requires room { ⌜ RowsRoom (s .section) n (drop at (now part)) (length (now table))
+        × (n + 6 * sectionAt (s .section) .most ≤ tableCells) × Placed (s .section) n c × (c .rows ≡ 0) × Known s ⌝ }
     ensures answer { λ r. ⌜ partOutcome r (now (table .exit)) (now (part .entry))
-        ≡ throughRows (reading form) (suc (sectionAt k .most)) k
+        ≡ throughRows (reading (s .form)) (suc (sectionAt (s .section) .most)) (s .section)
         (stageAt (now (table .entry)) n c (drop at (now (part .entry)))) ⌝ }
-    ensures taken { λ r. ⌜ (r .refusal ≡ 0 → RowsTaken k n (r .cells) (r .counts)) ⌝ }
+    ensures taken { λ r. ⌜ (r .refusal ≡ 0 → RowsTaken (s .section) n (r .cells) (r .counts)) ⌝ }
 {
     let mut place = at;
     let mut m = n;
     let mut d = c;
     let mut more = row_comes(part, place);
     while more {
-        let r = read_row(format, form, k, limit, part, place, table, m, d);
+        let r = read_row(format, s, part, place, table, m, d);
         if r.refusal != 0 {
             return r;
         }
@@ -138,7 +136,7 @@ fn clipped(part: &[u8], at: usize) -> usize
 }
 
 // Section k, of which the part of the text begins at the names line. Its limit is read from the
-// table of nine, once.
+// table of nine, and its places in the format are looked up, once.
 fn read_section(
     format: &[u8],
     form: u64,
@@ -155,7 +153,7 @@ fn read_section(
         ≡ throughSection (reading form) k (stageAt (now (table .entry)) n c (now (part .entry))) ⌝ }
     ensures taken { λ r. ⌜ (r .refusal ≡ 0 → SectionTaken k n (length (now (part .entry))) r) ⌝ }
 {
-    let limit = most(k);
+    let s = layout_of(form, k);
     let l = read_line(format, table, 0, names_place(form, k), part, 0);
     if !l.ok {
         return Part {
@@ -171,7 +169,7 @@ fn read_section(
         scopes: c.scopes,
         rows: 0,
     };
-    let r = read_rows(format, form, k, limit, part, l.next, table, n, begun);
+    let r = read_rows(format, s, part, l.next, table, n, begun);
     if r.refusal != 0 {
         return r;
     }
@@ -233,16 +231,16 @@ fn read_some(
     }
 }
 
-// The nine sections: those above the declarations are the same in both forms, and the names line
-// that comes next shows the form.
-fn read_sections(format: &[u8], text: &[u8], table: &mut [u64]) -> Part
+// The six sections above the declarations: those above the edges are the same in all forms, and the
+// names line that comes next shows whether there are turns. The table's first cell says so.
+fn read_upper(format: &[u8], text: &[u8], table: &mut [u64]) -> Part
     requires format { ⌜ now format ≡ formatBytes ⌝ }
     requires room { ⌜ TextRoom (now text) (length (now table)) ⌝ }
     ensures answer { λ r. ⌜ partOutcome r (now (table .exit)) (now (text .entry))
-        ≡ throughSections (reading (formOf (now (text .entry)))) 9 0
-        (atStart (formOf (now (text .entry)) ∷ []) (now (text .entry))) ⌝ }
-    ensures size { λ r. ⌜ (r .refusal ≡ 0 → r .cells ≤ length (now (table .entry))) ⌝ }
-    ensures form { λ r. ⌜ (r .refusal ≡ 0 → formIn (now (table .exit)) ≡ formOf (now (text .entry))) ⌝ }
+        ≡ throughSome (reading (turnsIn (now (text .entry)))) 6 0
+        (atStart (turnsIn (now (text .entry)) ∷ []) (now (text .entry))) ⌝ }
+    ensures taken { λ r. ⌜ (r .refusal ≡ 0 → SomeTaken 6 (now (text .entry)) r) ⌝ }
+    ensures form { λ r. ⌜ (r .refusal ≡ 0 → formIn (now (table .exit)) ≡ turnsIn (now (text .entry))) ⌝ }
 {
     table[0] = OLD_FORM;
     let begin = Part {
@@ -256,11 +254,31 @@ fn read_sections(format: &[u8], text: &[u8], table: &mut [u64]) -> Part
             rows: 0,
         },
     };
-    let above = read_some(format, OLD_FORM, 0, DECLARATIONS, text, table, begin);
+    let above = read_some(format, OLD_FORM, 0, EDGES, text, table, begin);
     if above.refusal != 0 {
         return above;
     }
-    let form = form_at(format, table, text, above.next);
+    let at = above.next;
+    let form = turns_at(format, table, &text[at..]);
+    table[0] = form;
+    read_some(format, form, EDGES, DECLARATIONS, text, table, above)
+}
+
+// The nine sections: the names line of declarations shows the form where it is not known by then.
+fn read_sections(format: &[u8], text: &[u8], table: &mut [u64]) -> Part
+    requires format { ⌜ now format ≡ formatBytes ⌝ }
+    requires room { ⌜ TextRoom (now text) (length (now table)) ⌝ }
+    ensures answer { λ r. ⌜ partOutcome r (now (table .exit)) (now (text .entry))
+        ≡ throughSections (reading (formOf (now (text .entry)))) 9 0
+        (atStart (formOf (now (text .entry)) ∷ []) (now (text .entry))) ⌝ }
+    ensures size { λ r. ⌜ (r .refusal ≡ 0 → r .cells ≤ length (now (table .entry))) ⌝ }
+    ensures form { λ r. ⌜ (r .refusal ≡ 0 → formIn (now (table .exit)) ≡ formOf (now (text .entry))) ⌝ }
+{
+    let above = read_upper(format, text, table);
+    if above.refusal != 0 {
+        return above;
+    }
+    let form = kinds_at(format, table, text, above.next);
     table[0] = form;
     let r = read_some(format, form, DECLARATIONS, SECTIONS, text, table, above);
     if r.refusal != 0 {

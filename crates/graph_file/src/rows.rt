@@ -1,7 +1,7 @@
 // The rows of a graph table.
 use text_field::cell;
 ghost use mathlib.Core.Path.{_≡_};
-ghost use Prim.Native.Nat.{ℕ, _+_, _<_, _≤_};
+ghost use Prim.Native.Nat.{ℕ, _+_, _-_, _<_, _≤_};
 ghost use lib.ListN.{length, drop};
 ghost use Rattle.graph_file.specs.Admission.{rowOf, value};
 ghost use Rattle.graph_file.specs.Line.{place};
@@ -81,6 +81,13 @@ pub fn value_at(table: &[u64], p: usize, c: usize) -> u64
     ensures answer { λ r. ⌜ r ≡ value (rowOf (drop p (now (table .entry)))) c ⌝ }
 {
     if c < VALUES { table[p + 1 + c] } else { 0 }
+}
+
+// The place of the row before the one at p.
+pub fn row_before(p: usize) -> usize
+    ensures answer { λ r. ⌜ r ≡ p - 6 ⌝ }
+{
+    if p < 6 { 0 } else { p - 6 }
 }
 
 // The row whose section number stands at place p of the table.

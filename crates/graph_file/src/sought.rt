@@ -1,5 +1,5 @@
 // The name that a query seeks, handed back as the part of the lent text that holds it.
-use crate::format::KIND_FORM;
+use crate::format::has_kinds;
 use crate::reader::read_whole;
 use crate::rows::OWN_CELLS;
 use text_field::NameRead;
@@ -115,7 +115,7 @@ fn name_start(text: &[u8], form: u64, at: usize) -> usize
         - length (fromName (shapeAt form querySection .row) (drop at (now (text .entry)))) ⌝ }
 {
     let a = past_space(text, past_number(text, at));
-    if form != KIND_FORM {
+    if !has_kinds(form) {
         return a;
     }
     past_space(text, past_kind(text, a))

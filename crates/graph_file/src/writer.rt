@@ -2,13 +2,13 @@
 use crate::admission::admitted;
 use crate::cells::copy_bytes;
 use crate::format::FORMAT;
-use crate::format::KIND_FORM;
+use crate::format::Layout;
 use crate::format::OLD_FORM;
 use crate::format::TEXT_BYTES;
+use crate::format::TURN_FORM;
+use crate::format::layout_of;
 use crate::format::least;
-use crate::format::most;
 use crate::format::names_place;
-use crate::format::row_place;
 use crate::formed::is_formed;
 use crate::line_text::put_line;
 use crate::order::order_fault;
@@ -24,7 +24,7 @@ ghost use Prim.Native.Nat.{suc, _+_, _*_, _≤_};
 ghost use lib.ListN.{length, drop};
 ghost use Rattle.graph_file.specs.Format.{sectionAt, tableCells, textBytes};
 ghost use Rattle.graph_file.specs.Admission.{nothing};
-ghost use Rattle.graph_file.specs.Table.{formatBytes, sofarAt};
+ghost use Rattle.graph_file.specs.Table.{formatBytes, sofarAt, Known};
 ghost use Rattle.graph_file.specs.File.{oneRow, throughRows, throughSection, throughSections, whole, cellsFollow, hasForm, formIn, writing, writeText};
 ghost use Rattle.text_field.specs.Answer.{answer, leaves, answerOf};
 ghost use Rattle.graph_file.specs.Reader.{Placed, RowTaken, RowsTaken};
@@ -40,13 +40,10 @@ fn row_comes(k: usize, table: &[u64], p: usize) -> bool
     cell(table, p, 0) == k as u64
 }
 
-// The row at place p as a row of section k in a file of a form, its line put into the text at place
-// n.
+// The row at place p as a row of a section, its line put into the text at place n.
 fn write_row(
     format: &[u8],
-    form: u64,
-    k: usize,
-    limit: usize,
+    s: Layout,
     table: &[u64],
     p: usize,
     c: Counts,
@@ -54,11 +51,11 @@ fn write_row(
     n: usize,
 ) -> Part
     requires format { ⌜ now format ≡ formatBytes ⌝ }
-    requires room { ⌜ (p ≤ tableCells) × Placed k p c × (limit ≡ sectionAt k .most) ⌝ }
+    requires room { ⌜ (p ≤ tableCells) × Placed (s .section) p c × Known s ⌝ }
     ensures answer { λ r. ⌜ partWritten r (now (table .entry)) (now (out .exit))
         ≡ pour (now (out .entry), n)
-        (oneRow (writing form) k (stageFrom (sofarAt (now (table .entry)) p c) (drop p (now (table .entry))))) ⌝ }
-    ensures taken { λ r. ⌜ (r .refusal ≡ 0 → RowTaken k p c (r .cells) (r .counts)) ⌝ }
+        (oneRow (writing (s .form)) (s .section) (stageFrom (sofarAt (now (table .entry)) p c) (drop p (now (table .entry))))) ⌝ }
+    ensures taken { λ r. ⌜ (r .refusal ≡ 0 → RowTaken (s .section) p c (r .cells) (r .counts)) ⌝ }
 {
     if table.len() < p + 6 {
         return Part {
@@ -69,7 +66,7 @@ fn write_row(
         };
     }
     let row = row_at(table, p);
-    if !is_formed(format, form, k, &row) {
+    if !is_formed(format, s, &row) {
         return Part {
             refusal: 2,
             next: n,
@@ -77,7 +74,7 @@ fn write_row(
             counts: c,
         };
     }
-    let a = admitted(format, k, limit, table, p, c);
+    let a = admitted(format, s, table, p, c);
     if a != 0 {
         return Part {
             refusal: a,
@@ -86,8 +83,8 @@ fn write_row(
             counts: c,
         };
     }
-    let next = put_line(format, table, c.labels, row_place(form, k), &row, out, n);
-    let after = counts_after(k, c, row[0]);
+    let next = put_line(format, table, c.labels, s.line, &row, out, n);
+    let after = counts_after(s.section, c, row[0]);
     Part {
         refusal: 0,
         next: next,
@@ -96,12 +93,10 @@ fn write_row(
     }
 }
 
-// The rows of section k from place p on.
+// The rows of a section from place p on.
 fn write_rows(
     format: &[u8],
-    form: u64,
-    k: usize,
-    limit: usize,
+    s: Layout,
     table: &[u64],
     p: usize,
     c: Counts,
@@ -109,27 +104,27 @@ fn write_rows(
     n: usize,
 ) -> Part
     requires format { ⌜ now format ≡ formatBytes ⌝ }
-    requires room { ⌜ (p + 6 * sectionAt k .most ≤ tableCells) × Placed k p c × (c .rows ≡ 0)
-        × (limit ≡ sectionAt k .most) ⌝ }
+    requires room { ⌜ (p + 6 * sectionAt (s .section) .most ≤ tableCells) × Placed (s .section) p c × (c .rows ≡ 0)
+        × Known s ⌝ }
     ensures answer { λ r. ⌜ partWritten r (now (table .entry)) (now (out .exit))
         ≡ pour (now (out .entry), n)
-        (throughRows (writing form) (suc (sectionAt k .most)) k
+        (throughRows (writing (s .form)) (suc (sectionAt (s .section) .most)) (s .section)
         (stageFrom (sofarAt (now (table .entry)) p c) (drop p (now (table .entry))))) ⌝ }
-    ensures taken { λ r. ⌜ (r .refusal ≡ 0 → RowsTaken k p (r .cells) (r .counts)) ⌝ }
+    ensures taken { λ r. ⌜ (r .refusal ≡ 0 → RowsTaken (s .section) p (r .cells) (r .counts)) ⌝ }
 {
     let mut next = n;
     let mut m = p;
     let mut d = c;
-    let mut more = row_comes(k, table, m);
+    let mut more = row_comes(s.section, table, m);
     while more {
-        let r = write_row(format, form, k, limit, table, m, d, out, next);
+        let r = write_row(format, s, table, m, d, out, next);
         if r.refusal != 0 {
             return r;
         }
         next = r.next;
         m = r.cells;
         d = r.counts;
-        more = row_comes(k, table, m);
+        more = row_comes(s.section, table, m);
     }
     Part {
         refusal: 0,
@@ -169,11 +164,11 @@ fn write_section(
         (throughSection (writing form) k (stageFrom (sofarAt (now (table .entry)) p c) (drop p (now (table .entry))))) ⌝ }
     ensures taken { λ r. ⌜ (r .refusal ≡ 0 → RowsTaken k p (r .cells) (r .counts)) ⌝ }
 {
-    let limit = most(k);
+    let s = layout_of(form, k);
     let none = [0u64; 5];
     let at = put_line(format, table, 0, names_place(form, k), &none, out, n);
     let d = counts_begun(c);
-    let r = write_rows(format, form, k, limit, table, p, d, out, at);
+    let r = write_rows(format, s, table, p, d, out, at);
     if r.refusal != 0 {
         return r;
     }
@@ -268,7 +263,7 @@ fn has_form(table: &[u64]) -> bool
     if table.len() == 0 {
         return false;
     }
-    cell(table, 0, OLD_FORM) <= KIND_FORM
+    cell(table, 0, OLD_FORM) <= TURN_FORM
 }
 
 // The text of a graph table made in working memory and then put into the lent buffer, where it has

@@ -5,19 +5,19 @@ use Prim.Native.Nat.{ℕ}
 use Rattle.graph_table.specs.Rows.{hopTo, ifOwn, byScope, rowHops, allHops, placeFrom, nextRow}
 
 -- an edge row
-abbrev row : ℕ → ℕ → ℕ → List ℕ → List ℕ
-row from label to cells = 5 ∷ from ∷ label ∷ to ∷ 0 ∷ 0 ∷ cells
+abbrev row : ℕ → ℕ → ℕ → ℕ → List ℕ → List ℕ
+row from label turn to cells = 5 ∷ from ∷ label ∷ to ∷ turn ∷ 0 ∷ cells
 
--- rows of scopes 0, 2, 1, 2, 3, 2, each told by its label
+-- rows of scopes 0, 2, 1, 2, 3, 2, each told by its label; the second has turn 9 (02, K12)
 abbrev mixed : List ℕ
-mixed = row 0 0 7 (row 2 1 7 (row 1 2 7 (row 2 3 7 (row 3 4 7 (row 2 5 7 [])))))
+mixed = row 0 0 0 7 (row 2 1 9 7 (row 1 2 0 7 (row 2 3 0 7 (row 3 4 0 7 (row 2 5 0 7 [])))))
 
 -- scope 2 has the first two of its three rows
-pub first-two : rowHops mixed 2 ≡ hopTo 1 7 ∷ hopTo 3 7 ∷ []
+pub first-two : rowHops mixed 2 ≡ hopTo 1 9 7 ∷ hopTo 3 0 7 ∷ []
 unfolding rowHops byScope ifOwn
 first-two = refl
 
-pub three-in-all : allHops mixed 2 ≡ hopTo 1 7 ∷ hopTo 3 7 ∷ hopTo 5 7 ∷ []
+pub three-in-all : allHops mixed 2 ≡ hopTo 1 9 7 ∷ hopTo 3 0 7 ∷ hopTo 5 0 7 ∷ []
 unfolding allHops ifOwn
 three-in-all = refl
 
@@ -41,9 +41,9 @@ place-behind = refl
 
 -- scopes 2, 2, 3, 2, the first two rows equal: each of these is found, at its place
 abbrev equal : List ℕ
-equal = row 2 1 7 (row 2 1 7 (row 3 1 7 (row 2 1 7 [])))
+equal = row 2 1 0 7 (row 2 1 0 7 (row 3 1 0 7 (row 2 1 0 7 [])))
 
-pub both : rowHops equal 2 ≡ hopTo 1 7 ∷ hopTo 1 7 ∷ []
+pub both : rowHops equal 2 ≡ hopTo 1 0 7 ∷ hopTo 1 0 7 ∷ []
 unfolding rowHops byScope ifOwn
 both = refl
 
@@ -56,6 +56,6 @@ unfolding nextRow placeFrom byScope ifOwn
 other-place = refl
 
 -- a later scope first: none is found
-pub none-behind : rowHops (row 3 0 7 (row 2 1 7 [])) 2 ≡ []
+pub none-behind : rowHops (row 3 0 0 7 (row 2 1 0 7 [])) 2 ≡ []
 unfolding rowHops byScope ifOwn
 none-behind = refl

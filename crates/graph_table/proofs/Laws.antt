@@ -11,6 +11,7 @@ use lib.Dec.{ltb, eqb}
 use lib.ListN.{length, getD, drop, length-drop}
 use lib.Seq.{drop-cons}
 use Rattle.scope_graph.specs.Path.{HopOf}
+use Rattle.scope_graph.specs.Turns.{Turned}
 use Rattle.scope_graph.proofs.Lists.{Two}
 use Rattle.graph_table.specs.Rows.{hopAt, ifOwn, byScope, rowHops, allHops, RowsAscend, placeFrom, nextRow}
 use Rattle.graph_table.specs.Promises.{NextRow}
@@ -85,7 +86,7 @@ module _ (l : List ℕ) (s p : ℕ) where
     abbrev from : ℕ
     from = getD l (p + 1) 0
 
-    abbrev rest : List (HopOf ℕ)
+    abbrev rest : List (HopOf Turned)
     rest = rowHops (drop (p + 6) l) s
 
     hops-row : rowHops (drop p l) s ≡ byScope s from [] (hopAt l p ∷ rest) rest

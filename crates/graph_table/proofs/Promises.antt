@@ -10,27 +10,28 @@ use borrow.Author.Tests.{ltb-true, ltb-false}
 use lib.Dec.{ltb}
 use lib.ListN.{length, getD, drop}
 use Rattle.scope_graph.specs.Path.{HopOf}
+use Rattle.scope_graph.specs.Turns.{Turned}
 use Rattle.scope_graph.proofs.Lists.{Two}
 use Rattle.graph_table.specs.Rows.{hopTo, ifOwn, byScope, rowHops, allHops, RowsAscend, nextRow}
 use Rattle.graph_table.specs.Promises.{NextRow, NextIs, NextOne, NoneLater, AboveLater, WithoutLater, AscendingAll}
 use Rattle.graph_table.proofs.Laws.{if-own, if-other, by-later, by-own, by-earlier, compare, next-from}
 
 -- a row up to scope s, before what both find alike
-module _ (s from label to : ℕ) (found all : List (HopOf ℕ)) (so : found ≡ all) where
-  step-all : (from ≡ s) ⊎ (from < s) → byScope s from [] (hopTo label to ∷ found) found ≡ ifOwn s from (hopTo label to ∷ all) all
+module _ (s from label turn to : ℕ) (found all : List (HopOf Turned)) (so : found ≡ all) where
+  step-all : (from ≡ s) ⊎ (from < s) → byScope s from [] (hopTo label turn to ∷ found) found ≡ ifOwn s from (hopTo label turn to ∷ all) all
   step-all (inl m) =
-      by-own s from [] (hopTo label to ∷ found) found m
-      ∙ ap (λ (z : List (HopOf ℕ)). hopTo label to ∷ z) so
-      ∙ sym (if-own s from (hopTo label to ∷ all) all m)
+      by-own s from [] (hopTo label turn to ∷ found) found m
+      ∙ ap (λ (z : List (HopOf Turned)). hopTo label turn to ∷ z) so
+      ∙ sym (if-own s from (hopTo label turn to ∷ all) all m)
   step-all (inr m) =
-      by-earlier s from [] (hopTo label to ∷ found) found m
+      by-earlier s from [] (hopTo label turn to ∷ found) found m
       ∙ so
-      ∙ sym (if-other s from (hopTo label to ∷ all) all (λ e. omega arith))
+      ∙ sym (if-other s from (hopTo label turn to ∷ all) all (λ e. omega arith))
 
 -- a row of a later scope ends the look
-later-ends : (s a from label to x y : ℕ) (behind : List ℕ) → s < from → rowHops (a ∷ from ∷ label ∷ to ∷ x ∷ y ∷ behind) s ≡ []
+later-ends : (s a from label to turn x : ℕ) (behind : List ℕ) → s < from → rowHops (a ∷ from ∷ label ∷ to ∷ turn ∷ x ∷ behind) s ≡ []
 unfolding rowHops
-later-ends s a from label to x y behind m = by-later s from [] (hopTo label to ∷ rowHops behind s) (rowHops behind s) m
+later-ends s a from label to turn x behind m = by-later s from [] (hopTo label turn to ∷ rowHops behind s) (rowHops behind s) m
 
 no-cells : (s : ℕ) → rowHops [] s ≡ []
 unfolding rowHops
@@ -79,19 +80,19 @@ module _ (s : ℕ) (behind : List ℕ) (none : rowHops behind s ≡ []) where
   above-all n (a ∷ from ∷ []) is most = absurd (omega arith)
   above-all n (a ∷ from ∷ label ∷ []) is most = absurd (omega arith)
   above-all n (a ∷ from ∷ label ∷ to ∷ []) is most = absurd (omega arith)
-  above-all n (a ∷ from ∷ label ∷ to ∷ x ∷ []) is most = absurd (omega arith)
-  above-all zero (a ∷ from ∷ label ∷ to ∷ x ∷ y ∷ cells) is most = absurd (omega arith)
-  above-all (suc n) (a ∷ from ∷ label ∷ to ∷ x ∷ y ∷ cells) is most =
-      step-all s from label to (rowHops (cells ++ behind) s) (allHops cells s) (above-all n cells (omega arith) rest-most)
+  above-all n (a ∷ from ∷ label ∷ to ∷ turn ∷ []) is most = absurd (omega arith)
+  above-all zero (a ∷ from ∷ label ∷ to ∷ turn ∷ x ∷ cells) is most = absurd (omega arith)
+  above-all (suc n) (a ∷ from ∷ label ∷ to ∷ turn ∷ x ∷ cells) is most =
+      step-all s from label turn to (rowHops (cells ++ behind) s) (allHops cells s) (above-all n cells (omega arith) rest-most)
       (eq-or-lt-of-le (most 0 (omega arith)))
     where
       rest-most : (k : ℕ) → k < n → getD cells (6 * k + 1) 0 ≤ s
       rest-most k m =
-          subst (λ (i : ℕ). getD (a ∷ from ∷ label ∷ to ∷ x ∷ y ∷ cells) i 0 ≤ s) (the-place k) (most (suc k) (omega arith))
+          subst (λ (i : ℕ). getD (a ∷ from ∷ label ∷ to ∷ turn ∷ x ∷ cells) i 0 ≤ s) (the-place k) (most (suc k) (omega arith))
 
 pub above-later : AboveLater
-above-later above behind s a from label to x y up later =
-    above-all s (a ∷ from ∷ label ∷ to ∷ x ∷ y ∷ behind) (later-ends s a from label to x y behind later) (up .count) above (up .whole) (up .most)
+above-later above behind s a from label to turn x up later =
+    above-all s (a ∷ from ∷ label ∷ to ∷ turn ∷ x ∷ behind) (later-ends s a from label to turn x behind later) (up .count) above (up .whole) (up .most)
 
 pub without-later : WithoutLater
 without-later rows s up = ap (λ (l : List ℕ). rowHops l s) (sym (append-nil rows)) ∙ above-all s [] (no-cells s) (up .count) rows (up .whole) (up .most)
@@ -104,10 +105,10 @@ later-none least s (a ∷ []) up h = refl
 later-none least s (a ∷ from ∷ []) up h = refl
 later-none least s (a ∷ from ∷ label ∷ []) up h = refl
 later-none least s (a ∷ from ∷ label ∷ to ∷ []) up h = refl
-later-none least s (a ∷ from ∷ label ∷ to ∷ x ∷ []) up h = refl
-later-none least s (a ∷ from ∷ label ∷ to ∷ x ∷ y ∷ cells) up h =
+later-none least s (a ∷ from ∷ label ∷ to ∷ turn ∷ []) up h = refl
+later-none least s (a ∷ from ∷ label ∷ to ∷ turn ∷ x ∷ cells) up h =
     let m = up .0 in
-    if-other s from (hopTo label to ∷ allHops cells s) (allHops cells s) (λ e. omega arith) ∙ later-none from s cells (up .1) (omega arith)
+    if-other s from (hopTo label turn to ∷ allHops cells s) (allHops cells s) (λ e. omega arith) ∙ later-none from s cells (up .1) (omega arith)
 
 all-from : (least : ℕ) (l : List ℕ) → RowsAscend least l → (s : ℕ) → rowHops l s ≡ allHops l s
 unfolding rowHops allHops
@@ -116,14 +117,14 @@ all-from least (a ∷ []) up s = refl
 all-from least (a ∷ from ∷ []) up s = refl
 all-from least (a ∷ from ∷ label ∷ []) up s = refl
 all-from least (a ∷ from ∷ label ∷ to ∷ []) up s = refl
-all-from least (a ∷ from ∷ label ∷ to ∷ x ∷ []) up s = refl
-all-from least (a ∷ from ∷ label ∷ to ∷ x ∷ y ∷ cells) up s = at (compare s from) (all-from from cells (up .1) s)
+all-from least (a ∷ from ∷ label ∷ to ∷ turn ∷ []) up s = refl
+all-from least (a ∷ from ∷ label ∷ to ∷ turn ∷ x ∷ cells) up s = at (compare s from) (all-from from cells (up .1) s)
   where
-    at : (s < from) ⊎ ((from ≡ s) ⊎ (from < s)) → rowHops cells s ≡ allHops cells s → rowHops (a ∷ from ∷ label ∷ to ∷ x ∷ y ∷ cells) s ≡ allHops (a ∷ from ∷ label ∷ to ∷ x ∷ y ∷ cells) s
+    at : (s < from) ⊎ ((from ≡ s) ⊎ (from < s)) → rowHops cells s ≡ allHops cells s → rowHops (a ∷ from ∷ label ∷ to ∷ turn ∷ x ∷ cells) s ≡ allHops (a ∷ from ∷ label ∷ to ∷ turn ∷ x ∷ cells) s
     at (inl m) so =
-        later-ends s a from label to x y cells m
-        ∙ sym (if-other s from (hopTo label to ∷ allHops cells s) (allHops cells s) (λ e. omega arith) ∙ later-none from s cells (up .1) m)
-    at (inr m) so = step-all s from label to (rowHops cells s) (allHops cells s) so m
+        later-ends s a from label to turn x cells m
+        ∙ sym (if-other s from (hopTo label turn to ∷ allHops cells s) (allHops cells s) (λ e. omega arith) ∙ later-none from s cells (up .1) m)
+    at (inr m) so = step-all s from label turn to (rowHops cells s) (allHops cells s) so m
 
 pub ascending-all : AscendingAll
 ascending-all rows up s = all-from 0 rows up s

@@ -71,18 +71,27 @@ module _ (cells : List ℕ) where
   unfolding tableForm formIn hasKinds
   form-none h = rw (List·getD-eq-default cells 0 {n = 0} (omega arith), tableForm)
 
-  pub form-kinds : getD cells 0 0 ≡ 1 → Kinds ≡ tableForm cells
-  unfolding tableForm formIn hasKinds
-  form-kinds h = rw (h, tableForm)
+  pub form-kinds : true ≡ hasKinds (getD cells 0 0) → Kinds ≡ tableForm cells
+  unfolding tableForm formIn
+  form-kinds h = rw (sym h, tableForm)
 
-  pub form-old : (getD cells 0 0 ≡ 1 → ⊥) → Old ≡ tableForm cells
-  unfolding tableForm formIn hasKinds
-  form-old h = at (getD cells 0 0) h
-    where
-      at : (cell : ℕ) → (cell ≡ 1 → ⊥) → Old ≡ (elim (hasKinds cell) as (λ _. Form) [ true ↦ Kinds | false ↦ Old ])
-      at zero k = refl
-      at (suc zero) k = absurd (k refl)
-      at (suc (suc n)) k = refl
+  pub form-old : false ≡ hasKinds (getD cells 0 0) → Old ≡ tableForm cells
+  unfolding tableForm formIn
+  form-old h = rw (sym h, tableForm)
+
+-- the number that a wanted form gets
+module _ (form : Form) (number : ℕ) where
+  pub number-old : form ≡ Old → 0 ≡ formNumber form number
+  unfolding formNumber
+  number-old e = rw e
+
+  pub number-kept : form ≡ Kinds → true ≡ hasKinds number → number ≡ formNumber form number
+  unfolding formNumber
+  number-kept e h = rw (e, sym h, formNumber)
+
+  pub number-kinds : form ≡ Kinds → false ≡ hasKinds number → 1 ≡ formNumber form number
+  unfolding formNumber
+  number-kinds e h = rw (e, sym h, formNumber)
 
 -- the first cell set to a form's number
 pub form-kept : (form : Form) (cells : List ℕ) → length cells ≡ 0 → cells ≡ withForm form cells
@@ -90,7 +99,7 @@ unfolding withForm
 form-kept form [] h = refl
 form-kept form (old ∷ rows) h = absurd (omega arith)
 
-pub form-set : (form : Form) (n : ℕ) (cells : List ℕ) → n ≡ formNumber form → (length cells ≡ 0 → ⊥) → set cells 0 n ≡ withForm form cells
+pub form-set : (form : Form) (n : ℕ) (cells : List ℕ) → n ≡ formNumber form (getD cells 0 0) → (length cells ≡ 0 → ⊥) → set cells 0 n ≡ withForm form cells
 unfolding withForm
 form-set form n [] e h = absurd (h refl)
-form-set form n (old ∷ rows) e h = rw e
+form-set form n (number ∷ rows) e h = rw e

@@ -35,10 +35,10 @@ pub record NoneLater (rows : List ℕ) (s : ℕ) : Type 0 where
 -- else is; the cells behind that row are any. Without such a row all that leave s are found.
 abbrev pub AboveLater : Type 0
 AboveLater =
-    (above behind : List ℕ) (s a from label to x y : ℕ)
+    (above behind : List ℕ) (s a from label to turn x : ℕ)
     → NoneLater above s
     → s < from
-    → rowHops (above ++ (a ∷ from ∷ label ∷ to ∷ x ∷ y ∷ behind)) s ≡ allHops above s
+    → rowHops (above ++ (a ∷ from ∷ label ∷ to ∷ turn ∷ x ∷ behind)) s ≡ allHops above s
 
 abbrev pub WithoutLater : Type 0
 WithoutLater = (rows : List ℕ) (s : ℕ) → NoneLater rows s → rowHops rows s ≡ allHops rows s

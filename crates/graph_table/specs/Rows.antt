@@ -1,19 +1,21 @@
 -- The edges that leave a scope, by rows as they stand in a graph table: six cells a row, the second
--- is the scope that the row leaves, then come its label and the scope that it leads to. Assumes
--- nothing: these are definitions.
+-- is the scope that the row leaves, then come its label, the scope that it leads to and its turn
+-- (02, K12). Assumes nothing: these are definitions.
 use Prim.Native.Nat.{ℕ, _+_, _≤_}
 use mathlib.Core.Bool.{true, false}
+use mathlib.Core.Option.{some}
 use mathlib.Core.List.{List, [], _∷_}
 use lib.Dec.{eqb, ltb}
 use lib.ListN.{length, getD, drop}
 use Rattle.scope_graph.specs.Path.{HopOf}
+use Rattle.scope_graph.specs.Turns.{Turned}
 
--- the hop of a label's number and a scope, and that of the row at a place
-abbrev pub hopTo : ℕ → ℕ → HopOf ℕ
-hopTo label to = record { step = label; to = to }
+-- the hop of a label's number, a turn and a scope, and that of the row at a place
+abbrev pub hopTo : ℕ → ℕ → ℕ → HopOf Turned
+hopTo label turn to = record { step = record { label = label; turn = some turn }; to = to }
 
-abbrev pub hopAt : List ℕ → ℕ → HopOf ℕ
-hopAt rows p = hopTo (getD rows (p + 2) 0) (getD rows (p + 3) 0)
+abbrev pub hopAt : List ℕ → ℕ → HopOf Turned
+hopAt rows p = hopTo (getD rows (p + 2) 0) (getD rows (p + 4) 0) (getD rows (p + 3) 0)
 
 -- what a row that leaves `from` gives for scope s: one of two, as `from` is s or not; or of three,
 -- as it is later than s, s itself or earlier
@@ -26,24 +28,24 @@ byScope s from later own earlier = elim (ltb s from) [ true ↦ later | false �
 -- 02, K4, for any rows: one hop for each row that leaves s and has no later scope's row above it,
 -- from the top down. Cells that do not fill a row are none. What this comes to is said by places in
 -- Promises (`AboveLater`).
-unfoldable pub rowHops : List ℕ → ℕ → List (HopOf ℕ)
+unfoldable pub rowHops : List ℕ → ℕ → List (HopOf Turned)
 rowHops [] s = []
 rowHops (a ∷ []) s = []
 rowHops (a ∷ from ∷ []) s = []
 rowHops (a ∷ from ∷ label ∷ []) s = []
 rowHops (a ∷ from ∷ label ∷ to ∷ []) s = []
-rowHops (a ∷ from ∷ label ∷ to ∷ x ∷ []) s = []
-rowHops (a ∷ from ∷ label ∷ to ∷ x ∷ y ∷ cells) s = byScope s from [] (hopTo label to ∷ rowHops cells s) (rowHops cells s)
+rowHops (a ∷ from ∷ label ∷ to ∷ turn ∷ []) s = []
+rowHops (a ∷ from ∷ label ∷ to ∷ turn ∷ x ∷ cells) s = byScope s from [] (hopTo label turn to ∷ rowHops cells s) (rowHops cells s)
 
 -- all rows of the scope, wherever they stand
-unfoldable pub allHops : List ℕ → ℕ → List (HopOf ℕ)
+unfoldable pub allHops : List ℕ → ℕ → List (HopOf Turned)
 allHops [] s = []
 allHops (a ∷ []) s = []
 allHops (a ∷ from ∷ []) s = []
 allHops (a ∷ from ∷ label ∷ []) s = []
 allHops (a ∷ from ∷ label ∷ to ∷ []) s = []
-allHops (a ∷ from ∷ label ∷ to ∷ x ∷ []) s = []
-allHops (a ∷ from ∷ label ∷ to ∷ x ∷ y ∷ cells) s = ifOwn s from (hopTo label to ∷ allHops cells s) (allHops cells s)
+allHops (a ∷ from ∷ label ∷ to ∷ turn ∷ []) s = []
+allHops (a ∷ from ∷ label ∷ to ∷ turn ∷ x ∷ cells) s = ifOwn s from (hopTo label turn to ∷ allHops cells s) (allHops cells s)
 
 -- the rows stand by ascending scope, from `least` on (01, "The gym file")
 abbrev pub RowsAscend : ℕ → List ℕ → Type 0
@@ -52,8 +54,8 @@ RowsAscend least (a ∷ []) = Unit {0}
 RowsAscend least (a ∷ from ∷ []) = Unit {0}
 RowsAscend least (a ∷ from ∷ label ∷ []) = Unit {0}
 RowsAscend least (a ∷ from ∷ label ∷ to ∷ []) = Unit {0}
-RowsAscend least (a ∷ from ∷ label ∷ to ∷ x ∷ []) = Unit {0}
-RowsAscend least (a ∷ from ∷ label ∷ to ∷ x ∷ y ∷ cells) = (least ≤ from) × RowsAscend from cells
+RowsAscend least (a ∷ from ∷ label ∷ to ∷ turn ∷ []) = Unit {0}
+RowsAscend least (a ∷ from ∷ label ∷ to ∷ turn ∷ x ∷ cells) = (least ≤ from) × RowsAscend from cells
 
 -- where the first row that `rowHops` finds stands, if the cells begin at place `at`; `none` if it
 -- finds none
@@ -63,8 +65,8 @@ placeFrom none s (a ∷ []) at = none
 placeFrom none s (a ∷ from ∷ []) at = none
 placeFrom none s (a ∷ from ∷ label ∷ []) at = none
 placeFrom none s (a ∷ from ∷ label ∷ to ∷ []) at = none
-placeFrom none s (a ∷ from ∷ label ∷ to ∷ x ∷ []) at = none
-placeFrom none s (a ∷ from ∷ label ∷ to ∷ x ∷ y ∷ cells) at = byScope s from none at (placeFrom none s cells (at + 6))
+placeFrom none s (a ∷ from ∷ label ∷ to ∷ turn ∷ []) at = none
+placeFrom none s (a ∷ from ∷ label ∷ to ∷ turn ∷ x ∷ cells) at = byScope s from none at (placeFrom none s cells (at + 6))
 
 -- the same of the rows from cell p on; the number of cells if there is none
 unfoldable pub nextRow : List ℕ → ℕ → ℕ → ℕ

@@ -12,19 +12,21 @@ use Rattle.graph_file.specs.File.{formIn}
 use Rattle.graph_table.specs.declared.sections.Form.{Form}
 use Rattle.graph_table.specs.declared.sections.Form.the-variants.{Old, Kinds}
 
--- the form of the file that a table stands for: with kinds (02, K8), or the old one
+-- the form of the file that a table stands for: one that shows kinds (02, K8), with or without
+-- turns (02, K12), or the old one
 unfoldable pub tableForm : List ℕ → Form
 tableForm cells = elim (hasKinds (formIn cells)) [ true ↦ Kinds | false ↦ Old ]
 
--- the number that stands for a form
-unfoldable pub formNumber : Form → ℕ
-formNumber Old = oldForm
-formNumber Kinds = kindForm
+-- The number that a table gets where a form is wanted, by the one that it has: one that shows kinds
+-- already keeps its own, so that a file with turns keeps them (02, K9 and K12).
+unfoldable pub formNumber : Form → ℕ → ℕ
+formNumber Old number = oldForm
+formNumber Kinds number = elim (hasKinds number) [ true ↦ number | false ↦ kindForm ]
 
--- the table with another form and the same rows (02, K9); one without cells stays as it is
+-- the table in the wanted form with the same rows (02, K9); one without cells stays as it is
 unfoldable pub withForm : Form → List ℕ → List ℕ
 withForm form [] = []
-withForm form (old ∷ rows) = formNumber form ∷ rows
+withForm form (number ∷ rows) = formNumber form number ∷ rows
 
 -- how many cells the rows have that stand before the first one whose cell c is k or more
 unfoldable pub leading : ℕ → ℕ → List ℕ → ℕ

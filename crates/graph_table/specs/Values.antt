@@ -1,6 +1,6 @@
 -- A row of a graph table by its values, for the row that stands at a place: the first cell is the
--- section's number (document 01, "The gym file"; the kind is 02's, K8). Assumes nothing: these are
--- definitions.
+-- section's number (document 01, "The gym file"; the kind is 02's, K8, an edge's turn 02's, K12).
+-- Assumes nothing: these are definitions.
 use Prim.Native.Nat.{ℕ, _+_}
 use mathlib.Core.Bool.{Bool, _&&_}
 use mathlib.Core.List.{List}
@@ -28,7 +28,7 @@ module _ (rows : List ℕ) (p : ℕ) where
   transitionRow = record { state = getD rows (p + 1) 0; label = getD rows (p + 2) 0; next = getD rows (p + 3) 0 }
 
   abbrev pub edgeRow : EdgeRow
-  edgeRow = record { from = getD rows (p + 1) 0; label = getD rows (p + 2) 0; to = getD rows (p + 3) 0 }
+  edgeRow = record { from = getD rows (p + 1) 0; label = getD rows (p + 2) 0; to = getD rows (p + 3) 0; turn = getD rows (p + 4) 0 }
 
   -- the name of a declaration or a query
   abbrev nameHere : Name

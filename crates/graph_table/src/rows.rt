@@ -21,11 +21,12 @@ pub struct TransitionRow {
     pub next: u64,
 }
 
-// `from label to`
+// `from label to`, and the edge's turn: 0 where the file has none
 pub struct EdgeRow {
     pub from: u64,
     pub label: u64,
     pub to: u64,
+    pub turn: u64,
 }
 
 // `at name mark`, or with its kind `at kind name mark`
@@ -84,6 +85,7 @@ pub fn edge_row(rows: &[u64], p: usize) -> EdgeRow
         from: rows[p + 1],
         label: rows[p + 2],
         to: rows[p + 3],
+        turn: rows[p + 4],
     }
 }
 

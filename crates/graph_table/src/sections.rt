@@ -1,6 +1,7 @@
 // A graph table's form, and where the sections' rows stand in it.
 use graph_file::KIND_FORM;
 use graph_file::OLD_FORM;
+use graph_file::has_kinds;
 ghost use mathlib.Core.Path.{_≡_};
 ghost use Prim.Native.Nat.{_+_, _≤_, _<_};
 ghost use lib.ListN.{length, drop};
@@ -34,7 +35,7 @@ pub const SECTION: usize = 0;
 
 pub const SCOPE: usize = 1;
 
-// The form of a file: the old one, or the one with kinds.
+// The form of a file: the old one, or one that shows kinds, with or without turns.
 pub enum Form {
     Old,
     Kinds,
@@ -47,30 +48,36 @@ pub fn form_of(table: &[u64]) -> Form
     if table.len() == 0 {
         return Form::Old;
     }
-    if table[0] == KIND_FORM {
+    if has_kinds(table[0]) {
         return Form::Kinds;
     }
     Form::Old
 }
 
-// The number that stands for a form.
-fn form_number(form: Form) -> u64
-    ensures answer { λ r. ⌜ r ≡ formNumber form ⌝ }
+// The number that a table of a wanted form gets. One that shows kinds already keeps its own, so
+// that its turns stay (02, K12).
+fn form_number(form: Form, number: u64) -> u64
+    ensures answer { λ r. ⌜ r ≡ formNumber form number ⌝ }
 {
     match form {
         Form::Old => OLD_FORM,
-        Form::Kinds => KIND_FORM,
+        Form::Kinds => {
+            if has_kinds(number) {
+                return number;
+            }
+            KIND_FORM
+        }
     }
 }
 
-// The table gets another form and keeps its rows. One without cells stays as it is.
+// The table gets the wanted form and keeps its rows. One without cells stays as it is.
 pub fn set_form(table: &mut [u64], form: Form)
     ensures memory { λ _. ⌜ now (table .exit) ≡ withForm form (now (table .entry)) ⌝ }
 {
     if table.len() == 0 {
         return;
     }
-    table[0] = form_number(form);
+    table[0] = form_number(form, table[0]);
 }
 
 // From place p on, the place of the first row whose cell c is k or more; where the whole rows end,

@@ -16,19 +16,19 @@ use Rattle.text_field.specs.declared.NameRead.the-variants.{Name, NoName}
 use Rattle.text_field.specs.Bytes.{isCapital}
 use Rattle.text_field.specs.Number.{numberHere, numberPlaced, numberMeaning}
 use Rattle.text_field.specs.Name.{nameHere, nameMeaning}
-use Rattle.graph_file.specs.Format.{Item, byte, field, state, scope, mark, count, letter, label, end, name, kind, plain, sectionAt, shapeAt, oldForm, kindForm}
+use Rattle.graph_file.specs.Format.{Item, byte, field, state, scope, mark, count, letter, label, end, name, kind, plain, turn, sectionAt, shapeAt, oldForm}
 use Rattle.text_field.specs.Outcome.{Outcome, refused, done, andThen, refuseIf}
 use Rattle.graph_file.specs.Admission.{Row, Sofar, blank, rowOf, unless, inRange, follows, admission}
 use Rattle.graph_file.specs.Line.{Reading, numberTaken, nameTaken, byteTaken, place, endTaken, readField, startsWith, readItem, placeOf, readItems, lineText, formed}
 use Rattle.graph_file.specs.Order.{orderFault}
 use Rattle.graph_file.specs.File.{Piece, Way, Stage, ifAdmitted, afterRow, oneRow, throughRows, afterNames, enough, throughSection, isEmpty, throughSections, ordered, atStart, whole, readNames, readRow, reading, formOf, readStage, madeOf, readCells, writeNames, writeRow, writing, hasForm, formIn, writeText}
 use Rattle.text_field.specs.Answer.{answer}
-use Rattle.graph_file.specs.Formed.{otherKinds, inForm}
+use Rattle.graph_file.specs.Formed.{inForm}
 use Rattle.path_row.specs.Form.{PathRow, mostMark, mostScope, numberUpTo, Front, startBy, spaceBy, markBy, headHere, rowBy, rowHere}
 use Rattle.comparison.specs.Compare.{Comparison, compareRows, compareAnswer}
 use Rattle.resolution.specs.Listing.{listingOf, listingFor, summaryFor}
 use Rattle.judge.specs.Judge.{judgeOf, judgeAnswer}
-use Rattle.conversion.specs.Conversion.{oldText, newText, textIn, textOf, oldOf, newOf}
+use Rattle.conversion.specs.Conversion.{unshown, oldText, newText, textIn, textOf, oldOf, newOf}
 use Rattle.host.specs.Numbers.{told, amountNumber, caseNumber, noSteps, written, comparisonCase, compared, standingCase, judged}
 use Rattle.host.specs.Listed.{lastRefusal, Listed, listed, carried, ListedWith, its-own, as-others, heard, amountIn, caseIn, numbered, Output, OutputWith, Cases, Numbers}
 
@@ -87,6 +87,7 @@ item-listed ls (field end c) t = end-listed ls _ t
 item-listed ls (field name c) t = name-listed (nameHere t) t
 item-listed ls (field kind c) t = byte-listed _ _ t
 item-listed ls (field plain c) t = carried _
+item-listed ls (field turn c) t = number-listed (numberHere t) t
 
 items-listed : (ls : List ℕ) (items : List Item) (row : Row) (t : List ℕ) → Listed (readItems ls items row t)
 unfolding readItems
@@ -201,16 +202,16 @@ summary-listed text = then-listed (readCells text) _ (read-listed text) (λ cell
 -- a file in the other form
 new-listed : (text : List ℕ) → Listed (newOf text)
 unfolding newOf textOf textIn newText
-new-listed text = then-listed (readCells text) _ (read-listed text) (λ cells. write-listed (inForm kindForm cells))
+new-listed text = then-listed (readCells text) _ (read-listed text) (λ cells. write-listed _)
 
 old-listed : (o : Outcome (List ℕ)) (room : ℕ) → Listed o → ListedWith 14 (answer (andThen o oldText) room)
 unfolding andThen oldText refuseIf answer
 old-listed _ room (listed n low high) = as-others _ (listed n low high)
-old-listed _ room (carried cells) = by-kinds (otherKinds cells)
+old-listed _ room (carried cells) = by-test (unshown cells)
   where
-    by-kinds : (b : Bool) → ListedWith 14 (answer (refuseIf b 14 (writeText (inForm oldForm cells))) room)
-    by-kinds true = its-own
-    by-kinds false = as-others _ (answer-listed (writeText (inForm oldForm cells)) room (write-listed (inForm oldForm cells)))
+    by-test : (b : Bool) → ListedWith 14 (answer (refuseIf b 14 (writeText (inForm oldForm cells))) room)
+    by-test true = its-own
+    by-test false = as-others _ (answer-listed (writeText (inForm oldForm cells)) room (write-listed (inForm oldForm cells)))
 
 -- path rows
 start-listed : (m before : ℕ) (r : NumberRead) → Listed (startBy m before r)

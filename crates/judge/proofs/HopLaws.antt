@@ -3,100 +3,91 @@
 use mathlib.Core.Path.{_≡_, refl, sym, ap, _∙_}
 use mathlib.Core.Bool.{Bool, true, false, not, _&&_}
 use mathlib.Core.Logic.{_⊎_, inl, inr}
+use mathlib.Core.Option.{Option, some, none}
 use mathlib.Core.List.{List}
-use Prim.Native.Nat.{ℕ, suc, _+_, _-_, _/_, _%_, _≤_, _<_}
+use Prim.Native.Nat.{ℕ, suc, _-_, _≤_, _<_}
 use native.Mathlib.Omega.{arith}
-use native.Mathlib.Numerals.{add-one}
-use borrow.Author.Tests.{eq-eqb, ne-eqb, ltb-true, ltb-false}
+use borrow.Author.Tests.{eq-eqb, ltb-true, ltb-false}
 use lib.Dec.{eqb, ltb}
 use Rattle.scope_graph.specs.Path.{HopOf}
-use Rattle.scope_graph.specs.Rows.{anyOf}
-use Rattle.scope_graph.proofs.Lists.{Two}
+use Rattle.scope_graph.specs.Turns.{Turned}
+use Rattle.scope_graph.proofs.Lists.{Two, and-left, and-both, anyOf-intro, anyOf-false}
+use Rattle.scope_graph.proofs.Turns.{turned-is, turned-self}
 use Rattle.block.specs.Sets.{hasScope}
-use Rattle.block.specs.Block.{nextCell, scopesCell, firstEdge, edgeCell, hopOf, hopsOn, blockHops}
+use Rattle.block.specs.Block.{nextCell, scopesCell, firstEdge, blockHops, EdgeTo}
 use Rattle.block.proofs.SetLaws.{scope-past, scope-below, scopes-all}
-use Rattle.block.proofs.BlockLaws.{next-no-label, on-none, on-more, blockHops-in}
+use Rattle.block.proofs.BlockLaws.{next-no-label}
+use Rattle.block.proofs.EdgeLaws.{hop-turned}
 use Rattle.search.specs.declared.Node.{Node}
 use Rattle.search.specs.Board.{without}
 use Rattle.search.specs.Conditions.{Inside, freeAt}
 use Rattle.search.proofs.Leads.{taken-is, live-taken}
 use Rattle.judge.specs.Steps.{hopTo, sameHop, hasHop, stateOn, stateAlong, Begins, Behind, Ready}
 
--- an edge's hop
-module _ (x l t : ℕ) where
-  pub same-not : (x / 64 % 8 ≡ l → ⊥) → false ≡ sameHop (hopTo l t) (hopOf x)
-  unfolding sameHop hopOf
-  same-not h = rw (ne-eqb (x / 64 % 8) l h)
+-- an edge has a turn
+turned : (o : Option ℕ) (n : ℕ) → o ≡ some n → o ≡ none → ⊥
+turned o n e f = let y : _≡_ {A = ℕ} 0 1 = cc in omega arith
 
-  pub same-rest : x / 64 % 8 ≡ l → eqb (x % 64) t ≡ sameHop (hopTo l t) (hopOf x)
-  unfolding sameHop hopOf
-  same-rest h = rw (eq-eqb (x / 64 % 8) l h)
+same-self : (h : HopOf Turned) → sameHop h h ≡ true
+unfolding sameHop
+same-self h = and-both _ _ (turned-self (h .step)) (eq-eqb (h .to) _ refl)
 
--- the edges of a scope from number p on
-module _ (block : List ℕ) (s : ℕ) (h : HopOf ℕ) where
-  abbrev pub hopLeft : ℕ → Bool
-  hopLeft p = hasHop h (hopsOn block s p)
-
-  pub hop-all : s < 64 → hasHop h (blockHops block s) ≡ hopLeft (firstEdge block s)
-  hop-all k = ap (hasHop h) (blockHops-in block s k)
-
-  module _ (p : ℕ) where
-    pub hop-none : firstEdge block (suc s) ≤ p → hopLeft p ≡ false
-    unfolding hasHop anyOf
-    hop-none k = ap (hasHop h) (on-none block s p k)
-
-    module _ (inside : p < firstEdge block (suc s)) (x : ℕ) (is : x ≡ edgeCell block p) (u : Bool)
-        (e : u ≡ sameHop h (hopOf x)) where
-      split : hopLeft p ≡ (elim u as (λ _. Bool) [ true ↦ true | false ↦ hopLeft (suc p) ])
-      unfolding hasHop anyOf
-      split = ap (hasHop h) (on-more block s p inside) ∙ rw (e, is)
-
-      pub hop-here : u ≡ true → hopLeft p ≡ true
-      hop-here k = split ∙ rw k
-
-      pub hop-on : u ≡ false → hopLeft p ≡ hopLeft (p + 1)
-      hop-on k = split ∙ rw (k, add-one p)
+-- does an edge go there, by its number?
+module _ (block : List ℕ) (s l t p end : ℕ) (e : EdgeTo block s l t p) (is : end ≡ firstEdge block (suc s)) where
+  pub edge-there : ltb p end ≡ hasHop (hopTo block s l t) (blockHops block s)
+  unfolding hasHop sameHop
+  edge-there = at (Two (ltb p end))
+    where
+      at : (ltb p end ≡ true) ⊎ (ltb p end ≡ false) → ltb p end ≡ hasHop (hopTo block s l t) (blockHops block s)
+      at (inl f) =
+          let h : p < firstEdge block (suc s) = rw is at (ltb-true p end f) in
+          f ∙ sym (anyOf-intro (sameHop (hopTo block s l t)) (rw (e .is h) at (e .leaves h)) (same-self (hopTo block s l t)))
+      at (inr f) =
+          let h : firstEdge block (suc s) ≤ p = rw is at (ltb-false p end f) in
+          f ∙ sym (anyOf-false (sameHop (hopTo block s l t)) (blockHops block s)
+          (λ k m g. turned (k .step .turn) (hop-turned block s k m .0) (hop-turned block s k m .1)
+          (ap (λ (z : Turned). z .turn) (turned-is (k .step) (hopTo block s l t .step) (and-left _ _ g)) ∙ e .none-is h)))
 
 -- the state after a hop
 module _ (block : List ℕ) (n : Node) (l t : ℕ) where
-  pub on-taken : hasScope (n .free) t ≡ false → stateOn block n (hopTo l t) ≡ 16
+  pub on-taken : hasScope (n .free) t ≡ false → stateOn block n (hopTo block (n .scope) l t) ≡ 16
   unfolding stateOn
   on-taken h = rw (h, stateOn)
 
-  pub on-past : 64 ≤ t → stateOn block n (hopTo l t) ≡ 16
+  pub on-past : 64 ≤ t → stateOn block n (hopTo block (n .scope) l t) ≡ 16
   on-past h = on-taken (scope-past (n .free) t h)
 
-  pub on-free : hasScope (n .free) t ≡ true → stateOn block n (hopTo l t) ≡ nextCell block (n .state) l
+  pub on-free : hasScope (n .free) t ≡ true → stateOn block n (hopTo block (n .scope) l t) ≡ nextCell block (n .state) l
   unfolding stateOn
   on-free h = rw (h, stateOn)
 
-  pub on-no-label : hasScope (n .free) t ≡ true → 8 ≤ l → stateOn block n (hopTo l t) ≡ 16
+  pub on-no-label : hasScope (n .free) t ≡ true → 8 ≤ l → stateOn block n (hopTo block (n .scope) l t) ≡ 16
   on-no-label h k = on-free h ∙ next-no-label block (n .state) l k
 
   -- a hop is entered to a scope of the tables only
-  pub on-inside : stateOn block n (hopTo l t) < 16 → t < 64
+  pub on-inside : stateOn block n (hopTo block (n .scope) l t) < 16 → t < 64
   on-inside h = at (Two (hasScope (n .free) t))
     where
       at : (hasScope (n .free) t ≡ true) ⊎ (hasScope (n .free) t ≡ false) → t < 64
       at (inl e) = scope-below (n .free) t e
       at (inr e) = absurd (omega (arith, on-taken e))
 
-  pub on-small : (r : ℕ) → r ≡ stateOn block n (hopTo l t) → r < 16 → t < 64
+  pub on-small : (r : ℕ) → r ≡ stateOn block n (hopTo block (n .scope) l t) → r < 16 → t < 64
   on-small r e h = on-inside (omega arith)
 
-  module _ (u : Bool) (e : u ≡ hasHop (hopTo l t) (blockHops block (n .scope))) where
-    pub along-none : u ≡ false → stateAlong block n (hopTo l t) ≡ 16
+  module _ (u : Bool) (e : u ≡ hasHop (hopTo block (n .scope) l t) (blockHops block (n .scope))) where
+    pub along-none : u ≡ false → stateAlong block n (hopTo block (n .scope) l t) ≡ 16
     unfolding stateAlong
     along-none h = rw (sym e ∙ h, stateAlong)
 
-    pub along-edge : u ≡ true → stateAlong block n (hopTo l t) ≡ stateOn block n (hopTo l t)
+    pub along-edge : u ≡ true → stateAlong block n (hopTo block (n .scope) l t) ≡ stateOn block n (hopTo block (n .scope) l t)
     unfolding stateAlong
     along-edge h = rw (sym e ∙ h, stateAlong)
 
-  pub along-small : (r : ℕ) → r ≡ stateAlong block n (hopTo l t) → r < 16 → t < 64
-  along-small r k h = at (Two (hasHop (hopTo l t) (blockHops block (n .scope))))
+  pub along-small : (r : ℕ) → r ≡ stateAlong block n (hopTo block (n .scope) l t) → r < 16 → t < 64
+  along-small r k h = at (Two (hasHop (hopTo block (n .scope) l t) (blockHops block (n .scope))))
     where
-      at : (hasHop (hopTo l t) (blockHops block (n .scope)) ≡ true) ⊎ (hasHop (hopTo l t) (blockHops block (n .scope)) ≡ false) → t < 64
+      at : (hasHop (hopTo block (n .scope) l t) (blockHops block (n .scope)) ≡ true) ⊎ (hasHop (hopTo block (n .scope) l t) (blockHops block (n .scope)) ≡ false) → t < 64
       at (inl e) = on-inside (omega (arith, along-edge _ refl e))
       at (inr e) = absurd (omega (arith, along-none _ refl e))
 
@@ -134,7 +125,7 @@ module _ (n m : Node) (to r left : ℕ) (b : Behind n to r left m) where
   pub behind-ready : (block : List ℕ) (goal : ℕ) (live : List ℕ) → Ready block goal live n → to < 64 → r < 16 → Ready block goal live m
   behind-ready block goal live y h k = record {
     size = y .size;
-    still = y .still;
+    bounds = y .bounds;
     table = y .table;
     inside = behind-inside h k;
     closed = live-taken block goal (n .free) to (m .free) (b .free) live (y .closed);

@@ -12,10 +12,11 @@ use Rattle.scope_graph.specs.Language.{_∈_, Language}
 use Rattle.scope_graph.specs.Graph.{Graph, InRange}
 use Rattle.scope_graph.specs.Path.{Distinct, HopOf, Hop, Along, tos, Entry}
 use Rattle.scope_graph.specs.Path.{PathRow as RulesRow}
+use Rattle.scope_graph.specs.Turns.{Turned, turnBy}
 use Rattle.scope_graph.specs.Rows.{language}
-use Rattle.scope_graph.specs.Computed.{is-visible}
+use Rattle.scope_graph.specs.Computed.{hopsAt, is-visible}
 use Rattle.scope_graph.proofs.Lists.{and-both, map-elim}
-use Rattle.scope_graph.proofs.Nodes.{tos-length, tos-bounded}
+use Rattle.scope_graph.proofs.Nodes.{hopsAt-elim, hopsAt-intro, tos-length, tos-bounded}
 use Rattle.scope_graph.proofs.Pigeon.{distinct-bounded}
 use Rattle.text_field.specs.Bytes.{isCapital}
 use Rattle.text_field.specs.Number.{numberText}
@@ -28,9 +29,10 @@ use Rattle.graph_file.specs.Accepted.{AcceptedTable}
 use Rattle.graph_file.proofs.DecodeAccepted.{read-accepted}
 use Rattle.path_row.specs.declared.form.Step.{Step}
 use Rattle.path_row.specs.Form.{PathRow, mostMark, mostScope, mostSteps, stepsText, rowText, areSteps, isRow}
-use Rattle.path_row.specs.Numbering.{labelNumber, hopOf, pathOf}
+use Rattle.path_row.specs.Numbering.{labelNumber, hopOf, hopsOf, pathOf}
 use Rattle.path_row.proofs.FormLaws.{written-then-read}
 use Rattle.path_row.proofs.NumberingLaws.{number-within}
+use Rattle.path_row.proofs.TurnLaws.{turn-is}
 use Rattle.follow.specs.Text.{letterOf, hopsText}
 use Rattle.follow.specs.Text.{rowText as shownRow}
 use Rattle.board.specs.Queries.{queryAt}
@@ -50,18 +52,18 @@ one-place (x ∷ xs) (suc i) (suc j) d h k e = ap suc (one-place xs i j (d .1) (
 
 module _ (letters : List ℕ) where
   -- a hop as a row's step, by its label's letter
-  abbrev stepTo : HopOf ℕ → Step
-  stepTo h = record { label = letterOf letters (h .step); scope = h .to }
+  abbrev stepTo : HopOf Turned → Step
+  stepTo h = record { label = letterOf letters (h .step .label); scope = h .to }
 
-  abbrev rowTo : ℕ → ℕ → List (HopOf ℕ) → PathRow
+  abbrev rowTo : ℕ → ℕ → List (HopOf Turned) → PathRow
   rowTo mark start hs = record { mark = mark; start = start; steps = map stepTo hs }
 
-  hops-text : (hs : List (HopOf ℕ)) → hopsText letters hs ≡ stepsText (map stepTo hs)
+  hops-text : (hs : List (HopOf Turned)) → hopsText letters hs ≡ stepsText (map stepTo hs)
   unfolding hopsText stepsText
   hops-text [] = refl
-  hops-text (h ∷ hs) = ap (λ (s : List ℕ). letterOf letters (h .step) ∷ (numberText (h .to) ++ s)) (hops-text hs)
+  hops-text (h ∷ hs) = ap (λ (s : List ℕ). letterOf letters (h .step .label) ∷ (numberText (h .to) ++ s)) (hops-text hs)
 
-  row-text : (mark start : ℕ) (hs : List (HopOf ℕ)) → shownRow letters mark start hs ≡ rowText (rowTo mark start hs) ++ (10 ∷ [])
+  row-text : (mark start : ℕ) (hs : List (HopOf Turned)) → shownRow letters mark start hs ≡ rowText (rowTo mark start hs) ++ (10 ∷ [])
   unfolding shownRow rowText
   row-text mark start hs =
       rw (
@@ -105,7 +107,7 @@ module _ (text cells : List ℕ) (read : readCells text ≡ done cells) where
       ap isCapital (m .2) ∙ capitals text cells read (m .0) (m .1)
 
   module _ (range : InRange L g) where
-    hop-listed : (s : ℕ) (h : Hop L) → record { from = s; step = h .step; to = h .to } ∈ g .edges → h .step < length letters
+    hop-listed : (s : ℕ) (h : Hop L) → record { from = s; step = h .step; to = h .to } ∈ g .edges → h .step .label < length letters
     hop-listed s h m = rw labels-are at (range .listed _ m)
 
     hop-scope : (s : ℕ) (h : Hop L) → record { from = s; step = h .step; to = h .to } ∈ g .edges → h .to ≤ 63
@@ -115,14 +117,29 @@ module _ (text cells : List ℕ) (read : readCells text ≡ done cells) where
     unfolding areSteps
     steps-good s [] a = refl
     steps-good s (h ∷ hs) a =
-        and-both (isCapital (letterOf letters (h .step))) (leb (h .to) mostScope && areSteps (map (stepTo letters) hs)) (capital (h .step) (hop-listed s h (a .0)))
+        and-both (isCapital (letterOf letters (h .step .label))) (leb (h .to) mostScope && areSteps (map (stepTo letters) hs)) (capital (h .step .label) (hop-listed s h (a .0)))
         (and-both (leb (h .to) mostScope) (areSteps (map (stepTo letters) hs)) (le-leb (h .to) mostScope (hop-scope s h (a .0))) (steps-good (h .to) hs (a .1)))
 
-    hops-back : (s : ℕ) (hs : List (Hop L)) → Along L g s hs → map (hopOf (rulesOf cells) letters) (map (stepTo letters) hs) ≡ hs
+    abbrev leaving : ℕ → List (Hop L)
+    leaving s = hopsAt L (g .edges) s
+
+    -- a hop along an edge has the turn that is looked up: edges by one label from and to the same
+    -- scopes have one turn
+    turn-back : (s : ℕ) (h : Hop L) → record { from = s; step = h .step; to = h .to } ∈ g .edges
+        → turnBy (leaving s) (h .step .label) (h .to) ≡ h .step .turn
+    turn-back s h m =
+        turn-is (leaving s) h (hopsAt-intro L (g .edges) m)
+        (λ k n e f. range .together _ _ (hopsAt-elim L (g .edges) s n) m refl f e)
+
+    hop-back : (s : ℕ) (h : Hop L) → record { from = s; step = h .step; to = h .to } ∈ g .edges
+        → hopOf leaving letters s (stepTo letters h) ≡ h
     unfolding hopOf
+    hop-back s h m = rw (numbered letters (table .letters) (h .step .label) (hop-listed s h m), turn-back s h m)
+
+    hops-back : (s : ℕ) (hs : List (Hop L)) → Along L g s hs → hopsOf leaving letters s (map (stepTo letters) hs) ≡ hs
+    unfolding hopsOf
     hops-back s [] a = refl
-    hops-back s (h ∷ hs) a =
-        rw (numbered letters (table .letters) (h .step) (hop-listed s h (a .0)), hops-back (h .to) hs (a .1))
+    hops-back s (h ∷ hs) a = rw (hop-back s h (a .0), hops-back (h .to) hs (a .1))
 
   module _ (i : ℕ) (inside : i < length (queriesOf cells)) (r : RulesRow L) (entry : Entry L g (queryAt cells i) r) where
     abbrev p : PathRow

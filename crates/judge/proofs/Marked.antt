@@ -3,6 +3,7 @@
 use mathlib.Core.Path.{_≡_, refl, ap, _∙_}
 use mathlib.Core.List.{List, [], _∷_, flatMap}
 use Prim.Native.Nat.{ℕ}
+use Rattle.scope_graph.specs.Turns.{sameTurn, sameTurned, later, laterStep, turnBy}
 use Rattle.scope_graph.specs.Rows.{sameEnd, sameName, anyOf, preferredBy, nextBy}
 use Rattle.scope_graph.specs.Order.{endOf}
 use Rattle.scope_graph.specs.Computed.{Standing, is-visible, is-shadowed, is-unreached, keep, hopsAt, marksAt, declaresAny, behind, hopOn, nodesFrom, leadsOn, sameHop, sameHops, preferredTo, nodes, reachedNodes, cut, isReached, standing, judged}
@@ -13,7 +14,7 @@ use Rattle.graph_file.specs.File.{isEmpty}
 use Rattle.graph_file.specs.Decode.{keptIf, rowsAmong, rowsIn, lettersOf, orderPairOf, transitionOf, rulesOf, nameAt, edgeOf, declarationOf, queryOf, scopesOf, graphOf, queriesOf}
 use Rattle.graph_file.specs.Line.{startsWith}
 use Rattle.path_row.specs.Form.{atMost, numberUpTo, stepBy, stepHere, stepsOf, afterSteps, startBy, spaceBy, markBy, headHere, rowBy, rowHere}
-use Rattle.path_row.specs.Numbering.{numberFrom, labelNumber, hopOf, pathOf}
+use Rattle.path_row.specs.Numbering.{numberFrom, labelNumber, hopOf, hopsOf, pathOf}
 use Rattle.board.specs.Queries.{queryAt}
 use Rattle.board.specs.Example.{exampleText}
 use Rattle.board.proofs.Example.{exampleCells, example-read}
@@ -27,11 +28,11 @@ of-table row s e = ap (λ (o : Outcome (List ℕ)). andThen o (λ cells. judgeOf
 
 -- what a standing computes with
 answers : Unit {0}
-unfolding flatMap sameEnd sameName anyOf preferredBy nextBy keep hopsAt marksAt declaresAny behind hopOn nodesFrom leadsOn sameHop sameHops preferredTo nodes reachedNodes cut isReached standing judged endOf keptIf rowsAmong rowsIn lettersOf orderPairOf transitionOf rulesOf nameAt edgeOf declarationOf queryOf scopesOf graphOf queriesOf queryAt
+unfolding flatMap sameTurn sameTurned later laterStep turnBy sameEnd sameName anyOf preferredBy nextBy keep hopsAt marksAt declaresAny behind hopOn nodesFrom leadsOn sameHop sameHops preferredTo nodes reachedNodes cut isReached standing judged endOf keptIf rowsAmong rowsIn lettersOf orderPairOf transitionOf rulesOf nameAt edgeOf declarationOf queryOf scopesOf graphOf queriesOf queryAt
 answers = tt
 
 pub m10 : M10
-unfolding answers within isDigit isCapital growing digitsFrom numberHere numberPlaced numberMeaning andThen refuseIf isEmpty startsWith atMost numberUpTo stepBy stepHere stepsOf afterSteps startBy spaceBy markBy headHere rowBy rowHere numberFrom labelNumber hopOf pathOf judged ruled judgeOf
+unfolding answers within isDigit isCapital growing digitsFrom numberHere numberPlaced numberMeaning andThen refuseIf isEmpty startsWith atMost numberUpTo stepBy stepHere stepsOf afterSteps startBy spaceBy markBy headHere rowBy rowHere numberFrom labelNumber hopOf hopsOf pathOf judged ruled judgeOf
 m10 = record {
   shadowed = of-table (49 ∷ 48 ∷ 32 ∷ 50 ∷ 80 ∷ 49 ∷ []) is-shadowed refl;
   visible = of-table (50 ∷ 49 ∷ 32 ∷ 50 ∷ []) is-visible refl;

@@ -11,9 +11,10 @@ use lib.ListN.{getD, drop}
 use Rattle.scope_graph.specs.Language.{stop, Language, Laws}
 use Rattle.scope_graph.specs.Graph.{Declaration, Graph, InRange, Query}
 use Rattle.scope_graph.specs.Path.{HopOf, lastFrom}
+use Rattle.scope_graph.specs.Turns.{Turned}
 use Rattle.scope_graph.specs.Path.{PathRow as RulesRow}
 use Rattle.scope_graph.specs.Rows.{PackedName, Rules, anyOf, sameName, language}
-use Rattle.scope_graph.specs.Computed.{Standing, is-visible, is-shadowed, is-unreached, keep, marksAt, standing, judged}
+use Rattle.scope_graph.specs.Computed.{Standing, is-visible, is-shadowed, is-unreached, keep, hopsAt, marksAt, standing, judged}
 use Rattle.graph_file.specs.Format.{countSection, declarationSection}
 use Rattle.text_field.specs.Outcome.{Outcome, done}
 use Rattle.graph_file.specs.Admission.{Row, value, blank}
@@ -33,14 +34,12 @@ use Rattle.board.specs.Made.{Made}
 use Rattle.board.specs.Queries.{queryOn, Asked}
 use Rattle.board.proofs.Queries.{accepted, sound, rows-are}
 use Rattle.board.proofs.Board.{scopes-are, board-is, order-is}
-use Rattle.path_row.specs.declared.form.Step.{Step}
 use Rattle.path_row.specs.Form.{mostSteps, stepsOf, stepsIn}
-use Rattle.path_row.specs.Numbering.{hopOf, pathOf}
-use Rattle.comparison.specs.Letters.{blockLetters}
-use Rattle.comparison.proofs.LetterLaws.{letters-same}
+use Rattle.path_row.specs.Numbering.{hopsOf, pathOf}
+use Rattle.comparison.proofs.RowLaws.{steps-here}
 use Rattle.judge.specs.declared.standing.Judged.the-variants.{Visible, Shadowed, Unreached}
 use Rattle.judge.specs.Judge.{meaning, ruled}
-use Rattle.judge.specs.Steps.{isMarked, hasMark, hopsBy, stepHops, Begins, lastOf, rowReached, rowCut, judgedRow}
+use Rattle.judge.specs.Steps.{isMarked, hasMark, stepHops, Begins, lastOf, rowReached, rowCut, judgedRow}
 
 -- The marks of a name at a scope, row by row.
 module _ (r : Rules) (x : QueryRow) (mark s : ℕ) where
@@ -68,15 +67,10 @@ module _ (r : Rules) (x : QueryRow) (mark s : ℕ) where
       at false e = e
       at true e = ap (λ (z : Bool). elim (eqb mark (rowDeclared row .mark)) as (λ _. Bool) [ true ↦ true | false ↦ z ]) e
 
-last-is : (r : Rules) (s : ℕ) (hs : List (HopOf ℕ)) → lastOf s hs ≡ lastFrom (language r) s hs
+last-is : (r : Rules) (s : ℕ) (hs : List (HopOf Turned)) → lastOf s hs ≡ lastFrom (language r) s hs
 unfolding lastOf
 last-is r s [] = refl
 last-is r s (h ∷ hs) = last-is r (h .to) hs
-
--- A row's steps as hops, by the rules and by their letters' numbers.
-hops-are : (cells : List ℕ) (ss : List Step) → map (hopOf (rulesOf cells) (lettersOf cells)) ss ≡ hopsBy (lettersOf cells) ss
-unfolding hopOf hopsBy
-hops-are cells ss = refl
 
 -- The standing by three tests: the start, reached with its mark, cut.
 abbrev byTests : Bool → Bool → Bool → Standing
@@ -96,8 +90,8 @@ module _ (cells : List ℕ) (x : QueryRow) (mark from : ℕ) (row : List ℕ) (a
   abbrev theRow : RulesRow L
   theRow = ruled cells (record { mark = mark; start = from; steps = stepsIn row })
 
-  abbrev hs : List (HopOf ℕ)
-  hs = hopsBy (lettersOf cells) (stepsIn row)
+  abbrev hs : List (HopOf Turned)
+  hs = hopsOf (hopsAt L (g .edges)) (lettersOf cells) from (stepsIn row)
 
   abbrev laws : Laws L
   laws = accepted cells (a .read) .accepted q (a .starts) .laws
@@ -122,7 +116,7 @@ module _ (cells : List ℕ) (x : QueryRow) (mark from : ℕ) (row : List ℕ) (a
 
   row-is : theRow ≡ record { mark = mark; path = record { start = from; hops = hs } }
   unfolding ruled pathOf
-  row-is = rw (hops-are cells (stepsIn row))
+  row-is = refl
 
   abbrev ruledReached : Bool
   ruledReached = reachedBy (boardOf L g (q .name)) (freeAt (x .start)) (x .start) 0 hs
@@ -171,9 +165,9 @@ module _ (cells : List ℕ) (x : QueryRow) (mark from : ℕ) (row : List ℕ) (a
         board-is cells block (sound cells (a .read)) made (q .name) goal
         (subst (λ (rows : List ℕ). DeclaringIs rows (q .name) goal) decls-is goal-is)
 
-    -- the letters' numbers by the block are the file's
-    letters-here : blockLetters block ≡ lettersOf cells
-    letters-here = letters-same cells block (a .read) made
+    -- the row's hops by the block's letters and edges are those by the file's
+    hops-here : stepHops block row mostSteps at (n .scope) ≡ hs
+    hops-here = rw (at-is, begins .scope, ← same) (sym (steps-here cells block (a .read) made from (stepsIn row)))
 
     marked-is : hasMark x mark (lastOf (x .start) hs) (rowsOf decls) ≡ ruledMark
     unfolding graphOf
@@ -182,9 +176,9 @@ module _ (cells : List ℕ) (x : QueryRow) (mark from : ℕ) (row : List ℕ) (a
         ∙ rw (decls-is, rows-are cells (a .read) declarationSection, last-is (rulesOf cells) from hs)
         (marked (rulesOf cells) x mark (lastFrom L from hs) (rowsIn declarationSection cells))
 
-    reached-is : rowReached block decls goal x mark n (stepHops block row mostSteps at) ≡ (ruledReached && ruledMark)
+    reached-is : rowReached block decls goal x mark n (stepHops block row mostSteps at (n .scope)) ≡ (ruledReached && ruledMark)
     unfolding rowReached
-    reached-is = rw (at-is, letters-here, board-here, free-start, begins .scope, begins .state, marked-is)
+    reached-is = rw (hops-here, board-here, free-start, begins .scope, begins .state, marked-is)
 
     judged-same : judged L g q theRow ≡ withMark ruledMark (byTests true ruledReached ruledCut)
     judged-same = judged-is ∙ ap (λ (z : Bool). withMark ruledMark (byTests z ruledReached ruledCut)) (eq-eqb from (x .start) same)
@@ -195,7 +189,7 @@ module _ (cells : List ℕ) (x : QueryRow) (mark from : ℕ) (row : List ℕ) (a
     both false true c = refl
     both false false c = refl
 
-    module _ (u : Bool) (e : u ≡ rowReached block decls goal x mark n (stepHops block row mostSteps at)) where
+    module _ (u : Bool) (e : u ≡ rowReached block decls goal x mark n (stepHops block row mostSteps at (n .scope))) where
       by-reached : judged L g q theRow ≡ byTests true u ruledCut
       by-reached =
           judged-same ∙ both ruledMark ruledReached ruledCut ∙ ap (λ (z : Bool). byTests true z ruledCut) (sym (e ∙ reached-is))
@@ -204,14 +198,13 @@ module _ (cells : List ℕ) (x : QueryRow) (mark from : ℕ) (row : List ℕ) (a
       unfolding meaning
       not-reached h = ap told (sym (by-reached ∙ ap (λ (z : Bool). byTests true z ruledCut) h))
 
-      module _ (h : u ≡ true) (w : Bool) (f : w ≡ rowCut block goal n (stepHops block row mostSteps at)) where
+      module _ (h : u ≡ true) (w : Bool) (f : w ≡ rowCut block goal n (stepHops block row mostSteps at (n .scope))) where
         cut-is : w ≡ ruledCut
         unfolding rowCut
         cut-is =
             f
             ∙ rw (
-              at-is,
-              letters-here,
+              hops-here,
               board-here,
               order-is cells block (sound cells (a .read)) made,
               begins .left-is ∙ scopes-cell block made,

@@ -1,12 +1,13 @@
 -- Laws of going along a path row's steps, one by one: what is left of them, and whether they lead
 -- to what is sought. Assumes nothing.
-use mathlib.Core.Path.{_≡_, refl, _∙_}
+use mathlib.Core.Path.{_≡_, refl, sym, ap, _∙_}
 use mathlib.Core.Bool.{Bool, true, false}
 use mathlib.Core.Logic.{_⊎_, inl, inr}
 use mathlib.Core.List.{List, [], _∷_}
 use Prim.Native.Nat.{ℕ, zero, suc, _-_, _≤_, _<_}
 use native.Mathlib.Omega.{arith}
 use Rattle.scope_graph.specs.Path.{HopOf}
+use Rattle.scope_graph.specs.Turns.{Turned}
 use Rattle.scope_graph.proofs.Lists.{Two}
 use Rattle.block.specs.Sets.{hasScope, placesOf}
 use Rattle.block.specs.Block.{nextCell, acceptSet, blockHops}
@@ -19,33 +20,33 @@ use Rattle.graph_table.specs.Sections.{rowsOf}
 use Rattle.path_row.specs.declared.form.StepRead.{StepRead}
 use Rattle.path_row.specs.declared.form.StepRead.the-variants.{Taken, NoStep}
 use Rattle.path_row.specs.Form.{stepMeaning, stepFrom, stepsOf}
-use Rattle.path_row.specs.Numbering.{labelNumber}
+use Rattle.path_row.specs.Numbering.{labelNumber, hopOf, hopsOf}
 use Rattle.path_row.proofs.Steps.{steps-next, steps-none}
 use Rattle.comparison.specs.Letters.{blockLetters}
-use Rattle.judge.specs.Steps.{hasMark, hopTo, sameHop, hasHop, hopsBy, stepHops, stateOn, stateAlong, Behind, lastOf, rowReached}
+use Rattle.judge.specs.Steps.{hasMark, hopTo, sameHop, hasHop, stepHops, stateOn, stateAlong, Behind, lastOf, rowReached}
 use Rattle.judge.proofs.HopLaws.{on-taken, on-free, free-is}
 
 -- the hops of the steps that are left
 module _ (block row : List ℕ) where
-  pub hops-full : (left i : ℕ) → left ≤ 0 → stepHops block row left i ≡ []
-  unfolding stepsOf hopsBy
-  hops-full zero i h = refl
-  hops-full (suc left) i h = absurd (omega arith)
+  pub hops-full : (left i s : ℕ) → left ≤ 0 → stepHops block row left i s ≡ []
+  unfolding stepsOf hopsOf
+  hops-full zero i s h = refl
+  hops-full (suc left) i s h = absurd (omega arith)
 
-  module _ (i left : ℕ) (a : StepRead) (e : stepMeaning a ≡ stepFrom i row) where
-    pub hops-end : a ≡ NoStep → stepHops block row left i ≡ []
-    unfolding hopsBy
+  module _ (i left s : ℕ) (a : StepRead) (e : stepMeaning a ≡ stepFrom i row) where
+    pub hops-end : a ≡ NoStep → stepHops block row left i s ≡ []
+    unfolding hopsOf
     hops-end f = rw (steps-none row i left a e f)
 
     pub hops-on : (x v next : ℕ) → a ≡ Taken x v next → 1 ≤ left → (l : ℕ) → l ≡ labelNumber (blockLetters block) x
-        → stepHops block row left i ≡ hopTo l v ∷ stepHops block row (left - 1) next
-    unfolding hopsBy
+        → stepHops block row left i s ≡ hopTo block s l v ∷ stepHops block row (left - 1) next v
+    unfolding hopsOf hopOf
     hops-on x v next f h l k = rw (steps-next row i left a e x v next f h, k)
 
 -- where a hop leads
-module _ (block : List ℕ) (goal : ℕ) (n : Node) (l t r : ℕ) (is : r ≡ stateOn block n (hopTo l t)) (enter : ℕ → ℕ → Bool) where
+module _ (block : List ℕ) (goal : ℕ) (n : Node) (l t r : ℕ) (is : r ≡ stateOn block n (hopTo block (n .scope) l t)) (enter : ℕ → ℕ → Bool) where
   abbrev leads : Bool
-  leads = leadsTo (tableBoard block goal) enter (hasScope (n .free)) (n .state) (hopTo l t)
+  leads = leadsTo (tableBoard block goal) enter (hasScope (n .free)) (n .state) (hopTo block (n .scope) l t)
 
   pub leads-no : 16 ≤ r → leads ≡ false
   unfolding leadsTo tableBoard
@@ -67,39 +68,39 @@ module _ (block : List ℕ) (goal : ℕ) (n : Node) (l t r : ℕ) (is : r ≡ st
 
 -- does the row lead on by a hop?
 module _ (block decls : List ℕ) (goal : ℕ) (x : QueryRow) (mark : ℕ) (n : Node) where
-  abbrev pub reached : Node → List (HopOf ℕ) → Bool
+  abbrev pub reached : Node → List (HopOf Turned) → Bool
   reached = rowReached block decls goal x mark
 
-  module _ (l t r : ℕ) (is : r ≡ stateAlong block n (hopTo l t)) (hs : List (HopOf ℕ)) where
+  module _ (l t r : ℕ) (is : r ≡ stateAlong block n (hopTo block (n .scope) l t)) (hs : List (HopOf Turned)) where
     abbrev enter : ℕ → ℕ → Bool
     enter t′ r′ = reachedBy (tableBoard block goal) (without (hasScope (n .free)) t′) t′ r′ hs
 
     abbrev beyond : Bool
-    beyond = leadsTo (tableBoard block goal) enter (hasScope (n .free)) (n .state) (hopTo l t)
+    beyond = leadsTo (tableBoard block goal) enter (hasScope (n .free)) (n .state) (hopTo block (n .scope) l t)
 
     abbrev byEdge : Bool → Bool
     byEdge u = elim u as (λ _. Bool) [ false ↦ false | true ↦ beyond ]
 
     abbrev stateBy : Bool → ℕ
-    stateBy u = elim u as (λ _. ℕ) [ true ↦ stateOn block n (hopTo l t) | false ↦ 16 ]
+    stateBy u = elim u as (λ _. ℕ) [ true ↦ stateOn block n (hopTo block (n .scope) l t) | false ↦ 16 ]
 
-    by-edge : reachedBy (tableBoard block goal) (hasScope (n .free)) (n .scope) (n .state) (hopTo l t ∷ hs)
-        ≡ byEdge (hasHop (hopTo l t) (blockHops block (n .scope)))
+    by-edge : reachedBy (tableBoard block goal) (hasScope (n .free)) (n .scope) (n .state) (hopTo block (n .scope) l t ∷ hs)
+        ≡ byEdge (hasHop (hopTo block (n .scope) l t) (blockHops block (n .scope)))
     unfolding reachedBy among hasHop sameHop tableBoard
     by-edge = refl
 
-    pub reach-no : 16 ≤ r → reached n (hopTo l t ∷ hs) ≡ false
+    pub reach-no : 16 ≤ r → reached n (hopTo block (n .scope) l t ∷ hs) ≡ false
     unfolding rowReached stateAlong
-    reach-no h = rw (by-edge ∙ at (hasHop (hopTo l t) (blockHops block (n .scope))) is)
+    reach-no h = rw (by-edge ∙ at (hasHop (hopTo block (n .scope) l t) (blockHops block (n .scope))) is)
       where
         at : (u : Bool) → r ≡ stateBy u → byEdge u ≡ false
         at false k = refl
         at true k = leads-no block goal n l t r k enter h
 
-    pub reach-on : r < 16 → (left : ℕ) (m : Node) → Behind n t r left m → reached n (hopTo l t ∷ hs) ≡ reached m hs
+    pub reach-on : r < 16 → (left : ℕ) (m : Node) → Behind n t r left m → reached n (hopTo block (n .scope) l t ∷ hs) ≡ reached m hs
     unfolding rowReached stateAlong lastOf
     reach-on h left m b =
-        rw (by-edge ∙ at (hasHop (hopTo l t) (blockHops block (n .scope))) is, b .scope, b .state, free-is n m t r left b)
+        rw (by-edge ∙ at (hasHop (hopTo block (n .scope) l t) (blockHops block (n .scope))) is, b .scope, b .state, free-is n m t r left b)
       where
         at : (u : Bool) → r ≡ stateBy u → byEdge u ≡ enter t r
         at false k = absurd (omega arith)
@@ -118,20 +119,22 @@ module _ (block decls : List ℕ) (goal : ℕ) (x : QueryRow) (mark : ℕ) (n : 
   -- a row is reached along the steps that are left of it
   module _ (row : List ℕ) (i left : ℕ) where
     abbrev pub reaches : Node → ℕ → ℕ → Bool
-    reaches m left′ i′ = reached m (stepHops block row left′ i′)
+    reaches m left′ i′ = reached m (stepHops block row left′ i′ (m .scope))
 
     pub reaches-full : (u : Bool) → u ≡ reached n [] → left ≤ 0 → u ≡ reaches n left i
-    reaches-full u e h = rw (hops-full block row left i h) e
+    reaches-full u e h = rw (hops-full block row left i (n .scope) h) e
 
     module _ (a : StepRead) (e : stepMeaning a ≡ stepFrom i row) where
       pub reaches-end : (u : Bool) → u ≡ reached n [] → a ≡ NoStep → u ≡ reaches n left i
-      reaches-end u f k = rw (hops-end block row i left a e k) f
+      reaches-end u f k = rw (hops-end block row i left (n .scope) a e k) f
 
       module _ (y v next : ℕ) (f : a ≡ Taken y v next) (h : 1 ≤ left) (l : ℕ) (k : l ≡ labelNumber (blockLetters block) y)
-          (r : ℕ) (is : r ≡ stateAlong block n (hopTo l v)) where
+          (r : ℕ) (is : r ≡ stateAlong block n (hopTo block (n .scope) l v)) where
         pub reaches-no : 16 ≤ r → reaches n left i ≡ false
-        reaches-no g = rw (hops-on block row i left a e y v next f h l k) (reach-no l v r is (stepHops block row (left - 1) next) g)
+        reaches-no g = rw (hops-on block row i left (n .scope) a e y v next f h l k) (reach-no l v r is (stepHops block row (left - 1) next v) g)
 
         pub reaches-on : r < 16 → (more : ℕ) (m : Node) → Behind n v r more m → reaches n left i ≡ reaches m (left - 1) next
         reaches-on g more m b =
-            rw (hops-on block row i left a e y v next f h l k) (reach-on l v r is (stepHops block row (left - 1) next) g more m b)
+            ap (reached n) (hops-on block row i left (n .scope) a e y v next f h l k)
+            ∙ reach-on l v r is (stepHops block row (left - 1) next v) g more m b
+            ∙ ap (λ (s : ℕ). reached m (stepHops block row (left - 1) next s)) (sym (b .scope))

@@ -9,9 +9,9 @@ use Rattle.scope_graph.specs.Path.{PathRow as RulesRow}
 use Rattle.scope_graph.specs.Computed.{Standing, is-visible, is-shadowed, is-unreached, judged}
 use Rattle.text_field.specs.Outcome.{Outcome, refused, done, andThen, refuseIf}
 use Rattle.graph_file.specs.File.{readCells}
-use Rattle.graph_file.specs.Decode.{rulesOf, graphOf, queriesOf, lettersOf}
+use Rattle.graph_file.specs.Decode.{rulesOf, graphOf, queriesOf}
 use Rattle.path_row.specs.Form.{PathRow, rowHere}
-use Rattle.path_row.specs.Numbering.{pathOf}
+use Rattle.path_row.specs.Numbering.{pathIn}
 use Rattle.board.specs.Queries.{queryAt}
 use Rattle.judge.specs.declared.standing.Judged.{Judged}
 use Rattle.judge.specs.declared.standing.Judged.the-variants.{Visible, Shadowed, Unreached, Refused}
@@ -24,10 +24,10 @@ meaning Shadowed = done is-shadowed
 meaning Unreached = done is-unreached
 meaning (Refused n) = refused n
 
--- The row as the rules have it: its steps by their labels' numbers. A letter that is not listed has
--- a number that no edge has.
+-- The row as the rules have it: its steps by their labels' numbers, with the turns of their edge
+-- rows (02, K12). A letter that is not listed has a number that no edge has.
 unfoldable pub ruled : (cells : List ℕ) → PathRow → RulesRow (language (rulesOf cells))
-ruled cells p = record { mark = p .mark; path = pathOf (rulesOf cells) (lettersOf cells) p }
+ruled cells p = record { mark = p .mark; path = pathIn cells p }
 
 -- With the graph table in hand: 7 where there is no query i, 8 for a row that is none, 9 where its
 -- steps outnumber the records lent for them.

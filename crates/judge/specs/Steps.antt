@@ -9,13 +9,14 @@ use lib.Dec.{eqb, leb, ltb}
 use lib.ListN.{length, drop}
 use Rattle.scope_graph.specs.Language.{End, stop}
 use Rattle.scope_graph.specs.Path.{HopOf}
+use Rattle.scope_graph.specs.Turns.{Turned, sameTurned, turnBy}
 use Rattle.scope_graph.specs.Rows.{anyOf, language}
 use Rattle.scope_graph.specs.Computed.{Standing, judged}
 use Rattle.graph_file.specs.Admission.{Row}
 use Rattle.graph_file.specs.Decode.{rulesOf, graphOf}
 use Rattle.block.specs.Layout.{IsBlock}
 use Rattle.block.specs.Sets.{hasScope}
-use Rattle.block.specs.Block.{Still, nextCell, scopesCell, blockHops}
+use Rattle.block.specs.Block.{Bounds, nextCell, scopesCell, blockHops}
 use Rattle.search.specs.declared.Node.{Node}
 use Rattle.search.specs.Board.{reachedBy, cutHere, cutAlong}
 use Rattle.search.specs.Conditions.{Inside, LiveAt, freeAt}
@@ -25,9 +26,8 @@ use Rattle.graph_table.specs.declared.rows.QueryRow.{QueryRow}
 use Rattle.graph_table.specs.Sections.{rowsOf}
 use Rattle.graph_table.specs.Values.{packed, rowDeclared, declares}
 use Rattle.board.specs.Queries.{queryOn}
-use Rattle.path_row.specs.declared.form.Step.{Step}
 use Rattle.path_row.specs.Form.{stepsOf, stepsIn}
-use Rattle.path_row.specs.Numbering.{labelNumber}
+use Rattle.path_row.specs.Numbering.{hopsOf}
 use Rattle.comparison.specs.Letters.{blockLetters}
 use Rattle.judge.specs.Judge.{ruled}
 
@@ -51,29 +51,28 @@ isMarked x mark s d = declares (packed (x .name)) s d && eqb mark (d .mark)
 unfoldable pub hasMark : QueryRow → ℕ → ℕ → List Row → Bool
 hasMark x mark s rows = anyOf (isMarked x mark s) (map rowDeclared rows)
 
--- a hop by a label to a scope; is it another one, is it one of these?
-abbrev pub hopTo : ℕ → ℕ → HopOf ℕ
-hopTo label to = record { step = label; to = to }
+-- a step that leaves scope s by a label to a scope, with the turn of the edge that it goes along,
+-- if there is one (02, K12); is it another hop, is it one of these?
+abbrev pub hopTo : List ℕ → ℕ → ℕ → ℕ → HopOf Turned
+hopTo block s label to = record { step = record { label = label; turn = turnBy (blockHops block s) label to }; to = to }
 
-unfoldable pub sameHop : HopOf ℕ → HopOf ℕ → Bool
-sameHop h k = eqb (k .step) (h .step) && eqb (k .to) (h .to)
+unfoldable pub sameHop : HopOf Turned → HopOf Turned → Bool
+sameHop h k = sameTurned (k .step) (h .step) && eqb (k .to) (h .to)
 
-unfoldable pub hasHop : HopOf ℕ → List (HopOf ℕ) → Bool
+unfoldable pub hasHop : HopOf Turned → List (HopOf Turned) → Bool
 hasHop h hops = anyOf (sameHop h) hops
 
--- at most `left` steps from a place of a row on, as hops, by their letters' numbers
-unfoldable pub hopsBy : List ℕ → List Step → List (HopOf ℕ)
-hopsBy letters steps = map (λ (s : Step). hopTo (labelNumber letters (s .label)) (s .scope)) steps
-
-abbrev pub stepHops : List ℕ → List ℕ → ℕ → ℕ → List (HopOf ℕ)
-stepHops block row left at = hopsBy (blockLetters block) (stepsOf left (drop at row))
+-- at most `left` steps from a place of a row on, as hops that leave scope s: by their letters'
+-- numbers, with their turns
+abbrev pub stepHops : List ℕ → List ℕ → ℕ → ℕ → ℕ → List (HopOf Turned)
+stepHops block row left at s = hopsOf (blockHops block) (blockLetters block) s (stepsOf left (drop at row))
 
 -- the state after a hop from a node to a free scope, or 16; and the same for a hop along an edge
 -- that leaves the node's scope
-unfoldable pub stateOn : List ℕ → Node → HopOf ℕ → ℕ
-stateOn block n h = elim (hasScope (n .free) (h .to)) [ true ↦ nextCell block (n .state) (h .step) | false ↦ 16 ]
+unfoldable pub stateOn : List ℕ → Node → HopOf Turned → ℕ
+stateOn block n h = elim (hasScope (n .free) (h .to)) [ true ↦ nextCell block (n .state) (h .step .label) | false ↦ 16 ]
 
-unfoldable pub stateAlong : List ℕ → Node → HopOf ℕ → ℕ
+unfoldable pub stateAlong : List ℕ → Node → HopOf Turned → ℕ
 stateAlong block n h = elim (hasHop h (blockHops block (n .scope))) [ true ↦ stateOn block n h | false ↦ 16 ]
 
 -- Where a query's paths begin: at its start, in state 0, with all other scopes free. A path has
@@ -93,13 +92,13 @@ pub record Behind (n : Node) (to r left : ℕ) (m : Node) : Type 0 where
   pub state : m .state ≡ r
 
 -- the scope that hops come to
-unfoldable pub lastOf : ℕ → List (HopOf ℕ) → ℕ
+unfoldable pub lastOf : ℕ → List (HopOf Turned) → ℕ
 lastOf s [] = s
 lastOf s (h ∷ hs) = lastOf (h .to) hs
 
 -- the hops lead from the node to what is sought, and the mark is that of a matching declaration
 -- where they end
-unfoldable pub rowReached : List ℕ → List ℕ → ℕ → QueryRow → ℕ → Node → List (HopOf ℕ) → Bool
+unfoldable pub rowReached : List ℕ → List ℕ → ℕ → QueryRow → ℕ → Node → List (HopOf Turned) → Bool
 rowReached block decls goal x mark n hs =
     reachedBy (tableBoard block goal) (hasScope (n .free)) (n .scope) (n .state) hs
     && hasMark x mark (lastOf (n .scope) hs) (rowsOf decls)
@@ -108,18 +107,18 @@ rowReached block decls goal x mark n hs =
 -- entering is closed for it
 pub record Ready (block : List ℕ) (goal : ℕ) (live : List ℕ) (n : Node) : Type 0 where
   pub size : IsBlock block
-  pub still : Still block
+  pub bounds : Bounds block
   pub table : 64 ≤ length live
   pub inside : Inside n
   pub closed : LiveAt block goal (hasScope (n .free)) live
 
 -- an end is cut at the node
-unfoldable pub endCut : List ℕ → ℕ → Node → End ℕ → Bool
+unfoldable pub endCut : List ℕ → ℕ → Node → End Turned → Bool
 endCut block goal n e =
     cutHere (tableBoard block goal) (tableOrder block) (n .left) (hasScope (n .free)) (n .scope) (n .state) e
 
 -- some end along the hops from the node is cut where they go by it, or `$` where they end
-unfoldable pub rowCut : List ℕ → ℕ → Node → List (HopOf ℕ) → Bool
+unfoldable pub rowCut : List ℕ → ℕ → Node → List (HopOf Turned) → Bool
 rowCut block goal n hs =
     cutAlong (tableBoard block goal) (tableOrder block) (suc (n .left)) (hasScope (n .free)) (n .scope) (n .state) hs stop
 

@@ -2,9 +2,8 @@
 use crate::limits::LABELS;
 use crate::limits::NO_STATE;
 use crate::limits::SCOPES;
-use block::edge_at;
+use block::edge_to;
 use block::edges_end;
-use block::edges_from;
 use block::has;
 use block::next_state;
 use block::taken;
@@ -12,42 +11,24 @@ use search::Node;
 ghost use mathlib.Core.Path.{_≡_};
 ghost use Prim.Native.Nat.{_<_};
 ghost use Rattle.block.specs.Layout.{IsBlock};
-ghost use Rattle.block.specs.Block.{hopOf, blockHops};
+ghost use Rattle.block.specs.Block.{blockHops};
 ghost use Rattle.search.specs.Conditions.{Inside};
-ghost use Rattle.judge.specs.Steps.{hopTo, sameHop, hasHop, stateOn, stateAlong, Behind};
-
-// Is the edge's hop the one by the label to the scope `to`?
-fn is_hop(x: u64, label: u64, to: u64) -> bool
-    ensures answer { λ r. ⌜ r ≡ sameHop (hopTo label to) (hopOf x) ⌝ }
-{
-    if x / SCOPES % LABELS != label {
-        return false;
-    }
-    x % SCOPES == to
-}
+ghost use Rattle.judge.specs.Steps.{hopTo, hasHop, stateOn, stateAlong, Behind};
 
 // Does an edge that leaves scope s go by the label to the scope `to`?
 fn has_edge(block: &[u64], s: u64, label: u64, to: u64) -> bool
     requires block { ⌜ IsBlock (now block) ⌝ }
     requires scope { ⌜ s < 64 ⌝ }
-    ensures answer { λ r. ⌜ r ≡ hasHop (hopTo label to) (blockHops (now (block .entry)) s) ⌝ }
+    ensures answer { λ r. ⌜ r ≡ hasHop (hopTo (now (block .entry)) s label to) (blockHops (now (block .entry)) s) ⌝ }
 {
-    let end = edges_end(block, s);
-    let mut p = edges_from(block, s);
-    while p < end {
-        if is_hop(edge_at(block, p), label, to) {
-            return true;
-        }
-        p += 1;
-    }
-    false
+    edge_to(block, s, label, to) < edges_end(block, s)
 }
 
 // The state after a hop from the node to a free scope; 16 or above for none.
 pub fn state_on(block: &[u64], n: Node, label: u64, to: u64) -> u64
     requires block { ⌜ IsBlock (now block) ⌝ }
     requires inside { ⌜ Inside n ⌝ }
-    ensures answer { λ r. ⌜ r ≡ stateOn (now (block .entry)) n (hopTo label to) ⌝ }
+    ensures answer { λ r. ⌜ r ≡ stateOn (now (block .entry)) n (hopTo (now (block .entry)) (n .scope) label to) ⌝ }
 {
     if SCOPES <= to {
         return NO_STATE;
@@ -66,7 +47,7 @@ pub fn state_on(block: &[u64], n: Node, label: u64, to: u64) -> u64
 pub fn state_along(block: &[u64], n: Node, label: u64, to: u64) -> u64
     requires block { ⌜ IsBlock (now block) ⌝ }
     requires inside { ⌜ Inside n ⌝ }
-    ensures answer { λ r. ⌜ r ≡ stateAlong (now (block .entry)) n (hopTo label to) ⌝ }
+    ensures answer { λ r. ⌜ r ≡ stateAlong (now (block .entry)) n (hopTo (now (block .entry)) (n .scope) label to) ⌝ }
 {
     if !has_edge(block, n.scope, label, to) {
         return NO_STATE;

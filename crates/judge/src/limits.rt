@@ -1,7 +1,6 @@
 // What the judge knows of a graph table and of a path row by number.
 
-// A file has 64 scopes and 8 labels at most: an edge is its label * 64 + the scope that it leads
-// to.
+// A file has 64 scopes and 8 labels at most.
 pub const SCOPES: u64 = 64;
 
 pub const LABELS: u64 = 8;

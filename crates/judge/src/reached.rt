@@ -73,7 +73,7 @@ pub fn is_reached(
     requires inside { ⌜ Inside from ⌝ }
     ensures answer { λ r. ⌜ r
         ≡ rowReached (now (block .entry)) (now (decls .entry)) goal sought mark from
-        (stepHops (now (block .entry)) (now (row .entry)) mostSteps at) ⌝ }
+        (stepHops (now (block .entry)) (now (row .entry)) mostSteps at (from .scope)) ⌝ }
 {
     let mut left: usize = MOST_STEPS;
     let mut i = at;

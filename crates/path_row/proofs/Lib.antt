@@ -4,4 +4,5 @@ pub mod RowReads
 pub mod LentLaws
 pub mod WriterLaws
 pub mod NumberingLaws
+pub mod TurnLaws
 pub mod Promises

@@ -1,9 +1,10 @@
--- What is proved of a row's first step, of labels' numbers and of a lent table (document 01,
--- "Paths"). These are the statements; their proofs are in proofs/Promises. Assumes nothing: these
--- are definitions.
+-- What is proved of a row's first step, of labels' numbers, of turns and of a lent table (document
+-- 01, "Paths"; 02, K12). These are the statements; their proofs are in proofs/Promises. Assumes
+-- nothing: these are definitions.
 use Prim.Native.Nat.{ℕ, _+_, _≤_, _<_}
 use mathlib.Core.Path.{_≡_}
 use mathlib.Core.Bool.{false}
+use mathlib.Core.Option.{none}
 use mathlib.Core.List.{List, _++_}
 use lib.ListN.{length, getD, take, drop}
 use Rattle.text_field.specs.Number.{numberText}
@@ -11,9 +12,11 @@ use Rattle.text_field.specs.Outcome.{refused, done}
 use Rattle.graph_file.specs.File.{readCells}
 use Rattle.graph_file.specs.Decode.{lettersOf, rulesOf}
 use Rattle.scope_graph.specs.Language.{_∈_, End, by}
+use Rattle.scope_graph.specs.Turns.{Turned}
 use Rattle.scope_graph.specs.Rows.{language}
-use Rattle.path_row.specs.Form.{Front, mostSteps, stepsOf, headHere, firstStep, stepsIn}
-use Rattle.path_row.specs.Numbering.{labelNumber}
+use Rattle.path_row.specs.Form.{PathRow, Front, mostSteps, stepsOf, headHere, firstStep, stepsIn}
+use Rattle.path_row.specs.Inverse.{lettersIn, scopesIn}
+use Rattle.path_row.specs.Numbering.{labelNumber, hopIn, pathIn}
 use Rattle.path_row.specs.declared.form.Step.{Step}
 use Rattle.path_row.specs.Lent.{filled}
 
@@ -34,14 +37,22 @@ pub record Numbers (cells : List ℕ) : Type 0 where
   pub listed : (x : ℕ) → x ∈ lettersOf cells → (labelNumber (lettersOf cells) x < rulesOf cells .labels) × (getD (lettersOf cells) (labelNumber (lettersOf cells) x) 0 ≡ x)
   -- no other letter has the number of a label
   pub past : (x : ℕ) → ¬ (x ∈ lettersOf cells) → rulesOf cells .labels ≤ labelNumber (lettersOf cells) x
+  -- no edge row goes by it, so a step by it has no turn
+  pub unturned : (t : Step) → ¬ (t .label ∈ lettersOf cells) → (s : ℕ) → hopIn cells s t .step .turn ≡ none
   -- so it is preferred to no end, and no end to it
-  pub never-less : (x : ℕ) → ¬ (x ∈ lettersOf cells) → (e : End ℕ) → language (rulesOf cells) .prefers (by (labelNumber (lettersOf cells) x)) e ≡ false
-  pub never-more : (x : ℕ) → ¬ (x ∈ lettersOf cells) → (e : End ℕ) → language (rulesOf cells) .prefers e (by (labelNumber (lettersOf cells) x)) ≡ false
+  pub never-less : (t : Step) → ¬ (t .label ∈ lettersOf cells) → (s : ℕ) (e : End Turned) → language (rulesOf cells) .prefers (by (hopIn cells s t .step)) e ≡ false
+  pub never-more : (t : Step) → ¬ (t .label ∈ lettersOf cells) → (s : ℕ) (e : End Turned) → language (rulesOf cells) .prefers e (by (hopIn cells s t .step)) ≡ false
   -- two letters, listed or not, have two numbers
   pub apart : (x y : ℕ) → ¬ (x ≡ y) → ¬ (labelNumber (lettersOf cells) x ≡ labelNumber (lettersOf cells) y)
 
 abbrev pub LettersNumbered : Type 0
 LettersNumbered = (text cells : List ℕ) → readCells text ≡ done cells → Numbers cells
+
+-- A step's turn comes from where it leaves, its letter and its scope alone (02, K12): two rows with
+-- one start, the same letters and the same scopes have one path, with the same turns.
+abbrev pub TurnsLookedUp : Type 0
+TurnsLookedUp = (cells : List ℕ) (p q : PathRow) → p .start ≡ q .start → lettersIn (p .steps) ≡ lettersIn (q .steps)
+    → scopesIn (p .steps) ≡ scopesIn (q .steps) → pathIn cells p ≡ pathIn cells q
 
 -- n records filled, where there are as many steps and as many records: the first n steps, and the
 -- records behind them as they were

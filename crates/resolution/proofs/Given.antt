@@ -10,6 +10,9 @@ use lib.Dec.{eqb, leb, ltb}
 use lib.ListN.{length, getD, take, drop, length-map, List·getD-map, List·getD-eq-default}
 use lib.Seq.{getD-take, getD-drop}
 use borrow.Author.Tests.{leb-true, ltb-true, ltb-false}
+use Rattle.scope_graph.specs.Language.{_∈_, by}
+use Rattle.scope_graph.specs.Path.{HopOf}
+use Rattle.scope_graph.specs.Turns.{Turned, laterStep}
 use Rattle.scope_graph.specs.Rows.{PackedName, language}
 use Rattle.scope_graph.specs.Order.{endOf}
 use Rattle.scope_graph.specs.Computed.{usable, openEnd}
@@ -23,7 +26,7 @@ use Rattle.graph_file.specs.Accepted.{AcceptedTable}
 use Rattle.graph_file.proofs.DecodeAccepted.{read-accepted}
 use Rattle.block.specs.Layout.{LETTER, IsBlock}
 use Rattle.block.specs.Sets.{placesOf}
-use Rattle.block.specs.Block.{letterCell, scopesCell, usableSet, declaredPart}
+use Rattle.block.specs.Block.{letterCell, scopesCell, usableSet, blockHops, declaredPart}
 use Rattle.search.specs.Board.{boardOf}
 use Rattle.search.specs.Tables.{tableBoard, tableOrder}
 use Rattle.graph_table.specs.Sections.{partOf, rowsOf}
@@ -32,7 +35,7 @@ use Rattle.board.specs.Made.{Made}
 use Rattle.board.specs.Promises.{Sound}
 use Rattle.board.proofs.SectionLaws.{rows-in-part}
 use Rattle.board.proofs.Accepted.{read-sound}
-use Rattle.board.proofs.Board.{letters-are, scopes-are, board-is, order-is, open-is}
+use Rattle.board.proofs.Board.{letters-are, scopes-are, board-is, order-is, open-is, open-last}
 use Rattle.board.proofs.Declared.{declared-is}
 use Rattle.follow.specs.Walk.{letterBytes}
 use Rattle.board.proofs.Capitals.{capitals}
@@ -109,6 +112,11 @@ module _ (cells : List ℕ) (was : WasRead cells) where
         → placesOf (2 ^ at) (usableSet block end)
         ≡ (λ s st. eqb s at && usable (language (rulesOf cells)) st (openEnd (language (rulesOf cells)) (graphOf cells) q (endOf end)))
     open-same q at end h k = open-is cells block (sound cells was) made q at end h k
+
+    -- no hop is later than the end that stands for all that may come there
+    pub open-late : (q : Query (language (rulesOf cells))) (end s : ℕ) (h : HopOf Turned) → h ∈ blockHops block s
+        → laterStep (by (h .step)) (openEnd (language (rulesOf cells)) (graphOf cells) q (endOf end)) ≡ false
+    open-late q end s h m = open-last cells block (sound cells was) made q end s h m
 
     pub declared-same : (s : ℕ) (x : PackedName) → s < 64 → marksIn (declaredPart block cells s) s x ≡ marksIn (partOf declarationSection cells) s x
     declared-same s x h = declared-is cells block (sound cells was) made s x h

@@ -11,6 +11,7 @@ use Rattle.scope_graph.specs.Language.{_∈_, End, stop, by, Language}
 use Rattle.scope_graph.specs.Graph.{Query, OpenPair}
 use Rattle.scope_graph.specs.Path.{PathRow}
 use Rattle.scope_graph.specs.Rows.{sameEnd, sameName, anyOf, preferredBy, nextBy, language}
+use Rattle.scope_graph.specs.Turns.{sameTurn, sameTurned, later, laterStep, aboveOne, above}
 use Rattle.scope_graph.specs.Order.{endOf}
 use Rattle.scope_graph.specs.Computed.{keep, firstOf, anyBelow, Found, found-one, found-several, sameDeclaration, foundOf, is-visible, is-shadowed, is-unreached, hopsAt, marksAt, declaresAny, behind, hopOn, nodesFrom, leadsOn, usable, sameHop, sameHops, preferredTo, nodes, reachedNodes, cut, rowsAt, entries, found, isReached, standing, judged, openEnd, followedAt, awaits}
 use Rattle.scope_graph.specs.Listing.{Pairwise, RowBefore, FoundIs}
@@ -39,7 +40,7 @@ use Rattle.board.proofs.Example.{reads, exampleCells, example-read}
 -- what a query's answers and their text compute with: each trial names it alone on its `unfolding`
 -- line
 unfoldable pub answers : Unit {0}
-unfolding flatMap sameEnd sameName anyOf preferredBy nextBy keep firstOf anyBelow sameDeclaration foundOf hopsAt marksAt declaresAny behind hopOn nodesFrom leadsOn usable sameHop sameHops preferredTo nodes reachedNodes cut rowsAt entries found isReached standing judged openEnd followedAt awaits endOf keptIf rowsAmong rowsIn lettersOf orderPairOf transitionOf rulesOf nameAt edgeOf declarationOf openPairOf queryOf scopesOf graphOf opensOf queriesOf queryAt packed packHigh packLow shownText awaitsText foundText letterOf hopsText rowText endText digitsOf numberText bytesOf beforeZero nameText hasKinds formIn tableForm
+unfolding flatMap sameTurn sameTurned later laterStep aboveOne above sameEnd sameName anyOf preferredBy nextBy keep firstOf anyBelow sameDeclaration foundOf hopsAt marksAt declaresAny behind hopOn nodesFrom leadsOn usable sameHop sameHops preferredTo nodes reachedNodes cut rowsAt entries found isReached standing judged openEnd followedAt awaits endOf keptIf rowsAmong rowsIn lettersOf orderPairOf transitionOf rulesOf nameAt edgeOf declarationOf openPairOf queryOf scopesOf graphOf opensOf queriesOf queryAt packed packHigh packLow shownText awaitsText foundText letterOf hopsText rowText endText digitsOf numberText bytesOf beforeZero nameText hasKinds formIn tableForm
 answers = tt
 
 module _ (text cells : List ℕ) (e : readCells text ≡ done cells) (i : ℕ) (h : i < length (queriesOf cells)) where

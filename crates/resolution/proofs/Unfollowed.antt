@@ -11,6 +11,7 @@ use lib.ListN.{getD, replicate, getD-replicate}
 use Rattle.scope_graph.specs.Language.{End, stop, by}
 use Rattle.scope_graph.specs.Order.{endOf}
 use Rattle.scope_graph.specs.Rows.{anyOf}
+use Rattle.scope_graph.specs.Turns.{Turned, laterStep}
 use Rattle.scope_graph.specs.Computed.{NodeOf}
 use Rattle.scope_graph.proofs.Lists.{and-left, and-right}
 use Rattle.block.specs.Sets.{hasScope, hasState, placesOf}
@@ -19,7 +20,7 @@ use Rattle.block.specs.Ask.{askStart, askGoal}
 use Rattle.block.proofs.SetLaws.{scopes-one, states-none, places-no-scope, places-scope, places-state, places-none}
 use Rattle.search.specs.Board.{Board, without, hopLeads, nodeAt, cutHere, ownHit, hopHits, hitsFrom}
 use Rattle.search.specs.Live.{Closed, open-way}
-use Rattle.search.specs.Tables.{placeFlag, endNumber, tableOrder, tableBoard}
+use Rattle.search.specs.Tables.{placeFlag, endNumber, plainEnd, tableOrder, tableBoard}
 use Rattle.search.specs.Conditions.{freeAt, wayOf, AwayAt}
 use Rattle.search.proofs.RulesLists.{flatMap-same}
 use Rattle.search.proofs.Closed.{without-within, closed-hits}
@@ -107,10 +108,10 @@ module _ {A : Type 0} (b : Board A) (prefers : End A → End A → Bool) (seek :
       ap (λ (enter : ℕ → ℕ → List (NodeOf A)). hopHits b prefers open-seek e enter fuel free s q h) (fun-ext (λ t. fun-ext (λ r. hits-same fuel (without free t) t r)))))
 
 -- an end's number, and whether stopping is preferred to it
-stop-end : (block : List ℕ) (end : ℕ) → tableOrder block stop (endOf end) ≡ pairFlag block 0 end
-unfolding tableOrder endNumber endOf
-stop-end block zero = refl
-stop-end block (suc l) = refl
+stop-end : (block : List ℕ) (end : ℕ) → tableOrder block stop (plainEnd (endOf end)) ≡ pairFlag block 0 end
+unfolding tableOrder endNumber endOf plainEnd laterStep
+stop-end block zero = or-false (pairFlag block 0 0)
+stop-end block (suc l) = or-false (pairFlag block 0 (suc l))
 
 bar : (a x : Bool) → (a || x) ≡ true → not x ≡ true → a ≡ true
 bar true x h k = refl
@@ -129,7 +130,7 @@ module _ (block table ask : List ℕ) (at end : ℕ) (away : List ℕ) where
   abbrev start : ℕ
   start = askStart ask
 
-  abbrev b : Board ℕ
+  abbrev b : Board Turned
   b = tableBoard block goal
 
   abbrev seek : ℕ → ℕ → Bool
@@ -141,7 +142,7 @@ module _ (block table ask : List ℕ) (at end : ℕ) (away : List ℕ) where
   -- the table of what is away is closed for the pair's places too, but for those where stopping
   -- cuts its end
   away-closed : at < 64 → AwayAt block goal away → Missed block goal away at end
-      → Closed b (open-seek b (tableOrder block) seek (endOf end)) (wayOf block goal) all (placeFlag away)
+      → Closed b (open-seek b (tableOrder block) seek (plainEnd (endOf end))) (wayOf block goal) all (placeFlag away)
   unfolding tableBoard barred
   away-closed h c missed = record {
     asked = λ s q k.
@@ -157,8 +158,8 @@ module _ (block table ask : List ℕ) (at end : ℕ) (away : List ℕ) where
       → placesFrom block table ask (2 ^ at) (usableSet block end) end fuel (freeAt start) start 0 ≡ []
   unfolding placesFrom freeAt
   no-places fuel h inside from missed =
-      hits-same b (tableOrder block) seek (endOf end) fuel (without all start) start 0
-      ∙ closed-hits b all (placeFlag away) (tableOrder block) (open-seek b (tableOrder block) seek (endOf end)) (endOf end)
+      hits-same b (tableOrder block) seek (plainEnd (endOf end)) fuel (without all start) start 0
+      ∙ closed-hits b all (placeFlag away) (tableOrder block) (open-seek b (tableOrder block) seek (plainEnd (endOf end))) (plainEnd (endOf end))
       (rw (way-is-open block goal) at (away-closed h (from .closed) missed)) fuel (without all start) start 0
       (without-within all all start (λ t k. k)) (lt-ltb start 64 inside) (from .begins)
 
@@ -167,11 +168,11 @@ module _ (block table ask : List ℕ) (at end : ℕ) (away : List ℕ) where
   unfolding followedIn anyOf
   unfollowed h inside from missed = one (leb (scopesCell block) 64)
     where
-      places : List (NodeOf ℕ)
+      places : List (NodeOf Turned)
       places = placesFrom block table ask (2 ^ at) (usableSet block end) end (scopesCell block) (freeAt start) start 0
 
-      one : (t : Bool) → (elim t as (λ _. Bool) [ true ↦ anyOf (λ (n : NodeOf ℕ). true) places | false ↦ false ]) ≡ false
-      one true = ap (anyOf (λ (n : NodeOf ℕ). true)) (no-places (scopesCell block) h inside from missed)
+      one : (t : Bool) → (elim t as (λ _. Bool) [ true ↦ anyOf (λ (n : NodeOf Turned). true) places | false ↦ false ]) ≡ false
+      one true = ap (anyOf (λ (n : NodeOf Turned). true)) (no-places (scopesCell block) h inside from missed)
       one false = refl
 
   -- what the code answers, way by way
@@ -194,7 +195,7 @@ module _ (block table ask : List ℕ) (at end : ℕ) (away : List ℕ) where
       → (r : Bool) → r ≡ followedIn block table ask scopes states end → r ≡ followedBy block table ask at end
   unfolding followedIn placesFrom placesOf
   by-walk h k scopes one states is r e =
-      e ∙ ap (λ (x : ℕ). followedIn block table ask scopes x end) is ∙ ap (λ (has : ℕ → Bool). elim (leb (scopesCell block) 64) as (λ _. Bool) [ true ↦ anyOf (λ (n : NodeOf ℕ). true) (hitsFrom b (tableOrder block) (λ s q. has s && hasState (usableSet block end) q) (endOf end) (scopesCell block) (freeAt start) start 0) | false ↦ false ])
+      e ∙ ap (λ (x : ℕ). followedIn block table ask scopes x end) is ∙ ap (λ (has : ℕ → Bool). elim (leb (scopesCell block) 64) as (λ _. Bool) [ true ↦ anyOf (λ (n : NodeOf Turned). true) (hitsFrom b (tableOrder block) (λ s q. has s && hasState (usableSet block end) q) (plainEnd (endOf end)) (scopesCell block) (freeAt start) start 0) | false ↦ false ])
       (fun-ext (λ u. one u ∙ sym (scopes-one at u h)))
       ∙ sym (followed-is h k)
 

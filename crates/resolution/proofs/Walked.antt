@@ -13,6 +13,7 @@ use Rattle.scope_graph.specs.Graph.{Declaration, Graph, InRange, Query, OpenPai
 use Rattle.scope_graph.specs.Path.{HopOf, PathRow, lastFrom, rowDeclaration}
 use Rattle.scope_graph.specs.Rows.{PackedName, Rules, anyOf, sameName, language}
 use Rattle.scope_graph.specs.Order.{endOf}
+use Rattle.scope_graph.specs.Turns.{Turned}
 use Rattle.scope_graph.specs.Computed.{NodeOf, keep, marksAt, usable, openEnd, nodes, cut, rowsAt, entries, followedAt}
 use Rattle.scope_graph.proofs.Lists.{keep-elim, and-left}
 use Rattle.scope_graph.proofs.Nodes.{nodes-sound}
@@ -25,10 +26,11 @@ use Rattle.block.specs.Block.{acceptSet, usableSet, scopesCell, declaredPart}
 use Rattle.block.specs.Ask.{askStart, askName, askGoal}
 use Rattle.block.proofs.SetLaws.{scope-below, places-scope}
 use Rattle.search.specs.Board.{Board, boardOf, without, hitsFrom}
-use Rattle.search.specs.Tables.{tableOrder, tableBoard}
+use Rattle.search.specs.Tables.{plainEnd, tableOrder, tableBoard}
 use Rattle.search.specs.Conditions.{freeAt}
 use Rattle.search.proofs.Rules.{hits-kept, entries-are-hits, followed-is-hit}
 use Rattle.search.proofs.RulesLists.{flatMap-same}
+use Rattle.search.proofs.LaterLaws.{hits-open}
 use Rattle.graph_table.specs.Sections.{partOf, rowsOf}
 use Rattle.graph_table.specs.Values.{rowDeclared, declares}
 use Rattle.board.specs.Marks.{declaredHere, marksOf, marksIn}
@@ -41,7 +43,7 @@ use Rattle.follow.specs.Walk as walk
 use Rattle.follow.specs.Walk.{letterBytes, entryRows, placeRows, placesFrom, rowsFrom, walked, followedIn}
 use Rattle.resolution.specs.Asked.{Ready, queryIn, entriesTaken}
 use Rattle.resolution.proofs.ListLaws.{map-map, map-flatMap, map-same}
-use Rattle.resolution.proofs.Given.{letters-same, scopes-same, board-same, order-same, open-same, declared-same}
+use Rattle.resolution.proofs.Given.{letters-same, scopes-same, board-same, order-same, open-same, open-late, declared-same}
 use Rattle.board.proofs.Queries.{accepted, rows-are}
 
 -- The marks that the code finds in rows are those of their declarations.
@@ -65,12 +67,12 @@ module _ (r : Rules) where
 
 -- A row's text asks for letters only.
 module _ (a b : List ℕ) (same : (l : ℕ) → getD a l 0 ≡ getD b l 0) where
-  hops-same : (hops : List (HopOf ℕ)) → hopsText a hops ≡ hopsText b hops
+  hops-same : (hops : List (HopOf Turned)) → hopsText a hops ≡ hopsText b hops
   unfolding hopsText letterOf
   hops-same [] = refl
-  hops-same (h ∷ hops) = rw (same (h .step), hops-same hops)
+  hops-same (h ∷ hops) = rw (same (h .step .label), hops-same hops)
 
-  pub row-same : (mark start : ℕ) (hops : List (HopOf ℕ)) → rowText a mark start hops ≡ rowText b mark start hops
+  pub row-same : (mark start : ℕ) (hops : List (HopOf Turned)) → rowText a mark start hops ≡ rowText b mark start hops
   unfolding rowText
   row-same mark start hops = rw (hops-same hops)
 
@@ -87,7 +89,7 @@ module _ (cells block ask : List ℕ) (ready : Ready cells block ask) where
   abbrev q : Query L
   q = queryIn cells ask
 
-  abbrev b : Board ℕ
+  abbrev b : Board Turned
   b = boardOf L g (q .name)
 
   t : AcceptedTable cells
@@ -103,21 +105,24 @@ module _ (cells block ask : List ℕ) (ready : Ready cells block ask) where
   all-free s h = lt-ltb s 64 (let m = t .scopes-most in omega arith)
 
   -- the followed places, by the block and by the rules
-  abbrev seen : Board ℕ → (End ℕ → End ℕ → Bool) → (ℕ → ℕ → Bool) → End ℕ → List (NodeOf ℕ)
+  abbrev seen : Board Turned → (End Turned → End Turned → Bool) → (ℕ → ℕ → Bool) → End Turned → List (NodeOf Turned)
   seen c prefers seek e = hitsFrom c prefers seek e (scopesOf cells) (without (λ s. ltb s 64) (askStart ask)) (askStart ask) 0
 
-  abbrev table : Board ℕ
+  abbrev table : Board Turned
   table = tableBoard block (askGoal ask)
 
   board-is : table ≡ b
   board-is = board-same cells (ready .asked .read) block (ready .made) (q .name) (askGoal ask) (ready .goal)
 
+  seen-same : (seek : ℕ → ℕ → Bool) (e : End Turned) → seen table (tableOrder block) seek e ≡ seen b (L .prefers) seek e
+  seen-same seek e =
+      ap (λ (c : Board Turned). seen c (tableOrder block) seek e) board-is
+      ∙ ap (λ (o : End Turned → End Turned → Bool). seen b o seek e) (order-same cells (ready .asked .read) block (ready .made))
+
   places-are : (scopes states e : ℕ) → placesFrom block cells ask scopes states e (scopesCell block) (freeAt (askStart ask)) (askStart ask) 0
-      ≡ seen b (L .prefers) (placesOf scopes states) (endOf e)
+      ≡ seen table (tableOrder block) (placesOf scopes states) (plainEnd (endOf e))
   unfolding placesFrom freeAt
-  places-are scopes states e =
-      rw (scopes-same cells (ready .asked .read) block (ready .made)) (ap (λ (c : Board ℕ). seen c (tableOrder block) (placesOf scopes states) (endOf e)) board-is
-      ∙ ap (λ (o : End ℕ → End ℕ → Bool). seen b o (placesOf scopes states) (endOf e)) (order-same cells (ready .asked .read) block (ready .made)))
+  places-are scopes states e = rw (scopes-same cells (ready .asked .read) block (ready .made))
 
   -- what is sought, by the block and by the rules
   abbrev here : ℕ → ℕ → Bool
@@ -125,7 +130,7 @@ module _ (cells block ask : List ℕ) (ready : Ready cells block ask) where
 
   here-is : here ≡ b .here
   unfolding tableBoard
-  here-is = ap (λ (c : Board ℕ). c .here) board-is
+  here-is = ap (λ (c : Board Turned). c .here) board-is
 
   -- the marks of the name at a scope, by the declarations' part of the table and by the rules
   pub marks-part : (s : ℕ) → marksIn (partOf declarationSection cells) s (askName ask) ≡ marksAt L (g .declarations) s (q .name)
@@ -146,7 +151,7 @@ module _ (cells block ask : List ℕ) (ready : Ready cells block ask) where
     text = rowText (lettersOf cells) (r .mark) (r .path .start) (r .path .hops);
   }
 
-  place-rows : (n : NodeOf ℕ) → n .at < 64 → lastFrom L (q .start) (n .hops) ≡ n .at
+  place-rows : (n : NodeOf Turned) → n .at < 64 → lastFrom L (q .start) (n .hops) ≡ n .at
       → placeRows block cells ask Entries [] n ≡ map rowOf (rowsAt L g q n)
   unfolding placeRows entryRows rowsAt
   place-rows n h comes =
@@ -158,11 +163,11 @@ module _ (cells block ask : List ℕ) (ready : Ready cells block ask) where
       (marksAt L (g .declarations) (n .at) (q .name))
       ∙ sym (map-map rowOf _ (marksAt L (g .declarations) (n .at) (q .name)))
 
-  abbrev hits : List (NodeOf ℕ)
+  abbrev hits : List (NodeOf Turned)
   hits = seen b (L .prefers) here stop
 
   -- they are of scopes that declare the name, and their paths end there
-  hit-rows : (n : NodeOf ℕ) → n ∈ hits → placeRows block cells ask Entries [] n ≡ map rowOf (rowsAt L g q n)
+  hit-rows : (n : NodeOf Turned) → n ∈ hits → placeRows block cells ask Entries [] n ≡ map rowOf (rowsAt L g q n)
   unfolding graphOf
   hit-rows n m =
       let k = hits-kept L laws g q range (ready .asked .starts) (λ s. ltb s 64) all-free here stop in
@@ -176,9 +181,9 @@ module _ (cells block ask : List ℕ) (ready : Ready cells block ask) where
 
   -- the rows of the entries, in their order
   rows-are-taken : (bounds : Bounds) → rowsFrom block cells ask (aimAt bounds) [] (scopesCell block) (freeAt (askStart ask)) (askStart ask) 0 ≡ entriesTaken cells q
-  unfolding rowsFrom entriesTaken endOf graphOf
+  unfolding rowsFrom entriesTaken endOf plainEnd graphOf
   rows-are-taken bounds =
-      ap (flatMap (placeRows block cells ask Entries [])) (places-are (askGoal ask) (acceptSet block) 0)
+      ap (flatMap (placeRows block cells ask Entries [])) (places-are (askGoal ask) (acceptSet block) 0 ∙ seen-same here stop)
       ∙ flatMap-same (placeRows block cells ask Entries []) (λ n. map rowOf (rowsAt L g q n)) hits hit-rows
       ∙ sym (map-flatMap rowOf (rowsAt L g q) hits)
       ∙ ap (map rowOf) (ap (λ (seek : ℕ → ℕ → Bool). flatMap (rowsAt L g q) (seen b (L .prefers) seek stop)) here-is
@@ -191,21 +196,23 @@ module _ (cells block ask : List ℕ) (ready : Ready cells block ask) where
   unfolding walked
   entries-walked bounds st = rw (few-scopes, walked) (ap (takeRows bounds st) (rows-are-taken bounds))
 
-  -- an open pair's end stands for itself
-  end-itself : (e : ℕ) → openEnd L g q (endOf e) ≡ endOf e
-  unfolding openEnd endOf
-  end-itself zero = refl
-  end-itself (suc l) = refl
-
-  abbrev seeks : ℕ → End ℕ → ℕ → ℕ → Bool
-  seeks a e = λ s st. eqb s a && usable L st e
+  -- an open pair's end by its label alone is cut where the end that stands for all that may come
+  -- there is
+  seen-open : (seek : ℕ → ℕ → Bool) (end : ℕ)
+      → seen table (tableOrder block) seek (plainEnd (endOf end)) ≡ seen table (tableOrder block) seek (openEnd L g q (endOf end))
+  unfolding endOf plainEnd openEnd
+  seen-open seek zero = refl
+  seen-open seek (suc l) =
+      sym (hits-open block (askGoal ask) (L .strongest (map (λ e. e .step) (g .edges)) l) (open-late cells (ready .asked .read) block (ready .made) q (suc l))
+      seek (scopesOf cells) (without (λ s. ltb s 64) (askStart ask)) (askStart ask) 0)
 
   -- an open pair is followed exactly if a place is found for it
   pub pair-walked : (at end : ℕ) → at < 64 → end < 9
       → followedIn block cells ask (2 ^ at) (usableSet block end) end ≡ followedAt L g q (record { at = at; end = endOf end })
   unfolding followedIn graphOf
   pair-walked at end h k =
-      rw (few-scopes, followedIn) (ap (anyOf (λ (n : NodeOf ℕ). true)) (places-are (2 ^ at) (usableSet block end) end)
-      ∙ ap (λ (seek : ℕ → ℕ → Bool). anyOf (λ (n : NodeOf ℕ). true) (seen b (L .prefers) seek (endOf end))) (open-same cells (ready .asked .read) block (ready .made) q at end h k)
-      ∙ ap (λ (e : End ℕ). anyOf (λ (n : NodeOf ℕ). true) (seen b (L .prefers) (seeks at (openEnd L g q (endOf end))) e)) (sym (end-itself end))
+      let sought : ℕ → ℕ → Bool = placesOf (2 ^ at) (usableSet block end) in
+      let o : End Turned = openEnd L g q (endOf end) in
+      rw (few-scopes, followedIn) (ap (anyOf (λ (n : NodeOf Turned). true)) (places-are (2 ^ at) (usableSet block end) end ∙ seen-open sought end ∙ seen-same sought o)
+      ∙ ap (λ (seek : ℕ → ℕ → Bool). anyOf (λ (n : NodeOf Turned). true) (seen b (L .prefers) seek o)) (open-same cells (ready .asked .read) block (ready .made) q at end h k)
       ∙ sym (followed-is-hit L laws g q range (ready .asked .starts) (λ s. ltb s 64) all-free (record { at = at; end = endOf end })))

@@ -48,7 +48,7 @@ abbrev pub turnedText : List ℕ
 turnedText = fileText ((48 ∷ 32 ∷ 80 ∷ 32 ∷ 50 ∷ 10 ∷ []) ++ edgeLines) declarationLines (51 ∷ 32 ∷ 36 ∷ 10 ∷ []) (48 ∷ 32 ∷ 115 ∷ 101 ∷ 114 ∷ 118 ∷ 105 ∷ 99 ∷ 101 ∷ 10 ∷ [])
 
 -- A path row as its mark, its start and its hops, each a label's number and a scope: I is 0, P is
--- 1.
+-- 1. The edge line of these files is the old one, so every turn is 0 (02, K12).
 abbrev pub I : ℕ
 I = 0
 
@@ -60,7 +60,7 @@ Shown = ℕ × ℕ × List (ℕ × ℕ)
 
 module _ (r : Rules) where
   abbrev pub pathRow : Shown → PathRow (language r)
-  pathRow (m, s, hs) = record { mark = m; path = record { start = s; hops = map (λ h. record { step = h .0; to = h .1 }) hs } }
+  pathRow (m, s, hs) = record { mark = m; path = record { start = s; hops = map (λ h. record { step = record { label = h .0; turn = some 0 }; to = h .1 }) hs } }
 
   abbrev pub openPair : Option (ℕ × End ℕ) → Option (OpenPair (language r))
   openPair none = none

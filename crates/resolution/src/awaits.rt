@@ -23,7 +23,7 @@ ghost use Rattle.scope_graph.specs.Computed.{awaits};
 ghost use Rattle.graph_file.specs.Decode.{rulesOf, graphOf, opensOf};
 ghost use Rattle.block.specs.Sets.{hasState};
 ghost use Rattle.block.specs.Layout.{IsBlock};
-ghost use Rattle.block.specs.Block.{Still, usableSet};
+ghost use Rattle.block.specs.Block.{Bounds, usableSet};
 ghost use Rattle.block.specs.Ask.{askStart, askGoal};
 ghost use Rattle.graph_table.specs.Sections.{rowsOf};
 ghost use Rattle.resolution.specs.Asked.{Ready, queryIn, AwayFrom, barred, followedBy, firstFollowed, awaitsMeaning};
@@ -32,7 +32,7 @@ ghost use Rattle.resolution.specs.Asked.{Ready, queryIn, AwayFrom, barre
 // it tells nothing, and none is taken for away.
 fn away_from(block: &[u64], goal: u64, start: u64) -> [u64; 64]
     requires block { ⌜ IsBlock (now block) ⌝ }
-    requires still { ⌜ Still (now block) ⌝ }
+    requires bounds { ⌜ Bounds (now block) ⌝ }
     requires scope { ⌜ start < 64 ⌝ }
     ensures away { λ r. ⌜ AwayFrom (now (block .entry)) goal start r ⌝ }
 {

@@ -1,8 +1,9 @@
--- The search meets paths in the listing's order, so nodes, marks and entries ascend. Assumes nothing.
+-- The search meets paths in the listing's order, so nodes, marks and entries ascend. Assumes
+-- nothing.
 use Prim.Native.Nat.{ℕ, zero, suc, _<_}
 use mathlib.Core.Path.{_≡_, refl, sym, ap, _∙_}
 use mathlib.Core.Bool.{Bool, true, false, not, _&&_}
-use mathlib.Core.Logic.{inl, inr}
+use mathlib.Core.Logic.{_⊎_, inl, inr, ⊎-elim}
 use mathlib.Core.Option.{Option, some, none}
 use mathlib.Core.List.{List, [], _∷_, map}
 use native.Mathlib.Omega.{arith}
@@ -12,11 +13,13 @@ use Rattle.scope_graph.specs.Language.{_∈_, stop, Language, Laws}
 use Rattle.scope_graph.specs.Graph.{Edge, Declaration, Graph, Query}
 use Rattle.scope_graph.specs.Path.{Hop, PathRow}
 use Rattle.scope_graph.specs.Rows.{anyOf}
-use Rattle.scope_graph.specs.Computed.{keep, Node, hopsAt, marksAt, declaresAny, behind, hopOn, nodesFrom, nodes, reachedNodes, cut, rowsAt, entries}
-use Rattle.scope_graph.specs.Listing.{Pairwise, HopBefore, HopsBefore, RowBefore, EdgeBefore, MarkBefore}
-use Rattle.scope_graph.proofs.Lists.{and-left, and-right, keep-elim, keep-pairwise, pairwise-weaken, map-pairwise, flatMap-elim, flatMap-pairwise}
+use Rattle.scope_graph.specs.Computed.{keep, Node, hopsAt, marksAt, declaresAny, behind, hopOn, nodesFrom, nodes, reachedNodes, preferredTo, cut, rowsAt, entries}
+use Rattle.scope_graph.specs.Listing.{Pairwise, HopsBefore, RowHopBefore, RowBefore, EdgeBefore, MarkBefore}
+use Rattle.scope_graph.specs.Followed.{Preferred}
+use Rattle.scope_graph.proofs.Lists.{true-false, not-is, anyOf-intro, and-left, and-right, keep-elim, keep-pairwise, pairwise-weaken, map-pairwise, flatMap-elim, flatMap-pairwise}
 use Rattle.scope_graph.proofs.Nodes.{Behind, hopOn-elim}
 use Rattle.scope_graph.proofs.Reached.{rows-elim}
+use Rattle.scope_graph.proofs.Cut.{preferred-to}
 
 module _ (L : Language) where
   -- no path comes before itself
@@ -30,19 +33,37 @@ module _ (L : Language) where
   row-irreflexive r (inl h) = hops-irreflexive (r .path .hops) h
   row-irreflexive r (inr h) = omega (arith, h .1)
 
+  -- as HopsBefore, in the order of rows
+  abbrev RowsBefore : List (Hop L) → List (Hop L) → Type 0
+  RowsBefore [] [] = ⊥
+  RowsBefore [] (k ∷ p) = Unit {0}
+  RowsBefore (h ∷ r) [] = ⊥
+  RowsBefore (h ∷ r) (k ∷ p) = RowHopBefore L h k ⊎ ((h ≡ k) × RowsBefore r p)
+
+  -- what stands first among rows stands first in a listing, unless the other is preferred to it
+  listed-or-cut : (r p : List (Hop L)) → RowsBefore r p → HopsBefore L r p ⊎ Preferred L p r stop
+  listed-or-cut [] [] h = absurd h
+  listed-or-cut [] (k ∷ p) h = inl tt
+  listed-or-cut (j ∷ r) [] h = absurd h
+  listed-or-cut (j ∷ r) (k ∷ p) (inl (inl l)) = inl (inl (inl l))
+  listed-or-cut (j ∷ r) (k ∷ p) (inl (inr (e, inl c))) = inr (inl c)
+  listed-or-cut (j ∷ r) (k ∷ p) (inl (inr (e, inr t))) = inl (inl (inr (e, t .1)))
+  listed-or-cut (j ∷ r) (k ∷ p) (inr h) =
+      ⊎-elim (λ z. inl (inr (h .0, z))) (λ z. inr (inr (sym (h .0), z))) (listed-or-cut r p (h .1))
+
   abbrev NodeBefore : Node L → Node L → Type 0
-  NodeBefore n m = HopsBefore L (n .hops) (m .hops)
+  NodeBefore n m = RowsBefore (n .hops) (m .hops)
 
   -- edges of one scope ascend by their hops
   edge-hop : (s : ℕ) (e f : Edge L) → e .from ≡ s → f .from ≡ s → EdgeBefore L e f
-      → HopBefore L (record { step = e .step; to = e .to }) (record { step = f .step; to = f .to })
+      → RowHopBefore L (record { step = e .step; to = e .to }) (record { step = f .step; to = f .to })
   edge-hop s e f a b (inl h) = absurd (omega arith)
   edge-hop s e f a b (inr h) = h .1
 
-  hops-ascend : (es : List (Edge L)) (s : ℕ) → Pairwise (EdgeBefore L) es → Pairwise (HopBefore L) (hopsAt L es s)
+  hops-ascend : (es : List (Edge L)) (s : ℕ) → Pairwise (EdgeBefore L) es → Pairwise (RowHopBefore L) (hopsAt L es s)
   unfolding hopsAt
   hops-ascend es s h =
-      map-pairwise (HopBefore L) (λ e. record { step = e .step; to = e .to }) (keep (λ e. eqb (e .from) s) es)
+      map-pairwise (RowHopBefore L) (λ e. record { step = e .step; to = e .to }) (keep (λ e. eqb (e .from) s) es)
       (pairwise-weaken (EdgeBefore L) _ (keep (λ e. eqb (e .from) s) es)
       (λ e f m k. edge-hop s e f (leaves e m) (leaves f k)) (keep-pairwise (EdgeBefore L) (λ e. eqb (e .from) s) es h))
     where
@@ -68,11 +89,11 @@ module _ (L : Language) where
 
   -- an ended path comes first, and hops that come first lead to paths that do
   module _ {enter : ℕ → ℕ → List (Node L)} {seen : List ℕ} {q : ℕ} where
-    ended-first : {n : Node L} (h : Hop L) → Behind L enter seen q h n → HopsBefore L [] (n .hops)
+    ended-first : {n : Node L} (h : Hop L) → Behind L enter seen q h n → RowsBefore [] (n .hops)
     unfolding behind
     ended-first h b = rw (b .is) tt
 
-    hop-first : {n t : Node L} (h k : Hop L) → Behind L enter seen q h n → Behind L enter seen q k t → HopBefore L h k → NodeBefore n t
+    hop-first : {n t : Node L} (h k : Hop L) → Behind L enter seen q h n → Behind L enter seen q k t → RowHopBefore L h k → NodeBefore n t
     unfolding behind
     hop-first h k b c f = rw (b .is, c .is) (inl f)
 
@@ -82,7 +103,7 @@ module _ (L : Language) where
     from-ascend zero seen s q = tt
     from-ascend (suc fuel) seen s q = (
       (λ y m. let r = flatMap-elim on (hopsAt L (g .edges) s) m in ended-first (r .0) (split (r .0) (r .2))),
-      flatMap-pairwise (HopBefore L) NodeBefore on (hopsAt L (g .edges) s) (hops-ascend (g .edges) s edges-ascend)
+      flatMap-pairwise (RowHopBefore L) NodeBefore on (hopsAt L (g .edges) s) (hops-ascend (g .edges) s edges-ascend)
           (λ h. behind-ascend _ seen q h (λ t r. from-ascend fuel (t ∷ seen) t r))
           (λ h k x y b m o. hop-first h k (split h m) (split k o) b),
     )
@@ -93,11 +114,11 @@ module _ (L : Language) where
         split : (h : Hop L) {n : Node L} → n ∈ on h → Behind L (λ t r. nodesFrom L fuel g (t ∷ seen) t r) seen q h n
         split h m = hopOn-elim L (λ t r. nodesFrom L fuel g (t ∷ seen) t r) seen q h m
 
-    pub nodes-ascend : (q : Query L) → Pairwise (λ n m. HopsBefore L (n .hops) (m .hops)) (nodes L g q)
+    pub nodes-ascend : (q : Query L) → Pairwise NodeBefore (nodes L g q)
     unfolding nodes
     nodes-ascend q = from-ascend (g .scopes) (q .start ∷ []) (q .start) 0
 
-    pub reached-ascend : (q : Query L) → Pairwise (λ n m. HopsBefore L (n .hops) (m .hops)) (reachedNodes L g q)
+    pub reached-ascend : (q : Query L) → Pairwise NodeBefore (reachedNodes L g q)
     unfolding reachedNodes
     reached-ascend q =
         keep-pairwise NodeBefore (λ n. L .accepts (n .state) && declaresAny L (g .declarations) (n .at) (q .name)) (nodes L g q)
@@ -136,9 +157,25 @@ module _ (L : Language) where
           marks : List ℕ
           marks = marksAt L (g .declarations) (n .at) (q .name)
 
+      -- of the places that are not cut, rows and listing have one order
+      seen-ascend : Pairwise (λ n m. HopsBefore L (n .hops) (m .hops)) (keep (λ n. not (cut L g q (n .hops) stop)) (reachedNodes L g q))
+      unfolding cut
+      seen-ascend =
+          pairwise-weaken NodeBefore _ (keep shown (reachedNodes L g q))
+          (λ n t m k b.
+          ⊎-elim (λ z. z)
+          (λ z. absurd (true-false
+          (anyOf-intro (λ (x : Node L). preferredTo L (x .hops) (n .hops) stop) ((keep-elim shown (reachedNodes L g q) k) .0) ((preferred-to L laws (t .hops) (n .hops) stop) .1 z))
+          (not-is _ ((keep-elim shown (reachedNodes L g q) m) .1))))
+          (listed-or-cut (n .hops) (t .hops) b))
+          (keep-pairwise NodeBefore shown (reachedNodes L g q) (reached-ascend g edges-ascend q))
+        where
+          shown : Node L → Bool
+          shown n = not (cut L g q (n .hops) stop)
+
       pub rows-ascend : Pairwise (RowBefore L) (entries L g q)
       unfolding entries
       rows-ascend =
-          flatMap-pairwise NodeBefore (RowBefore L) (rowsAt L g q) (keep (λ n. not (cut L g q (n .hops) stop)) (reachedNodes L g q))
-          (keep-pairwise NodeBefore (λ n. not (cut L g q (n .hops) stop)) (reachedNodes L g q) (reached-ascend g edges-ascend q))
+          flatMap-pairwise (λ n m. HopsBefore L (n .hops) (m .hops)) (RowBefore L) (rowsAt L g q) (keep (λ n. not (cut L g q (n .hops) stop)) (reachedNodes L g q))
+          seen-ascend
           place-ascends (λ n t x y h m k. inl (rw (row-hops n m, row-hops t k) h))

@@ -8,12 +8,13 @@ use mathlib.Core.List.{List, [], _∷_, map, flatMap}
 use Rattle.scope_graph.specs.Language.{End, stop, by}
 use Rattle.scope_graph.specs.Graph.{Graph, Query, OpenPair}
 use Rattle.scope_graph.specs.Path.{Hop, PathRow}
+use Rattle.scope_graph.specs.Turns.{sameTurn, sameTurned, later, laterStep, aboveOne, above}
 use Rattle.scope_graph.specs.Rows.{OrderPair, Transition, PackedName, Rules, sameEnd, sameName, anyOf, preferredBy, nextBy, language}
 use Rattle.scope_graph.specs.Computed.{keep, firstOf, anyBelow, Found, found-none, found-one, found-several, sameDeclaration, foundOf, Standing, is-visible, is-shadowed, is-unreached, hopsAt, marksAt, declaresAny, behind, hopOn, nodesFrom, leadsOn, usable, sameHop, sameHops, preferredTo, moreSpecific, nodes, reachedNodes, cut, rowsAt, entries, found, isReached, standing, judged, openEnd, followedAt, awaits}
 
 -- what an example computes with: each names this alone on its `unfolding` line
 computed : Unit {0}
-unfolding flatMap sameEnd sameName anyOf preferredBy nextBy keep firstOf anyBelow sameDeclaration foundOf hopsAt marksAt declaresAny behind hopOn nodesFrom leadsOn usable sameHop sameHops preferredTo nodes reachedNodes cut rowsAt entries found isReached standing judged openEnd followedAt awaits
+unfolding flatMap sameTurn sameTurned later laterStep aboveOne above sameEnd sameName anyOf preferredBy nextBy keep firstOf anyBelow sameDeclaration foundOf hopsAt marksAt declaresAny behind hopOn nodesFrom leadsOn usable sameHop sameHops preferredTo nodes reachedNodes cut rowsAt entries found isReached standing judged openEnd followedAt awaits
 computed = tt
 
 -- Rows as a file has them. Labels, scopes, states and marks by number.
@@ -34,10 +35,17 @@ service = record { kind = 118; high = 2; low = 0 }
 abbrev c-hours : PackedName
 c-hours = record { kind = 99; high = 1; low = 0 }
 
--- A file's rows are written as tuples, and a path row as its mark, its start and its hops.
+-- A file's rows are written as tuples, and a path row as its mark, its start and its hops. Edges
+-- and hops without a turn have turn 0 (02, K12).
 module _ (r : Rules) where
+  abbrev turned-hops : List (ℕ × ℕ × ℕ) → List (Hop (language r))
+  turned-hops hs = map (λ h. record { step = record { label = h .0; turn = some (h .1) }; to = h .2 }) hs
+
   abbrev hops : List (ℕ × ℕ) → List (Hop (language r))
-  hops hs = map (λ h. record { step = h .0; to = h .1 }) hs
+  hops hs = turned-hops (map (λ h. (h .0, 0, h .1)) hs)
+
+  abbrev turned-row : ℕ × ℕ × List (ℕ × ℕ × ℕ) → PathRow (language r)
+  turned-row (m, s, hs) = record { mark = m; path = record { start = s; hops = turned-hops hs } }
 
   abbrev path-row : ℕ × ℕ × List (ℕ × ℕ) → PathRow (language r)
   path-row (m, s, hs) = record { mark = m; path = record { start = s; hops = hops hs } }
@@ -48,12 +56,15 @@ module _ (r : Rules) where
   abbrev query : ℕ × PackedName → Query (language r)
   query (s, x) = record { start = s; name = x }
 
-  abbrev graph : ℕ → List (ℕ × ℕ × ℕ) → List (ℕ × PackedName × ℕ) → Graph (language r)
-  graph n es ds = record {
+  abbrev turned-graph : ℕ → List (ℕ × ℕ × ℕ × ℕ) → List (ℕ × PackedName × ℕ) → Graph (language r)
+  turned-graph n es ds = record {
     scopes = n;
-    edges = map (λ e. record { from = e .0; step = e .1; to = e .2 }) es;
+    edges = map (λ e. record { from = e .0; step = record { label = e .1; turn = some (e .2) }; to = e .3 }) es;
     declarations = map (λ d. record { at = d .0; name = d .1; mark = d .2 }) ds;
   }
+
+  abbrev graph : ℕ → List (ℕ × ℕ × ℕ) → List (ℕ × PackedName × ℕ) → Graph (language r)
+  graph n es ds = turned-graph n (map (λ e. (e .0, e .1, 0, e .2)) es) ds
 
   abbrev awaited : Option (ℕ × End ℕ) → Option (OpenPair (language r))
   awaited none = none
@@ -61,11 +72,17 @@ module _ (r : Rules) where
 
   module _ (g : Graph (language r)) where
     -- the query's listing, with these open pairs: its entries, `found` and `awaits`
-    abbrev Shows : List (ℕ × End ℕ) → ℕ × PackedName → List (ℕ × ℕ × List (ℕ × ℕ)) → Found → Option (ℕ × End ℕ) → Type 0
-    Shows opens q rows f o =
-        (entries (language r) g (query q) ≡ map path-row rows)
+    abbrev ShowsRows : List (ℕ × End ℕ) → ℕ × PackedName → List (PathRow (language r)) → Found → Option (ℕ × End ℕ) → Type 0
+    ShowsRows opens q rows f o =
+        (entries (language r) g (query q) ≡ rows)
         × (found (language r) g (query q) ≡ f)
         × (awaits (language r) g (query q) (map open-pair opens) ≡ awaited o)
+
+    abbrev Shows : List (ℕ × End ℕ) → ℕ × PackedName → List (ℕ × ℕ × List (ℕ × ℕ)) → Found → Option (ℕ × End ℕ) → Type 0
+    Shows opens q rows f o = ShowsRows opens q (map path-row rows) f o
+
+    abbrev ShowsTurned : List (ℕ × End ℕ) → ℕ × PackedName → List (ℕ × ℕ × List (ℕ × ℕ × ℕ)) → Found → Option (ℕ × End ℕ) → Type 0
+    ShowsTurned opens q rows f o = ShowsRows opens q (map turned-row rows) f o
 
     -- the path's standing, and the path row's
     abbrev Stands : ℕ × PackedName → ℕ × ℕ × List (ℕ × ℕ) → Standing → Type 0
@@ -298,3 +315,52 @@ comparing : compares 0 [] 1 ((P, 2) ∷ []) false × compares 0 ((P, 1) ∷ []) 
     × compares 0 [] 0 ((P, 1) ∷ []) true × compares 0 ((P, 1) ∷ (I, 2) ∷ []) 0 ((P, 1) ∷ (P, 3) ∷ []) true
 unfolding computed moreSpecific
 comparing = (refl, refl, refl, refl, refl)
+
+-- Of two imports the later one wins (02, K12), also where it leads to a lower scope number; the
+-- earlier one's is shadowed.
+abbrev two-imports : Graph (language gym)
+two-imports = turned-graph gym 3 ((0, I, 3, 2) ∷ (0, I, 7, 1) ∷ []) ((1, hours, 5) ∷ (2, hours, 6) ∷ [])
+
+later-wins : ShowsTurned gym two-imports [] (0, hours) ((5, 0, (I, 7, 1) ∷ []) ∷ []) found-one none
+unfolding computed
+later-wins = (refl, refl, refl)
+
+earlier-shadowed : judged (language gym) two-imports (query gym (0, hours)) (turned-row gym (6, 0, (I, 3, 2) ∷ [])) ≡ is-shadowed
+unfolding computed
+earlier-shadowed = refl
+
+-- Yet an open pair is not made harmless by a row of the same label: what comes may be later still.
+-- Behind the earlier import nothing matters.
+later-still : ShowsTurned gym two-imports ((0, by I) ∷ []) (0, hours) ((5, 0, (I, 7, 1) ∷ []) ∷ []) found-one (some (0, by I))
+unfolding computed
+later-still = (refl, refl, refl)
+
+behind-earlier : ShowsTurned gym two-imports ((2, stop) ∷ []) (0, hours) ((5, 0, (I, 7, 1) ∷ []) ∷ []) found-one none
+unfolding computed
+behind-earlier = (refl, refl, refl)
+
+-- A later import that reaches nothing shadows nothing; imports of one turn clash.
+later-empty : ShowsTurned gym (turned-graph gym 3 ((0, I, 3, 2) ∷ (0, I, 7, 1) ∷ []) ((2, hours, 6) ∷ [])) [] (0, hours)
+    ((6, 0, (I, 3, 2) ∷ []) ∷ []) found-one none
+unfolding computed
+later-empty = (refl, refl, refl)
+
+one-turn : ShowsTurned gym (turned-graph gym 3 ((0, I, 7, 1) ∷ (0, I, 7, 2) ∷ []) ((1, hours, 5) ∷ (2, hours, 6) ∷ [])) [] (0, hours)
+    ((5, 0, (I, 7, 1) ∷ []) ∷ (6, 0, (I, 7, 2) ∷ []) ∷ []) found-several none
+unfolding computed
+one-turn = (refl, refl, refl)
+
+-- Labels compare as before, whatever the turns.
+labels-first : ShowsTurned gym (turned-graph gym 3 ((0, I, 0, 1) ∷ (0, P, 9, 2) ∷ []) ((1, hours, 5) ∷ (2, hours, 6) ∷ [])) [] (0, hours)
+    ((5, 0, (I, 0, 1) ∷ []) ∷ []) found-one none
+unfolding computed
+labels-first = (refl, refl, refl)
+
+-- Labels being equal, a step without a turn is neither before nor after one with a turn.
+abbrev unturned : List (Hop (language gym))
+unturned = record { step = record { label = I; turn = none }; to = 1 } ∷ []
+
+no-turn : (preferredTo (language gym) unturned (turned-hops gym ((I, 7, 2) ∷ [])) stop ≡ false)
+    × (preferredTo (language gym) (turned-hops gym ((I, 7, 2) ∷ [])) unturned stop ≡ false)
+unfolding computed
+no-turn = (refl, refl)

@@ -33,15 +33,16 @@ module _ (L : Language) (laws : Laws L) (g : Graph L) (q : Query L) (range : InR
   admitted : (e : End ℕ) → Admits L e (openEnd L g q e)
   unfolding openEnd
   admitted stop = tt
-  admitted (by l) = laws .strongest-label _ l
+  admitted (by l) = (laws .strongest-label _ l, laws .strongest-carried _ l)
 
-  -- the end that stands for an open place is usable where any end that may come there is, and cut only where all are
+  -- the end that stands for an open place is usable where any end that may come there is, and cut
+  -- only where all are
   usable-open : (s : ℕ) (o : End ℕ) (e : End (L .Step)) → Admits L o e → Usable L s e → Usable L s (openEnd L g q o)
   unfolding openEnd
   usable-open s stop stop a u = u
   usable-open s stop (by t) a u = absurd a
   usable-open s (by l) stop a u = absurd a
-  usable-open s (by l) (by t) a u = (u .0, rw (laws .strongest-label _ l, ← a) (u .1), u .2, u .3, u .4, u .5)
+  usable-open s (by l) (by t) a u = (u .0, rw (laws .strongest-label _ l, ← (a .0)) (u .1), u .2, u .3, u .4, u .5)
 
   uncut-open : (p : List (Hop L)) (o : End ℕ) (e : End (L .Step)) → Admits L o e
       → ((r : List (Hop L)) → Reached L g q (record { start = q .start; hops = r }) → ¬ Preferred L r p e)
@@ -50,7 +51,7 @@ module _ (L : Language) (laws : Laws L) (g : Graph L) (q : Query L) (range : InR
   uncut-open p stop stop a u = u
   uncut-open p stop (by t) a u = absurd a
   uncut-open p (by l) stop a u = absurd a
-  uncut-open p (by l) (by t) a u = λ r k m. u r k (stronger r p (q .start) t (k .path .along) (rw a m))
+  uncut-open p (by l) (by t) a u = λ r k m. u r k (stronger r p (q .start) t (k .path .along) (rw (a .0) m))
 
   test : OpenPair L → Node L → Bool
   test o n = eqb (n .at) (o .at) && (usable L (n .state) (openEnd L g q (o .end)) && not (cut L g q (n .hops) (openEnd L g q (o .end))))

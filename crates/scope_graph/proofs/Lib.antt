@@ -1,4 +1,5 @@
 pub mod Lists
+pub mod Turns
 pub mod Rows
 pub mod Order
 pub mod Pigeon

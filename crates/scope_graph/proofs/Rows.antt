@@ -1,16 +1,19 @@
 -- The language of a gym file has the laws (specs/Promises, `LanguageLaws`). Assumes nothing.
 use Prim.Native.Nat.{ℕ}
-use mathlib.Core.Path.{_≡_, refl, sym, ap}
-use mathlib.Core.Bool.{Bool, true, false, _&&_, false≢true}
+use mathlib.Core.Path.{_≡_, refl, sym, ap, subst}
+use mathlib.Core.Bool.{Bool, true, false, _&&_, _||_, false≢true}
+use mathlib.Core.Logic.{⊎-elim}
 use mathlib.Core.Option.{Option, some}
 use mathlib.Core.List.{List, [], _∷_, List·Memᴰ·head}
 use native.Mathlib.Omega.{arith}
 use lib.Dec.{eqb}
 use borrow.Author.Tests.{eqb-true, eq-eqb}
 use Rattle.scope_graph.specs.Language.{_∈_, End, stop, by}
-use Rattle.scope_graph.specs.Rows.{OrderPair, Transition, PackedName, sameEnd, sameName, preferredBy, nextBy}
+use Rattle.scope_graph.specs.Turns.{Turned, labelEnd, laterStep, above}
+use Rattle.scope_graph.specs.Rows.{OrderPair, Transition, PackedName, sameEnd, sameName, preferredBy, nextBy, OrderPasses}
 use Rattle.scope_graph.specs.Promises.{LanguageLaws}
-use Rattle.scope_graph.proofs.Lists.{not-true, and-left, and-right, and-both, there, anyOf-intro, anyOf-elim}
+use Rattle.scope_graph.proofs.Lists.{not-true, and-left, and-right, and-both, or-cases, or-left, or-right, there, anyOf-intro, anyOf-elim}
+use Rattle.scope_graph.proofs.Turns.{turned-is, turned-self, step-labels, step-not, step-then, step-above}
 
 -- the tests of ends and of names are equality
 pub sameEnd-is : (a b : End ℕ) → sameEnd a b ≡ true → a ≡ b
@@ -73,19 +76,51 @@ nextBy-row (t ∷ ts) q l r h = step (eqb (t .state) q && eqb (t .label) l) refl
         List·Memᴰ·head (λ i. record { state = sym (s .0) i; label = sym (s .1) i; next = sym n i })
     step false e k ih = there (ih k)
 
+-- at one label the higher turn, else the order pairs: together a strict order
+module _ (rows : List OrderPair) (pass : OrderPasses rows) where
+  abbrev before : End Turned → End Turned → Bool
+  before a b = preferredBy rows (labelEnd a) (labelEnd b) || laterStep a b
+
+  apart : (a : End Turned) → before a a ≡ false
+  apart a =
+      not-true _ (λ h.
+      ⊎-elim (λ z. pass .apart (labelEnd a) (preferredBy-row rows _ _ z)) (step-not a)
+      (or-cases (preferredBy rows (labelEnd a) (labelEnd a)) _ h))
+
+  closed : (a b c : End Turned) → before a b ≡ true → before b c ≡ true → before a c ≡ true
+  closed a b c h k =
+      ⊎-elim
+      (λ x.
+      or-left (preferredBy rows (labelEnd a) (labelEnd c)) _
+      (⊎-elim
+      (λ y. row-preferredBy rows _ _ (pass .closed _ _ _ (preferredBy-row rows _ _ x) (preferredBy-row rows _ _ y)))
+      (λ y. subst (λ z. preferredBy rows (labelEnd a) z ≡ true) (step-labels b c y) x)
+      (or-cases (preferredBy rows (labelEnd b) (labelEnd c)) _ k)))
+      (λ x.
+      ⊎-elim
+      (λ y.
+      or-left (preferredBy rows (labelEnd a) (labelEnd c)) _
+      (subst (λ z. preferredBy rows z (labelEnd c) ≡ true) (sym (step-labels a b x)) y))
+      (λ y. or-right (preferredBy rows (labelEnd a) (labelEnd c)) _ (step-then a b c x y))
+      (or-cases (preferredBy rows (labelEnd b) (labelEnd c)) _ k))
+      (or-cases (preferredBy rows (labelEnd a) (labelEnd b)) _ h)
+
 pub language-laws : LanguageLaws
+unfolding laterStep
 language-laws r pass = record {
-  step-same = λ a b h. eqb-true a b h;
-  step-self = λ a. eq-eqb a a refl;
+  step-same = turned-is;
+  step-self = turned-self;
   name-same = sameName-is;
   name-self = sameName-self;
-  irreflexive = λ a. not-true _ (λ h. pass .order .apart a (preferredBy-row (r .order) a a h));
-  transitive = λ a b c h k.
-      row-preferredBy (r .order) a c (pass .order .closed a b c (preferredBy-row (r .order) a b h) (preferredBy-row (r .order) b c k));
+  irreflexive = apart (r .order) (pass .order);
+  transitive = closed (r .order) (pass .order);
   next-label = λ q l s h. pass .labels _ (nextBy-row (r .transitions) q l s h);
   next-state = λ q l s h. pass .states _ (nextBy-row (r .transitions) q l s h);
   strongest-label = λ ts l. refl;
+  strongest-carried = λ ts l. (above ts, refl);
   strongest-stop = λ ts t h. h;
-  strongest-by = λ ts t u m h. h;
-  together-self = λ a. tt;
+  strongest-by = λ ts t u m h.
+      ⊎-elim (λ z. or-left _ _ z) (λ z. absurd (step-above ts t u m z))
+      (or-cases (preferredBy (r .order) (by (u .label)) (by (t .label))) _ h);
+  together-self = λ a e. refl;
 }

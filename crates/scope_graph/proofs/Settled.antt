@@ -1,5 +1,6 @@
--- Decisive is open and followed, settled is that no pair is decisive, and the computed `awaits` is the first decisive pair. Assumes nothing; the
--- parameters are those of Changes, and that *followed* is computed.
+-- Decisive is open and followed, settled is that no pair is decisive, and the computed `awaits` is
+-- the first decisive pair. Assumes nothing; the parameters are those of Changes, and that
+-- *followed* is computed.
 use Prim.Native.Nat.{ℕ, _<_}
 use native.Mathlib.Omega.{arith}
 use mathlib.Core.Path.{_≡_, refl}
@@ -8,7 +9,7 @@ use mathlib.Core.Option.{Option, some, none}
 use mathlib.Core.Logic.{_↔_, inl, inr, ⊎-elim}
 use mathlib.Core.List.{List}
 use Rattle.scope_graph.specs.Language.{_∈_, End, stop, by, Language, Laws}
-use Rattle.scope_graph.specs.Graph.{Graph, InRange, Query, OpenPair}
+use Rattle.scope_graph.specs.Graph.{Graph, InRange, Query, OpenPair, Admits}
 use Rattle.scope_graph.specs.Path.{Hop, PathRow, Reached, Entry}
 use Rattle.scope_graph.specs.Completion.{Extension, At, AtOne, Decisive, Settled, EndBefore, PairBefore, Awaits}
 use Rattle.scope_graph.specs.Followed.{Preferred, FollowedAt}
@@ -16,7 +17,7 @@ use Rattle.scope_graph.specs.Computed.{firstOf, followedAt, awaits}
 use Rattle.scope_graph.specs.Listing.{Pairwise}
 use Rattle.scope_graph.proofs.Lists.{true-false, firstOf-some, firstOf-none}
 use Rattle.scope_graph.proofs.Changes.{route, same-or-followed}
-use Rattle.scope_graph.proofs.Witness.{followed-changes}
+use Rattle.scope_graph.proofs.Witness.{MayCome, followed-changes}
 
 end-once : (a b : End ℕ) → EndBefore a b → EndBefore b a → ⊥
 end-once stop stop h k = h
@@ -50,6 +51,12 @@ module _ (L : Language) where
       (entry-list : (g : Graph L) → InRange L g → q .start < g .scopes
       → (rs : List (PathRow L)) × ((r : PathRow L) → (r ∈ rs) ↔ Entry L g q r))
       (range : InRange L g) (starts : q .start < g .scopes) where
+    may-come : (o : End ℕ) (e : End (L .Step)) → Admits L o e → MayCome L laws q decided reached-list entry-list g range starts e
+    may-come stop stop a = tt
+    may-come stop (by t) a = absurd a
+    may-come (by l) stop a = absurd a
+    may-come (by l) (by t) a = a .1
+
     pub decisive : (o : OpenPair L) → Decisive L g opens q o ↔ ((o ∈ opens) × FollowedAt L g q o)
     decisive o = (to, from)
       where
@@ -62,7 +69,7 @@ module _ (L : Language) where
 
         from : (o ∈ opens) × FollowedAt L g q o → Decisive L g opens q o
         from w =
-            let c = followed-changes L laws q decided reached-list entry-list g range starts (At L o) (o .at) (w .1 .0) (refl, w .1 .1) (w .1 .2) in
+            let c = followed-changes L laws q decided reached-list entry-list g range starts (At L o) (o .at) (w .1 .0) (refl, w .1 .1) (may-come (o .end) (w .1 .0) (w .1 .1)) (w .1 .2) in
             record { stands = w .0; completion = c .0; at-pair = c .1; differs = c .2 }
 
     pub settled : Settled L g opens q ↔ ((o : OpenPair L) → ¬ Decisive L g opens q o)

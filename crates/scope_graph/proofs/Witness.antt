@@ -1,5 +1,6 @@
--- A followed place makes a difference: where a row may come there, one completion that adds there, and otherwise only at new scopes, shows the query something
--- new. Assumes nothing; the parameters are those of Changes.
+-- A followed place makes a difference: where a row may come there, one completion that adds there,
+-- and otherwise only at new scopes, shows the query something new. Assumes nothing; the parameters
+-- are those of Changes.
 use Prim.Native.Nat.{ℕ, suc, _+_, _≤_, _<_}
 use native.Mathlib.Omega.{arith}
 use mathlib.Core.Path.{_≡_, refl, sym, ap, _∙_}
@@ -103,6 +104,11 @@ module _ (L : Language) where
         (λ w. chain-listed (h .0) f (suc n) ls (h .2) e w)
         (List·Memᴰ·cases-cons m)
 
+    chain-carried : (n : ℕ) (ls : List ℕ) (e : Edge L) → e ∈ chainEdges n ls → L .Carried (e .step)
+    unfolding chainEdges
+    chain-carried n [] e m = absurd (List·Memᴰ·not-nil m)
+    chain-carried n (l ∷ ls) e m = ⊎-elim (λ w. rw w (laws .strongest-carried [] l)) (λ w. chain-carried (suc n) ls e w) (List·Memᴰ·cases-cons m)
+
     module _ (q : Query L)
         (decided : (r p : List (Hop L)) → Dec (Preferred L r p stop))
         (reached-list : (g : Graph L) → InRange L g → q .start < g .scopes
@@ -110,8 +116,9 @@ module _ (L : Language) where
         (entry-list : (g : Graph L) → InRange L g → q .start < g .scopes
         → (rs : List (PathRow L)) × ((r : PathRow L) → (r ∈ rs) ↔ Entry L g q r))
         (g : Graph L) (range : InRange L g) (starts : q .start < g .scopes) where
-      -- a reached path p of an extension h, of which every path that g reaches and that is preferred to it, and p itself with one of its marks, is a
-      -- contradiction: then h shows something else
+      -- a reached path p of an extension h, of which every path that g reaches and that is
+      -- preferred to it, and p itself with one of its marks, is a contradiction: then h shows
+      -- something else
       changed : (h : Graph L) → InRange L h → q .start < h .scopes → (p : List (Hop L)) (reached : Reached L h q (route L laws q p))
           → ¬ Entry L g q (record { mark = reached .mark; path = route L laws q p })
           → ((r : List (Hop L)) → Reached L g q (route L laws q r) → ¬ Preferred L r p stop)
@@ -144,6 +151,7 @@ module _ (L : Language) where
           from-scope = range .from-scope;
           to-scope = range .to-scope;
           listed = range .listed;
+          carried = range .carried;
           at-scope = λ d m.
               ⊎-elim (λ e. let k : d .at ≡ s = ap (λ (z : Declaration L). z .at) e in rw k old-scope)
               (λ w. range .at-scope d w) (List·Memᴰ·cases-cons m);
@@ -184,8 +192,9 @@ module _ (L : Language) where
             (λ en. let k = fresh-above (g .declarations) _ (en .declared) in omega arith)
             (fo .uncut)
 
-      -- one edge more at an old scope, then a chain of new scopes along a word to acceptance, the last of which declares the name
-      module _ (s : ℕ) (t : L .Step) (fo : Followed L g q s (by t)) where
+      -- one edge more at an old scope, then a chain of new scopes along a word to acceptance, the
+      -- last of which declares the name
+      module _ (s : ℕ) (t : L .Step) (may : L .Carried t) (fo : Followed L g q s (by t)) where
         ls : List ℕ
         ls = fo .usable .2
 
@@ -235,6 +244,12 @@ module _ (L : Language) where
         listed e (chain w) = chain-listed (fo .usable .0) (fo .usable .3) (g .scopes) ls (fo .usable .4) e w
         listed e (kept w) = range .listed e w
 
+        borne : (e : Edge L) → Kind e → L .Carried (e .step)
+        unfolding edge
+        borne e (first w) = rw w may
+        borne e (chain w) = chain-carried (g .scopes) ls e w
+        borne e (kept w) = range .carried e w
+
         -- new edges come to new scopes, each to another
         to-new : (e : Edge L) → Kind e → (g .scopes ≤ e .to) ⊎ (e ∈ g .edges)
         unfolding edge
@@ -269,6 +284,7 @@ module _ (L : Language) where
           from-scope = λ e m. (between e (kind e m)) .0;
           to-scope = λ e m. (between e (kind e m)) .1;
           listed = λ e m. listed e (kind e m);
+          carried = λ e m. borne e (kind e m);
           at-scope = λ d m.
               ⊎-elim (λ w. let k : d .at ≡ g .scopes + length ls = ap (λ (z : Declaration L). z .at) w in omega arith)
               (λ w. let k = range .at-scope d w in omega arith) (List·Memᴰ·cases-cons m);
@@ -367,7 +383,11 @@ module _ (L : Language) where
         grown-changes = changed grown grown-range grown-starts path grown-reached (fresh-path (grown-reached .mark)) cut-off
 
       -- where a followed place may get a row, an extension shows the query something else
-      pub followed-changes : (Allowed : ℕ → End (L .Step) → Type 0) (s : ℕ) (e : End (L .Step)) → Allowed s e → Followed L g q s e
+      abbrev pub MayCome : End (L .Step) → Type 0
+      MayCome stop = Unit {0}
+      MayCome (by t) = L .Carried t
+
+      pub followed-changes : (Allowed : ℕ → End (L .Step) → Type 0) (s : ℕ) (e : End (L .Step)) → Allowed s e → MayCome e → Followed L g q s e
           → (h : Graph L) × Extension L Allowed g h × (¬ SameEntries L q g h)
-      followed-changes Allowed s stop a fo = (declared s fo, declared-extends s fo Allowed a, declared-changes s fo)
-      followed-changes Allowed s (by t) a fo = (grown s t fo, grown-extends s t fo Allowed a, grown-changes s t fo)
+      followed-changes Allowed s stop a c fo = (declared s fo, declared-extends s fo Allowed a, declared-changes s fo)
+      followed-changes Allowed s (by t) a c fo = (grown s t c fo, grown-extends s t c fo Allowed a, grown-changes s t c fo)

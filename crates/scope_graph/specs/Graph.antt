@@ -24,12 +24,13 @@ module _ (L : Language) where
     pub edges : List (Edge)
     pub declarations : List (Declaration)
 
-  -- The rows speak of scopes of the graph and of listed labels (01, refusal 3), and edges between
-  -- the same two scopes may stand together.
+  -- The rows speak of scopes of the graph and of listed labels (01, refusal 3), edges carry what
+  -- they may, and edges between the same two scopes may stand together.
   pub record InRange (g : Graph) : Type 0 where
     pub from-scope : (e : Edge) → e ∈ g .edges → e .from < g .scopes
     pub to-scope : (e : Edge) → e ∈ g .edges → e .to < g .scopes
     pub listed : (e : Edge) → e ∈ g .edges → L .label (e .step) < L .labels
+    pub carried : (e : Edge) → e ∈ g .edges → L .Carried (e .step)
     pub at-scope : (d : Declaration) → d ∈ g .declarations → d .at < g .scopes
     pub together : (e f : Edge) → e ∈ g .edges → f ∈ g .edges → e .from ≡ f .from → e .to ≡ f .to → L .Together (e .step) (f .step)
 
@@ -45,9 +46,9 @@ module _ (L : Language) where
     pub end : End ℕ
 
   -- What may still come at an open place: a declaration at `$`, and at a label an edge with a step
-  -- of that label.
+  -- of that label that an edge may carry.
   abbrev pub Admits : End ℕ → End (L .Step) → Type 0
   Admits stop stop = Unit {0}
   Admits stop (by t) = ⊥
   Admits (by l) stop = ⊥
-  Admits (by l) (by t) = L .label t ≡ l
+  Admits (by l) (by t) = (L .label t ≡ l) × L .Carried t

@@ -41,10 +41,12 @@ pub record Language : Type 1 where
   pub strongest : List Step → ℕ → Step
   -- may two edges with the same two scopes carry these steps? In document 01 always.
   pub Together : Step → Step → Type 0
+  -- may an edge carry the step? In document 01 always.
+  pub Carried : Step → Type 0
 
 -- What the theorems rely on. The tests of equality are right; the order is irreflexive and
 -- transitive (01's refusal 6); transitions speak of listed labels and states (refusal 3);
--- `strongest` is what its comment says; an edge may stand beside itself.
+-- `strongest` is what its comment says, and an edge may carry it; an edge may stand beside itself.
 pub record Laws (L : Language) : Type 0 where
   pub step-same : (a b : L .Step) → L .same-step a b ≡ true → a ≡ b
   pub step-self : (a : L .Step) → L .same-step a a ≡ true
@@ -55,6 +57,7 @@ pub record Laws (L : Language) : Type 0 where
   pub next-label : (q l r : ℕ) → L .next q l ≡ some r → l < L .labels
   pub next-state : (q l r : ℕ) → L .next q l ≡ some r → r < L .states
   pub strongest-label : (ts : List (L .Step)) (l : ℕ) → L .label (L .strongest ts l) ≡ l
+  pub strongest-carried : (ts : List (L .Step)) (l : ℕ) → L .Carried (L .strongest ts l)
   pub strongest-stop : (ts : List (L .Step)) (t : L .Step)
       → L .prefers stop (by (L .strongest ts (L .label t))) ≡ true → L .prefers stop (by t) ≡ true
   pub strongest-by : (ts : List (L .Step)) (t u : L .Step) → u ∈ ts

@@ -2,6 +2,7 @@ pub mod Language
 pub mod Graph
 pub mod Path
 pub mod Completion
+pub mod Turns
 pub mod Rows
 pub mod Followed
 pub mod Computed

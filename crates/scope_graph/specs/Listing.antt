@@ -4,7 +4,8 @@ use Prim.Native.Nat.{_<_}
 use mathlib.Core.Path.{_≡_}
 use mathlib.Core.Logic.{_⊎_}
 use mathlib.Core.List.{List, [], _∷_}
-use Rattle.scope_graph.specs.Language.{_∈_, Language, Laws}
+use mathlib.Core.Bool.{true}
+use Rattle.scope_graph.specs.Language.{_∈_, by, Language, Laws}
 use Rattle.scope_graph.specs.Graph.{Edge, Declaration, Graph, InRange, Query, OpenPair}
 use Rattle.scope_graph.specs.Path.{Hop, PathRow, rowDeclaration, Entry}
 use Rattle.scope_graph.specs.Completion.{PairBefore}
@@ -31,12 +32,20 @@ module _ (L : Language) where
   abbrev pub RowBefore : PathRow L → PathRow L → Type 0
   RowBefore r p = HopsBefore (r .path .hops) (p .path .hops) ⊎ ((r .path ≡ p .path) × (r .mark < p .mark))
 
+  -- The order of the rows of one scope (01, "The gym file"; with turns, 02, K12): label number; at
+  -- one label a step that another is preferred to stands before it; then scope.
+  abbrev pub RowHopBefore : Hop L → Hop L → Type 0
+  RowHopBefore h k =
+      (L .label (h .step) < L .label (k .step))
+      ⊎ ((L .label (h .step) ≡ L .label (k .step))
+      × ((L .prefers (by (k .step)) (by (h .step)) ≡ true) ⊎ ((h .step ≡ k .step) × (h .to < k .to))))
+
   -- The order of edge rows; and of declarations as far as it matters here: those of one name at one
   -- scope stand by their marks.
   abbrev pub EdgeBefore : Edge L → Edge L → Type 0
   EdgeBefore e f =
       (e .from < f .from)
-      ⊎ ((e .from ≡ f .from) × HopBefore (record { step = e .step; to = e .to }) (record { step = f .step; to = f .to }))
+      ⊎ ((e .from ≡ f .from) × RowHopBefore (record { step = e .step; to = e .to }) (record { step = f .step; to = f .to }))
 
   abbrev pub MarkBefore : Declaration L → Declaration L → Type 0
   MarkBefore d e = d .at ≡ e .at → d .name ≡ e .name → d .mark < e .mark

@@ -42,7 +42,8 @@ module _ (L : Language) where
       pub judged-shadowed : (r : PathRow L) → (judged L g q r ≡ is-shadowed) ↔ (Shadowed L g q (r .path) × MarkDeclared L g q r)
       pub judged-unreached : (r : PathRow L) → (judged L g q r ≡ is-unreached) ↔ (¬ (Reached L g q (r .path) × MarkDeclared L g q r))
       pub shadowed-by : (p : Path L) → Shadowed L g q p → (r : Path L) × Reached L g q r × MoreSpecific L r p
-      -- the computed entries are the entries of the rules, each once, in the listing's order
+      -- the computed entries are the entries of the rules, each once, in the listing's order: by
+      -- label number, then by scope, whatever the turns (02, K12)
       pub entries-are : (r : PathRow L) → (r ∈ entries L g q) ↔ Entry L g q r
       pub entries-ascend : Pairwise (RowBefore L) (entries L g q)
       pub once : (r : PathRow L) → ¬ RowBefore L r r

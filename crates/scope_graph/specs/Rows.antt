@@ -1,11 +1,13 @@
 -- The language of a gym file (01, "The gym file"): labels, order pairs, transitions and accept rows
 -- as they stand in the file. Assumes nothing: these are definitions.
 use Prim.Native.Nat.{ℕ, _<_}
-use mathlib.Core.Bool.{Bool, true, false, _&&_}
+use mathlib.Core.Path.{_≡_}
+use mathlib.Core.Bool.{Bool, true, false, _&&_, _||_}
 use mathlib.Core.Option.{Option, some, none}
 use mathlib.Core.List.{List, [], _∷_}
 use lib.Dec.{eqb}
 use Rattle.scope_graph.specs.Language.{_∈_, End, stop, by, Language}
+use Rattle.scope_graph.specs.Turns.{Turned, sameTurned, labelEnd, laterStep, above}
 
 -- a row `less more`: `less` is the end that is preferred
 pub record OrderPair : Type 0 where
@@ -57,20 +59,24 @@ unfoldable pub nextBy : List Transition → ℕ → ℕ → Option ℕ
 nextBy [] q l = none
 nextBy (t ∷ ts) q l = elim (eqb (t .state) q && eqb (t .label) l) [ true ↦ some (t .next) | false ↦ nextBy ts q l ]
 
+-- The order pairs compare labels; at one label the higher turn is preferred. Of two edges with the
+-- same two scopes those of one label have one turn: a file's row repeats no from, label and to, nor
+-- does a completion's. An edge row has a turn, and a completion's may be any number (02, K12).
 abbrev pub language : Rules → Language
 language r = record {
-  Step = ℕ;
-  same-step = eqb;
-  label = λ l. l;
+  Step = Turned;
+  same-step = sameTurned;
+  label = λ t. t .label;
   labels = r .labels;
   Name = PackedName;
   same-name = sameName;
-  prefers = preferredBy (r .order);
+  prefers = λ a b. preferredBy (r .order) (labelEnd a) (labelEnd b) || laterStep a b;
   states = 16;
   next = nextBy (r .transitions);
   accepts = λ q. anyOf (eqb q) (r .accept);
-  strongest = λ ts l. l;
-  Together = λ t u. Unit {0};
+  strongest = λ ts l. record { label = l; turn = some (above ts) };
+  Together = λ t u. t .label ≡ u .label → t .turn ≡ u .turn;
+  Carried = λ t. (n : ℕ) × (t .turn ≡ some n);
 }
 
 -- The order that 01's refusal 6 lets pass.

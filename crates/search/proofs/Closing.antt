@@ -14,9 +14,10 @@ use lib.ListN.{getD, replicate}
 use lib.Pow.{shl-exact}
 use Rattle.scope_graph.specs.Language.{_∈_, by}
 use Rattle.scope_graph.specs.Path.{HopOf}
+use Rattle.scope_graph.specs.Turns.{Turned}
 use Rattle.scope_graph.proofs.Lists.{Two, and-right}
 use Rattle.block.specs.Sets.{hasBit, hasScope, hasState, placesOf}
-use Rattle.block.specs.Block.{Still, nextCell, acceptSet, statesCell, pairFlag, firstEdge, edgeCell, hopOf, hopsOn}
+use Rattle.block.specs.Block.{Bounds, nextCell, acceptSet, statesCell, pairFlag, firstEdge, edgeCell, hopOf, hopsOn}
 use Rattle.block.proofs.SetLaws.{bits-one, bits-and, one-shifted, state-in, scope-past, scope-below, scopes-all, state-below, state-past, states-or, states-less, places-in, places-scope, places-state, places-none}
 use Rattle.block.proofs.BlockLaws.{next-no-state, state-cell, step-state, on-none, on-more, blockHops-in}
 use Rattle.search.specs.Live.{Closed, any-way}
@@ -39,14 +40,14 @@ states-first n q few h =
     rw (one-shifted n (omega arith)) (state-in (2 ^ n - 1) q (omega arith) ∙ full-bits n q h (omega arith))
 
 -- no label leads on from a state outside a set that has all states below the block's count
-pub leading-below : (block : List ℕ) (full : ℕ) → Still block → ((q : ℕ) → q < 16 → q < statesCell block → hasState full q ≡ true)
+pub leading-below : (block : List ℕ) (full : ℕ) → Bounds block → ((q : ℕ) → q < 16 → q < statesCell block → hasState full q ≡ true)
     → Leading block full
-leading-below block full still has q l out = at (Two (ltb q 16)) (Two (ltb q (statesCell block)))
+leading-below block full bounds has q l out = at (Two (ltb q 16)) (Two (ltb q (statesCell block)))
   where
     at : (ltb q 16 ≡ true) ⊎ (ltb q 16 ≡ false) → (ltb q (statesCell block) ≡ true) ⊎ (ltb q (statesCell block) ≡ false)
         → 16 ≤ nextCell block q l
     at (inr e) f = rw (next-no-state block q l (ltb-false q 16 e)) (omega arith)
-    at (inl e) (inr f) = still q l (ltb-false q (statesCell block) f)
+    at (inl e) (inr f) = bounds .states q l (ltb-false q (statesCell block) f)
     at (inl e) (inl f) = absurd (false≢true (sym out ∙ has q (ltb-true q 16 e) (ltb-true q (statesCell block) f)))
 
 -- a state that is read at its place in a table of 16 leads where it leads, and one past the table
@@ -62,11 +63,11 @@ leads-not block set q l h = at (Two (ltb q 16))
     at (inr e) = rw (next-no-state block q l (ltb-false q 16 e)) (state-past set 16 (omega arith))
 
 -- ways: a step that stopping cuts is none, and the empty set cuts no step
-pub way-cut : (block : List ℕ) (cutting s q l : ℕ) → hasScope cutting s ≡ true → pairFlag block 0 (l + 1) ≡ true
-    → hasState (acceptSet block) q ≡ true → wayOf block cutting s q l ≡ false
+pub way-cut : (block : List ℕ) (cutting s q : ℕ) (t : Turned) → hasScope cutting s ≡ true → pairFlag block 0 (t .label + 1) ≡ true
+    → hasState (acceptSet block) q ≡ true → wayOf block cutting s q t ≡ false
 unfolding wayOf tableOrder endNumber
-way-cut block cutting s q l h k m =
-    let next : pairFlag block 0 (suc l) ≡ true = rw add-one at k in
+way-cut block cutting s q t h k m =
+    let next : pairFlag block 0 (suc (t .label)) ≡ true = rw add-one at k in
     rw (places-in cutting (acceptSet block) s q h m, next, wayOf)
 
 pub way-any : (block : List ℕ) (goal : ℕ) → wayOf block 0 ≡ any-way (tableBoard block goal)
@@ -83,24 +84,24 @@ all-free = fun-ext (λ t. at t (Two (ltb t 64)))
 
 -- one state at a hop's scope: held already, cut, without a step on, or with one to a place that is
 -- not held
-module _ (block : List ℕ) (way : ℕ → ℕ → ℕ → Bool) (live : ℕ → ℕ → Bool) (s q : ℕ) (h : HopOf ℕ) where
+module _ (block : List ℕ) (way : ℕ → ℕ → Turned → Bool) (live : ℕ → ℕ → Bool) (s q : ℕ) (h : HopOf Turned) where
   lacks-held : live s q ≡ true → lacks block way live s h q ≡ false
   unfolding lacks
   lacks-held e = rw (e, lacks)
 
   lacks-way : way s q (h .step) ≡ false → lacks block way live s h q ≡ false
   unfolding lacks
-  lacks-way e = rw (e, and-false (live (h .to) (nextCell block q (h .step))), and-false (not (live s q)), lacks)
+  lacks-way e = rw (e, and-false (live (h .to) (nextCell block q (h .step .label))), and-false (not (live s q)), lacks)
 
-  lacks-no : live (h .to) (nextCell block q (h .step)) ≡ false → lacks block way live s h q ≡ false
+  lacks-no : live (h .to) (nextCell block q (h .step .label)) ≡ false → lacks block way live s h q ≡ false
   unfolding lacks
   lacks-no e = rw (e, and-false (not (live s q)), lacks)
 
-module _ (block table : List ℕ) (way : ℕ → ℕ → ℕ → Bool) (free : ℕ → Bool) (full : ℕ) (leads : Leading block full) (s : ℕ) (below : s < 64) where
+module _ (block table : List ℕ) (way : ℕ → ℕ → Turned → Bool) (free : ℕ → Bool) (full : ℕ) (leads : Leading block full) (s : ℕ) (below : s < 64) where
   -- a state from which no label leads on
-  lacks-idle : (h : HopOf ℕ) (q : ℕ) → hasState full q ≡ false → lacks block way (placeFlag table) s h q ≡ false
+  lacks-idle : (h : HopOf Turned) (q : ℕ) → hasState full q ≡ false → lacks block way (placeFlag table) s h q ≡ false
   lacks-idle h q e =
-      lacks-no block way (placeFlag table) s q h (place-no-state table (h .to) (nextCell block q (h .step)) (leads q (h .step) e))
+      lacks-no block way (placeFlag table) s q h (place-no-state table (h .to) (nextCell block q (h .step .label)) (leads q (h .step .label) e))
 
   -- nothing is lacked by a scope that holds all states that matter
   pub full-closed : bitOr (getD table s 0) full ≡ getD table s 0 → ScopeClosed block way free (placeFlag table) s
@@ -112,14 +113,14 @@ module _ (block table : List ℕ) (way : ℕ → ℕ → ℕ → Bool) (free : �
       at (inr k) = lacks-idle h q k
 
   -- nor by a hop to a scope that holds no place
-  pub empty-closed : (h : HopOf ℕ) → getD table (h .to) 0 ≡ 0 → HopClosed block way free (placeFlag table) s h
+  pub empty-closed : (h : HopOf Turned) → getD table (h .to) 0 ≡ 0 → HopClosed block way free (placeFlag table) s h
   empty-closed h e f q b =
-      lacks-no block way (placeFlag table) s q h (place-empty table (h .to) (nextCell block q (h .step)) e)
+      lacks-no block way (placeFlag table) s q h (place-empty table (h .to) (nextCell block q (h .step .label)) e)
 
   -- nor by one that leads to no place held from the states that matter and are neither held nor cut
-  pub hop-closed : (h : HopOf ℕ) (bar : ℕ) → h .to < 64 → ((q : ℕ) → hasState bar q ≡ true → way s q (h .step) ≡ false)
+  pub hop-closed : (h : HopOf Turned) (bar : ℕ) → h .to < 64 → ((q : ℕ) → hasState bar q ≡ true → way s q (h .step) ≡ false)
       → ((q : ℕ) → hasState (bitXor full (bitAnd full (bitOr (getD table s 0) bar))) q ≡ true
-      → hasState (getD table (h .to) 0) (nextCell block q (h .step)) ≡ false)
+      → hasState (getD table (h .to) 0) (nextCell block q (h .step .label)) ≡ false)
       → HopClosed block way free (placeFlag table) s h
   hop-closed h bar inside cut none f q b = at (Two (hasState full q)) (Two (hasState (getD table s 0) q)) (Two (hasState bar q))
     where
@@ -133,12 +134,12 @@ module _ (block table : List ℕ) (way : ℕ → ℕ → ℕ → Bool) (free : �
           let left : hasState (bitXor full (bitAnd full (bitOr (getD table s 0) bar))) q ≡ true =
           states-less full (bitOr (getD table s 0) bar) q ∙ rw (k, have)
           in
-          lacks-no block way (placeFlag table) s q h (place-in table (h .to) (nextCell block q (h .step)) inside ∙ none q left)
+          lacks-no block way (placeFlag table) s q h (place-in table (h .to) (nextCell block q (h .step .label)) inside ∙ none q left)
 
 -- the edges of a scope from number p on
-module _ (block : List ℕ) (way : ℕ → ℕ → ℕ → Bool) (free : ℕ → Bool) (live : ℕ → ℕ → Bool) (s : ℕ) where
+module _ (block : List ℕ) (way : ℕ → ℕ → Turned → Bool) (free : ℕ → Bool) (live : ℕ → ℕ → Bool) (s : ℕ) where
   abbrev pub OnClosed : ℕ → Type 0
-  OnClosed p = (h : HopOf ℕ) → h ∈ hopsOn block s p → HopClosed block way free live s h
+  OnClosed p = (h : HopOf Turned) → h ∈ hopsOn block s p → HopClosed block way free live s h
 
   pub on-closed-all : s < 64 → OnClosed (firstEdge block s) → ScopeClosed block way free live s
   on-closed-all below on h m = on h (rw (blockHops-in block s below) at m)
@@ -149,7 +150,7 @@ module _ (block : List ℕ) (way : ℕ → ℕ → ℕ → Bool) (free : ℕ →
   pub on-closed-more : (p : ℕ) → p < firstEdge block (suc s) → HopClosed block way free live s (hopOf (edgeCell block p))
       → OnClosed (p + 1) → OnClosed p
   on-closed-more p more here rest h m =
-      ⊎-elim (λ e. subst (λ (z : HopOf ℕ). HopClosed block way free live s z) (sym e) here)
+      ⊎-elim (λ e. subst (λ (z : HopOf Turned). HopClosed block way free live s z) (sym e) here)
       (λ k. rest h (rw (add-one p) k)) (List·Memᴰ·cases-cons (rw (on-more block s p more) at m))
 
 lacks-back : (n y w : Bool) → (not n && (y && w)) ≡ false → y ≡ true → w ≡ true → n ≡ true
@@ -157,33 +158,33 @@ lacks-back true y w h k m = refl
 lacks-back false y w h k m = absurd (false≢true (sym h ∙ rw (k, m)))
 
 -- a table that holds what is asked for and lacks nothing is closed
-module _ (block : List ℕ) (goal : ℕ) (seek : ℕ → ℕ → Bool) (way : ℕ → ℕ → ℕ → Bool) (free : ℕ → Bool) where
+module _ (block : List ℕ) (goal : ℕ) (seek : ℕ → ℕ → Bool) (way : ℕ → ℕ → Turned → Bool) (free : ℕ → Bool) where
   pub hops-closed : (live : ℕ → ℕ → Bool) → ((s q : ℕ) → seek s q ≡ true → live s q ≡ true) → HopsClosed block way free live
       → Closed (tableBoard block goal) seek way free live
   unfolding tableBoard lacks
   hops-closed live asked closed = record {
     asked = asked;
     back = λ s q h r own m f e w k.
-        lacks-back (live s q) (live (h .to) (nextCell block q (h .step))) (way s q (h .step))
-        (closed s own h m f q (step-state block q (h .step) r e)) (rw (state-cell (nextCell block q (h .step)) r e) k) w;
+        lacks-back (live s q) (live (h .to) (nextCell block q (h .step .label))) (way s q (h .step))
+        (closed s own h m f q (step-state block q (h .step .label) r e)) (rw (state-cell (nextCell block q (h .step .label)) r e) k) w;
   }
 
 -- the table of all places is closed
-pub all-closed : (block : List ℕ) (goal scopes states free n : ℕ) (way : ℕ → ℕ → ℕ → Bool) → 64 ≤ n
+pub all-closed : (block : List ℕ) (goal scopes states free n : ℕ) (way : ℕ → ℕ → Turned → Bool) → 64 ≤ n
     → Closed (tableBoard block goal) (placesOf scopes states) way (hasScope free) (placeFlag (replicate n 65535))
 unfolding tableBoard
 all-closed block goal scopes states free n way size = record {
   asked = λ s q h.
       place-all n s q size (scope-below scopes s (places-scope scopes states s q h)) (state-below states q (places-state scopes states s q h));
-  back = λ s q h r own m f e w k. place-all n s q size (scope-below free s own) (step-state block q (h .step) r e);
+  back = λ s q h r own m f e w k. place-all n s q size (scope-below free s own) (step-state block q (h .step .label) r e);
 }
 
 -- the same closedness by other names: with all scopes free, and by any step where no scope cuts
 module _ (block : List ℕ) (goal : ℕ) (seek live : ℕ → ℕ → Bool) where
-  pub closed-all-free : (way : ℕ → ℕ → ℕ → Bool) → Closed (tableBoard block goal) seek way (hasScope 18446744073709551615) live
+  pub closed-all-free : (way : ℕ → ℕ → Turned → Bool) → Closed (tableBoard block goal) seek way (hasScope 18446744073709551615) live
       → Closed (tableBoard block goal) seek way (λ t. ltb t 64) live
   closed-all-free way c = subst (λ (free : ℕ → Bool). Closed (tableBoard block goal) seek way free live) all-free c
 
   pub closed-any-way : (free : ℕ → Bool) → Closed (tableBoard block goal) seek (wayOf block 0) free live
       → Closed (tableBoard block goal) seek (any-way (tableBoard block goal)) free live
-  closed-any-way free c = subst (λ (way : ℕ → ℕ → ℕ → Bool). Closed (tableBoard block goal) seek way free live) (way-any block goal) c
+  closed-any-way free c = subst (λ (way : ℕ → ℕ → Turned → Bool). Closed (tableBoard block goal) seek way free live) (way-any block goal) c

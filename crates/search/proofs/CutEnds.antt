@@ -1,19 +1,22 @@
 -- Which ends are cut, from which ends lead on; what is known of a node's ends. Assumes nothing.
 use mathlib.Core.Path.{_≡_, refl, sym, ap, _∙_, subst}
 use mathlib.Core.Logic.{_⊎_, inl, inr, ⊎-elim}
-use mathlib.Core.Bool.{Bool, true, false, not, _&&_, false≢true}
+use mathlib.Core.Bool.{Bool, true, false, not, _&&_, and-false, or-false, false≢true}
+use mathlib.Core.Option.{Option, some, none}
 use mathlib.Core.List.{List}
 use Prim.Native.Nat.{ℕ, zero, suc, _+_, _-_, _/_, _%_, _^_, _≤_, _<_}
 use native.Mathlib.Omega.{arith}
 use native.Mathlib.Nat.{mod-lt, lt-of-lt-of-le}
+use native.Mathlib.Numerals.{add-one}
 use borrow.Author.Tests.{eq-eqb, eqb-true, ltb-true, ltb-false, not-false}
 use lib.Bits.{bitAnd, bitOr, bitXor}
 use lib.Dec.{eqb, ltb}
 use lib.ListN.{getD}
 use lib.Pow.{shr-shr, shr-lt, field, mod-mod-pow, pow-mono}
-use Rattle.scope_graph.specs.Language.{stop, by}
+use Rattle.scope_graph.specs.Language.{End, stop, by}
 use Rattle.scope_graph.specs.Order.{endOf}
 use Rattle.scope_graph.specs.Path.{HopOf}
+use Rattle.scope_graph.specs.Turns.{Turned, later, labelEnd, laterStep}
 use Rattle.scope_graph.specs.Rows.{anyOf}
 use Rattle.scope_graph.proofs.Lists.{Two, and-left, and-right, and-both, or-cases, or-left, or-right, not-true, true-false, anyOf-intro, anyOf-elim}
 use Rattle.block.specs.Layout.{BETTER}
@@ -23,7 +26,7 @@ use Rattle.block.proofs.SetLaws.{bits-or, bits-less, bits-none, bits-common, sc
 use Rattle.block.proofs.BlockLaws.{pair-in, pair-no-first, pair-no-second, pair-first}
 use Rattle.search.specs.declared.Node.{Node}
 use Rattle.search.specs.Board.{Board, hopLeads, cutHere}
-use Rattle.search.specs.Tables.{tableOrder, endNumber, tableBoard}
+use Rattle.search.specs.Tables.{plainEnd, tableOrder, endNumber, tableBoard}
 use Rattle.search.specs.Conditions.{behindEnd, Known}
 use Rattle.search.specs.Steps.{leadsBy}
 use Rattle.search.proofs.RulesLists.{anyOf-same}
@@ -33,6 +36,33 @@ end-number : (c : ℕ) → endNumber (endOf c) ≡ c
 unfolding endNumber endOf
 end-number zero = refl
 end-number (suc n) = refl
+
+pub end-label : (l : ℕ) → endOf (l + 1) ≡ by l
+unfolding endOf
+end-label l = rw (add-one l)
+
+-- an end by its label alone: its label, and no step is later than it
+pub plain-label : (e : End ℕ) → labelEnd (plainEnd e) ≡ e
+unfolding plainEnd
+plain-label stop = refl
+plain-label (by l) = refl
+
+later-none : (o : Option ℕ) → later o none ≡ false
+unfolding later
+later-none none = refl
+later-none (some n) = refl
+
+pub later-plain : (a : End Turned) (e : End ℕ) → laterStep a (plainEnd e) ≡ false
+unfolding laterStep plainEnd
+later-plain stop e = refl
+later-plain (by t) stop = refl
+later-plain (by t) (by l) = rw (later-none (t .turn)) (and-false (eqb (t .label) l))
+
+-- so ends compare to it as the order pairs have it
+pub order-plain : (block : List ℕ) (a : End Turned) (c : ℕ) → tableOrder block a (plainEnd (endOf c)) ≡ pairFlag block (endNumber (labelEnd a)) c
+unfolding tableOrder
+order-plain block a c =
+    rw (later-plain a (endOf c), plain-label (endOf c), end-number c) (or-false (pairFlag block (endNumber (labelEnd a)) c))
 
 -- what lies at an end: here, or behind the hops of its label
 module _ (block : List ℕ) (goal : ℕ) (n : Node) (a : ℕ) where
@@ -58,60 +88,62 @@ module _ (block : List ℕ) (goal : ℕ) (n : Node) (a : ℕ) where
           let same : suc l - 1 ≡ l = omega arith in
           let own : (u : ℕ) → hasLabel labels u ≡ eqb u l = labels-single labels l (omega arith) (λ u. rw same at (is u)) in
           anyOf-same _ _ (blockHops block (n .scope))
-          (λ y t. ap (λ (b : Bool). b && hopLeads (tableBoard block goal) (n .left) (hasScope (n .free)) (n .state) y) (sym (own (y .step))))
+          (λ y t. ap (λ (b : Bool). b && hopLeads (tableBoard block goal) (n .left) (hasScope (n .free)) (n .state) y) (sym (own (y .step .label))))
 
-module _ (b : Board ℕ) (block : List ℕ) (fuel : ℕ) (free : ℕ → Bool) (s q c : ℕ) where
-  abbrev by-hop : HopOf ℕ → Bool
-  by-hop h = tableOrder block (by (h .step)) (endOf c) && hopLeads b fuel free q h
+module _ (b : Board Turned) (block : List ℕ) (fuel : ℕ) (free : ℕ → Bool) (s q c : ℕ) where
+  abbrev by-hop : HopOf Turned → Bool
+  by-hop h = tableOrder block (by (h .step)) (plainEnd (endOf c)) && hopLeads b fuel free q h
 
   abbrev by-stop : Bool
-  by-stop = b .here s q && tableOrder block stop (endOf c)
+  by-stop = b .here s q && tableOrder block stop (plainEnd (endOf c))
 
   -- an end that leads on and is preferred cuts
   pub cut-yes : (a : ℕ) → a < 9 → pairFlag block a c ≡ true → behindEnd b fuel free s q a ≡ true
-      → cutHere b (tableOrder block) fuel free s q (endOf c) ≡ true
-  unfolding cutHere behindEnd tableOrder endNumber
-  cut-yes zero h k m = or-left by-stop _ (and-both (b .here s q) _ m (rw (end-number c) k))
+      → cutHere b (tableOrder block) fuel free s q (plainEnd (endOf c)) ≡ true
+  unfolding cutHere behindEnd endNumber
+  cut-yes zero h k m = or-left by-stop _ (and-both (b .here s q) _ m (order-plain block stop c ∙ k))
   cut-yes (suc l) h k m =
-      let found = anyOf-elim (λ y. eqb (y .step) l && hopLeads b fuel free q y) (b .hops s) m in
+      let found = anyOf-elim (λ y. eqb (y .step .label) l && hopLeads b fuel free q y) (b .hops s) m in
       let hop = found .0 in
-      let is : hop .step ≡ l = eqb-true (hop .step) l (and-left (eqb (hop .step) l) _ (found .2)) in
-      let first : tableOrder block (by (hop .step)) (endOf c) ≡ true = rw (is, end-number c) k in
+      let is : hop .step .label ≡ l = eqb-true (hop .step .label) l (and-left (eqb (hop .step .label) l) _ (found .2)) in
+      let pair : pairFlag block (suc (hop .step .label)) c ≡ true = rw is k in
+      let first : tableOrder block (by (hop .step)) (plainEnd (endOf c)) ≡ true = order-plain block (by (hop .step)) c ∙ pair in
       or-right by-stop _ (anyOf-intro by-hop {a = hop} {l = b .hops s} (found .1)
-      (and-both (tableOrder block (by (hop .step)) (endOf c)) (hopLeads b fuel free q hop) first
-      (and-right (eqb (hop .step) l) (hopLeads b fuel free q hop) (found .2))))
+      (and-both (tableOrder block (by (hop .step)) (plainEnd (endOf c))) (hopLeads b fuel free q hop) first
+      (and-right (eqb (hop .step .label) l) (hopLeads b fuel free q hop) (found .2))))
 
   -- and nothing else does
-  cut-some : cutHere b (tableOrder block) fuel free s q (endOf c) ≡ true
+  cut-some : cutHere b (tableOrder block) fuel free s q (plainEnd (endOf c)) ≡ true
       → (a : ℕ) × (a < 9) × (pairFlag block a c ≡ true) × (behindEnd b fuel free s q a ≡ true)
-  unfolding cutHere behindEnd tableOrder endNumber
+  unfolding cutHere behindEnd endNumber
   cut-some e =
       ⊎-elim
-      (λ y. (0, omega arith, rw (end-number c) at (and-right (b .here s q) (tableOrder block stop (endOf c)) y), and-left (b .here s q) (tableOrder block stop (endOf c)) y))
+      (λ y. (0, omega arith, sym (order-plain block stop c) ∙ and-right (b .here s q) (tableOrder block stop (plainEnd (endOf c))) y, and-left (b .here s q) (tableOrder block stop (plainEnd (endOf c))) y))
       (λ y.
       let found = anyOf-elim by-hop (b .hops s) y in
       let hop = found .0 in
-      let first : pairFlag block (suc (hop .step)) c ≡ true = rw (end-number c) at (and-left (tableOrder block (by (hop .step)) (endOf c)) (hopLeads b fuel free q hop) (found .2)) in
-      let below : suc (hop .step) < 9 = pair-first block (suc (hop .step)) c first in (
-        suc (hop .step),
+      let first : pairFlag block (suc (hop .step .label)) c ≡ true =
+      sym (order-plain block (by (hop .step)) c) ∙ and-left (tableOrder block (by (hop .step)) (plainEnd (endOf c))) (hopLeads b fuel free q hop) (found .2) in
+      let below : suc (hop .step .label) < 9 = pair-first block (suc (hop .step .label)) c first in (
+        suc (hop .step .label),
         below,
         first,
-        anyOf-intro (λ y. eqb (y .step) (hop .step) && hopLeads b fuel free q y) {a = hop} {l = b .hops s} (found .1)
-            (and-both (eqb (hop .step) (hop .step)) (hopLeads b fuel free q hop) (eq-eqb (hop .step) (hop .step) refl)
-            (and-right (tableOrder block (by (hop .step)) (endOf c)) (hopLeads b fuel free q hop) (found .2))),
+        anyOf-intro (λ y. eqb (y .step .label) (hop .step .label) && hopLeads b fuel free q y) {a = hop} {l = b .hops s} (found .1)
+            (and-both (eqb (hop .step .label) (hop .step .label)) (hopLeads b fuel free q hop) (eq-eqb (hop .step .label) (hop .step .label) refl)
+            (and-right (tableOrder block (by (hop .step)) (plainEnd (endOf c))) (hopLeads b fuel free q hop) (found .2))),
       ))
       (or-cases by-stop _ e)
 
   -- if no end of the nine both leads on and is preferred, none is
   pub cut-none : ((a : ℕ) → a < 9 → pairFlag block a c ≡ true → behindEnd b fuel free s q a ≡ false)
-      → cutHere b (tableOrder block) fuel free s q (endOf c) ≡ false
+      → cutHere b (tableOrder block) fuel free s q (plainEnd (endOf c)) ≡ false
   cut-none h =
-      not-true (cutHere b (tableOrder block) fuel free s q (endOf c)) (λ y.
+      not-true (cutHere b (tableOrder block) fuel free s q (plainEnd (endOf c))) (λ y.
       let found = cut-some y in
       true-false (found .3) (h (found .0) (found .1) (found .2)))
 
   -- to an end past the ninth none is preferred
-  pub cut-past : 9 ≤ c → cutHere b (tableOrder block) fuel free s q (endOf c) ≡ false
+  pub cut-past : 9 ≤ c → cutHere b (tableOrder block) fuel free s q (plainEnd (endOf c)) ≡ false
   cut-past h = cut-none (λ a m k. absurd (false≢true (sym (pair-no-second block a c h) ∙ k)))
 
 -- the ends preferred to one, as a set: nine bits of a cell
@@ -180,12 +212,12 @@ module _ (block : List ℕ) (goal : ℕ) (n : Node) where
   -- what is known, and the ends preferred to the one with number c
   module _ (known c first : ℕ) (is : Known block goal n known) (better : Better block c first) where
     abbrev pub cut : Bool
-    cut = cutHere (tableBoard block goal) (tableOrder block) (n .left) (hasScope (n .free)) (n .scope) (n .state) (endOf c)
+    cut = cutHere (tableBoard block goal) (tableOrder block) (n .left) (hasScope (n .free)) (n .scope) (n .state) (plainEnd (endOf c))
 
     -- if one of them is known to lead on, the end is cut
     pub cut-known : known < 2 ^ 64 → first < 2 ^ 64 → (bitAnd known first ≡ 0 → ⊥) → cut ≡ true
-    cut-known h k some =
-        let e = bits-common 64 known first h k some in
+    cut-known h k common =
+        let e = bits-common 64 known first h k common in
         let first-is : pairFlag block (e .0) c ≡ true = sym (better (e .0)) ∙ e .3 in
         let below : e .0 < 9 = pair-first block (e .0) c first-is in
         cut-yes (tableBoard block goal) block (n .left) (hasScope (n .free)) (n .scope) (n .state) c (e .0) below first-is (is .leads (e .0) below (e .2))

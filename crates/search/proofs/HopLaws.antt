@@ -3,55 +3,56 @@ use mathlib.Core.Path.{_≡_, refl, sym, _∙_}
 use mathlib.Core.Logic.{_⊎_, inl, inr, ⊎-elim}
 use mathlib.Core.Bool.{true, false, and-false}
 use mathlib.Core.List.{List, [], _∷_, List·Memᴰ·cases-cons, List·Memᴰ·not-nil}
-use Prim.Native.Nat.{ℕ, zero, suc, _+_, _-_, _≤_, _<_}
+use Prim.Native.Nat.{ℕ, suc, _+_, _≤_, _<_}
 use native.Mathlib.Omega.{arith}
 use native.Mathlib.Numerals.{add-one}
 use Rattle.scope_graph.specs.Language.{_∈_}
 use Rattle.scope_graph.specs.Path.{HopOf}
-use Rattle.scope_graph.proofs.Lists.{Two, here, there}
+use Rattle.scope_graph.specs.Turns.{Turned}
+use Rattle.scope_graph.proofs.Lists.{Two}
 use Rattle.block.specs.Sets.{hasScope, hasLabel, ALL_LABELS}
-use Rattle.block.specs.Block.{nextCell, firstEdge, edgeCell, hopOf, hopsOn, blockHops}
+use Rattle.block.specs.Block.{nextCell, firstEdge, edgeCell, hopOf, hopsOn}
 use Rattle.block.proofs.SetLaws.{label-lacked}
-use Rattle.block.proofs.BlockLaws.{next-no-label, on-none, on-more, blockHops-in}
+use Rattle.block.proofs.BlockLaws.{next-no-label, on-none, on-more}
 use Rattle.search.specs.declared.Node.{Node}
 use Rattle.search.specs.Tables.{placeFlag}
 use Rattle.search.specs.Steps.{worthState, NextHop}
 use Rattle.search.proofs.Cells.{place-state, place-no-state}
 
 -- a hop worth entering, or none
-module _ (block table : List ℕ) (free q labels : ℕ) (h : HopOf ℕ) where
-  pub hop-yes : hasLabel labels (h .step) ≡ true → hasScope free (h .to) ≡ true → placeFlag table (h .to) (nextCell block q (h .step)) ≡ true
-      → worthState block table free q labels h ≡ nextCell block q (h .step)
+module _ (block table : List ℕ) (free q labels : ℕ) (h : HopOf Turned) where
+  pub hop-yes : hasLabel labels (h .step .label) ≡ true → hasScope free (h .to) ≡ true → placeFlag table (h .to) (nextCell block q (h .step .label)) ≡ true
+      → worthState block table free q labels h ≡ nextCell block q (h .step .label)
   unfolding worthState
   hop-yes w f p = rw (w, f, p, worthState)
 
-  pub hop-unasked : hasLabel labels (h .step) ≡ false → worthState block table free q labels h ≡ 16
+  pub hop-unasked : hasLabel labels (h .step .label) ≡ false → worthState block table free q labels h ≡ 16
   unfolding worthState
   hop-unasked w = rw (w, worthState)
 
   pub hop-taken : hasScope free (h .to) ≡ false → worthState block table free q labels h ≡ 16
   unfolding worthState
-  hop-taken f = rw (f, and-false (hasLabel labels (h .step)), worthState)
+  hop-taken f = rw (f, and-false (hasLabel labels (h .step .label)), worthState)
 
-  pub hop-dead : placeFlag table (h .to) (nextCell block q (h .step)) ≡ false → worthState block table free q labels h ≡ 16
+  pub hop-dead : placeFlag table (h .to) (nextCell block q (h .step .label)) ≡ false → worthState block table free q labels h ≡ 16
   unfolding worthState
-  hop-dead p = rw (p, and-false (hasScope free (h .to)), and-false (hasLabel labels (h .step)), worthState)
+  hop-dead p = rw (p, and-false (hasScope free (h .to)), and-false (hasLabel labels (h .step .label)), worthState)
 
   -- what a hop that is worth entering has
   pub record Worthy : Type 0 where
-    pub asked : hasLabel labels (h .step) ≡ true
+    pub asked : hasLabel labels (h .step .label) ≡ true
     pub free-to : hasScope free (h .to) ≡ true
-    pub held : placeFlag table (h .to) (nextCell block q (h .step)) ≡ true
+    pub held : placeFlag table (h .to) (nextCell block q (h .step .label)) ≡ true
 
   -- and what one that is not lacks
   abbrev pub Idle : Type 0
-  Idle = (hasLabel labels (h .step) ≡ false) ⊎ ((hasScope free (h .to) ≡ false) ⊎ (placeFlag table (h .to) (nextCell block q (h .step)) ≡ false))
+  Idle = (hasLabel labels (h .step .label) ≡ false) ⊎ ((hasScope free (h .to) ≡ false) ⊎ (placeFlag table (h .to) (nextCell block q (h .step .label)) ≡ false))
 
   worthy-or : Worthy ⊎ Idle
-  worthy-or = at (Two (hasLabel labels (h .step))) (Two (hasScope free (h .to))) (Two (placeFlag table (h .to) (nextCell block q (h .step))))
+  worthy-or = at (Two (hasLabel labels (h .step .label))) (Two (hasScope free (h .to))) (Two (placeFlag table (h .to) (nextCell block q (h .step .label))))
     where
-      at : (hasLabel labels (h .step) ≡ true) ⊎ (hasLabel labels (h .step) ≡ false) → (hasScope free (h .to) ≡ true) ⊎ (hasScope free (h .to) ≡ false)
-          → (placeFlag table (h .to) (nextCell block q (h .step)) ≡ true) ⊎ (placeFlag table (h .to) (nextCell block q (h .step)) ≡ false)
+      at : (hasLabel labels (h .step .label) ≡ true) ⊎ (hasLabel labels (h .step .label) ≡ false) → (hasScope free (h .to) ≡ true) ⊎ (hasScope free (h .to) ≡ false)
+          → (placeFlag table (h .to) (nextCell block q (h .step .label)) ≡ true) ⊎ (placeFlag table (h .to) (nextCell block q (h .step .label)) ≡ false)
           → Worthy ⊎ Idle
       at (inr w) f p = inr (inl w)
       at (inl w) (inr f) p = inr (inr (inl f))
@@ -61,7 +62,7 @@ module _ (block table : List ℕ) (free q labels : ℕ) (h : HopOf ℕ) where
   worthy-small : Worthy → worthState block table free q labels h < 16
   worthy-small w =
       let is = hop-yes (w .asked) (w .free-to) (w .held) in
-      omega (arith, is, place-state table (h .to) (nextCell block q (h .step)) (w .held))
+      omega (arith, is, place-state table (h .to) (nextCell block q (h .step .label)) (w .held))
 
   idle-large : Idle → worthState block table free q labels h ≡ 16
   idle-large = ⊎-elim hop-unasked (⊎-elim hop-taken hop-dead)
@@ -73,12 +74,12 @@ module _ (block table : List ℕ) (free q labels : ℕ) (h : HopOf ℕ) where
   idle k = ⊎-elim (λ w. absurd (omega (arith, worthy-small w))) (λ i. i) worthy-or
 
 -- of all labels: no state comes after one that is not of the eight, so its hop is worth nothing
-module _ (block : List ℕ) (q : ℕ) (h : HopOf ℕ) (lacked : hasLabel ALL_LABELS (h .step) ≡ false) where
-  pub all-stuck : 16 ≤ nextCell block q (h .step)
-  all-stuck = omega (arith, next-no-label block q (h .step) (label-lacked (h .step) lacked))
+module _ (block : List ℕ) (q : ℕ) (h : HopOf Turned) (lacked : hasLabel ALL_LABELS (h .step .label) ≡ false) where
+  pub all-stuck : 16 ≤ nextCell block q (h .step .label)
+  all-stuck = omega (arith, next-no-label block q (h .step .label) (label-lacked (h .step .label) lacked))
 
-  pub all-dead : (table : List ℕ) → placeFlag table (h .to) (nextCell block q (h .step)) ≡ false
-  all-dead table = place-no-state table (h .to) (nextCell block q (h .step)) all-stuck
+  pub all-dead : (table : List ℕ) → placeFlag table (h .to) (nextCell block q (h .step .label)) ≡ false
+  all-dead table = place-no-state table (h .to) (nextCell block q (h .step .label)) all-stuck
 
 -- the next hop, edge by edge
 module _ (block table : List ℕ) (n : Node) (labels i : ℕ) where
@@ -117,18 +118,3 @@ module _ (block table : List ℕ) (n : Node) (labels i : ℕ) where
     worth = λ k. absurd (omega arith);
     none = λ k. on-none block (n .scope) i past;
   }
-
--- an edge of the scope is one of its hops
-hop-on : (block : List ℕ) (s k p : ℕ) → p + k < firstEdge block (suc s) → hopOf (edgeCell block (p + k)) ∈ hopsOn block s p
-hop-on block s zero p h =
-    let same : p + 0 ≡ p = omega arith in
-    rw (same, on-more block s p (omega arith)) here
-hop-on block s (suc k) p h =
-    let same : p + suc k ≡ suc p + k = omega arith in
-    rw (on-more block s p (omega arith), same) (there (hop-on block s k (suc p) (omega arith)))
-
-pub hop-of-scope : (block : List ℕ) (s p : ℕ) → s < 64 → firstEdge block s ≤ p → p < firstEdge block (suc s)
-    → hopOf (edgeCell block p) ∈ blockHops block s
-hop-of-scope block s p inside from before =
-    let same : firstEdge block s + (p - firstEdge block s) ≡ p = omega arith in
-    rw (blockHops-in block s inside) (rw same at (hop-on block s (p - firstEdge block s) (firstEdge block s) (omega arith)))

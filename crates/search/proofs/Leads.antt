@@ -10,6 +10,7 @@ use native.Mathlib.Omega.{arith}
 use lib.Dec.{eqb}
 use Rattle.scope_graph.specs.Language.{_∈_}
 use Rattle.scope_graph.specs.Path.{HopOf}
+use Rattle.scope_graph.specs.Turns.{Turned}
 use Rattle.scope_graph.specs.Rows.{anyOf}
 use Rattle.scope_graph.proofs.Lists.{Two, anyOf-intro}
 use Rattle.block.specs.Sets.{hasScope, hasLabel, ALL_LABELS, placesOf}
@@ -37,7 +38,7 @@ taken-is free s r h = fun-ext h
 
 -- a closed table stays closed with a scope taken
 module _ (block : List ℕ) (goal free s r : ℕ) (taken : Taken free s r) where
-  closed-taken : (seek : ℕ → ℕ → Bool) (way : ℕ → ℕ → ℕ → Bool) (live : ℕ → ℕ → Bool) → Closed (tableBoard block goal) seek way (hasScope free) live
+  closed-taken : (seek : ℕ → ℕ → Bool) (way : ℕ → ℕ → Turned → Bool) (live : ℕ → ℕ → Bool) → Closed (tableBoard block goal) seek way (hasScope free) live
       → Closed (tableBoard block goal) seek way (hasScope r) live
   closed-taken seek way live c =
       closed-less (tableBoard block goal) seek way (hasScope r) (hasScope free) live
@@ -78,7 +79,7 @@ module _ (block : List ℕ) (goal : ℕ) where
   exists-here fuel free s q e = rw (e, existsFrom)
 
   -- a hop with no state behind it leads nowhere
-  leads-stuck : (n : Node) (h : HopOf ℕ) → stateOf (nextCell block (n .state) (h .step)) ≡ none
+  leads-stuck : (n : Node) (h : HopOf Turned) → stateOf (nextCell block (n .state) (h .step .label)) ≡ none
       → hopLeads (tableBoard block goal) (n .left) (hasScope (n .free)) (n .state) h ≡ false
   unfolding hopLeads leadsTo tableBoard
   leads-stuck n h e = at (Two (hasScope (n .free) (h .to)))
@@ -89,16 +90,19 @@ module _ (block : List ℕ) (goal : ℕ) where
       at (inr f) = rw (f, leadsTo)
 
   -- so to ask for all labels is to ask for every hop
-  leads-all : (n : Node) (hs : List (HopOf ℕ)) → anyOf (hopLeads (tableBoard block goal) (n .left) (hasScope (n .free)) (n .state)) hs
-      ≡ leadsBy (tableBoard block goal) n ALL_LABELS hs
-  leads-all n hs =
-      anyOf-same (hopLeads (tableBoard block goal) (n .left) (hasScope (n .free)) (n .state)) _ hs (λ h m. at h (Two (hasLabel ALL_LABELS (h .step))))
+  pub leads-each : (n : Node) (h : HopOf Turned) → hopLeads (tableBoard block goal) (n .left) (hasScope (n .free)) (n .state) h
+      ≡ (hasLabel ALL_LABELS (h .step .label) && hopLeads (tableBoard block goal) (n .left) (hasScope (n .free)) (n .state) h)
+  leads-each n h = at (Two (hasLabel ALL_LABELS (h .step .label)))
     where
-      at : (h : HopOf ℕ) → (hasLabel ALL_LABELS (h .step) ≡ true) ⊎ (hasLabel ALL_LABELS (h .step) ≡ false)
+      at : (hasLabel ALL_LABELS (h .step .label) ≡ true) ⊎ (hasLabel ALL_LABELS (h .step .label) ≡ false)
           → hopLeads (tableBoard block goal) (n .left) (hasScope (n .free)) (n .state) h
-          ≡ (hasLabel ALL_LABELS (h .step) && hopLeads (tableBoard block goal) (n .left) (hasScope (n .free)) (n .state) h)
-      at h (inl e) = rw e
-      at h (inr e) = leads-stuck n h (state-none (nextCell block (n .state) (h .step)) (all-stuck block (n .state) h e)) ∙ sym (rw e)
+          ≡ (hasLabel ALL_LABELS (h .step .label) && hopLeads (tableBoard block goal) (n .left) (hasScope (n .free)) (n .state) h)
+      at (inl e) = rw e
+      at (inr e) = leads-stuck n h (state-none (nextCell block (n .state) (h .step .label)) (all-stuck block (n .state) h e)) ∙ sym (rw e)
+
+  leads-all : (n : Node) (hs : List (HopOf Turned)) → anyOf (hopLeads (tableBoard block goal) (n .left) (hasScope (n .free)) (n .state)) hs
+      ≡ leadsBy (tableBoard block goal) n ALL_LABELS hs
+  leads-all n hs = anyOf-same (hopLeads (tableBoard block goal) (n .left) (hasScope (n .free)) (n .state)) _ hs (λ h m. leads-each n h)
 
   pub exists-on : (n : Node) → n .scope < 64 → placesOf goal (acceptSet block) (n .scope) (n .state) ≡ false
       → existsFrom (tableBoard block goal) (suc (n .left)) (hasScope (n .free)) (n .scope) (n .state)
@@ -108,48 +112,48 @@ module _ (block : List ℕ) (goal : ℕ) where
 
   module _ (n : Node) (labels : ℕ) where
     -- does the question ask for the hop, and does it lead on?
-    abbrev pub one : HopOf ℕ → Bool
-    one h = hasLabel labels (h .step) && hopLeads (tableBoard block goal) (n .left) (hasScope (n .free)) (n .state) h
+    abbrev pub one : HopOf Turned → Bool
+    one h = hasLabel labels (h .step .label) && hopLeads (tableBoard block goal) (n .left) (hasScope (n .free)) (n .state) h
 
-    one-unasked : (h : HopOf ℕ) → hasLabel labels (h .step) ≡ false → one h ≡ false
+    one-unasked : (h : HopOf Turned) → hasLabel labels (h .step .label) ≡ false → one h ≡ false
     one-unasked h e = rw e
 
-    one-taken : (h : HopOf ℕ) → hasScope (n .free) (h .to) ≡ false → one h ≡ false
+    one-taken : (h : HopOf Turned) → hasScope (n .free) (h .to) ≡ false → one h ≡ false
     unfolding hopLeads leadsTo
-    one-taken h e = rw (e, leadsTo) (and-false (hasLabel labels (h .step)))
+    one-taken h e = rw (e, leadsTo) (and-false (hasLabel labels (h .step .label)))
 
     -- with no hop left nothing is led to
-    one-over : n .left ≡ 0 → (h : HopOf ℕ) → one h ≡ false
+    pub one-over : n .left ≡ 0 → (h : HopOf Turned) → one h ≡ false
     unfolding hopLeads leadsTo tableBoard existsFrom
-    one-over z h = at (Two (hasScope (n .free) (h .to))) (stateOf (nextCell block (n .state) (h .step))) refl ∙ and-false (hasLabel labels (h .step))
+    one-over z h = at (Two (hasScope (n .free) (h .to))) (stateOf (nextCell block (n .state) (h .step .label))) refl ∙ and-false (hasLabel labels (h .step .label))
       where
-        at : (hasScope (n .free) (h .to) ≡ true) ⊎ (hasScope (n .free) (h .to) ≡ false) → (o : Option ℕ) → stateOf (nextCell block (n .state) (h .step)) ≡ o
-            → one h ≡ (hasLabel labels (h .step) && false)
+        at : (hasScope (n .free) (h .to) ≡ true) ⊎ (hasScope (n .free) (h .to) ≡ false) → (o : Option ℕ) → stateOf (nextCell block (n .state) (h .step .label)) ≡ o
+            → one h ≡ (hasLabel labels (h .step .label) && false)
         at (inr f) o e = rw (f, leadsTo)
         at (inl f) none e = rw (f, e, leadsTo)
         at (inl f) (some r) e = rw (f, e, z, leadsTo)
 
-    pub leads-over : n .left ≡ 0 → (hs : List (HopOf ℕ)) → leadsBy (tableBoard block goal) n labels hs ≡ false
+    pub leads-over : n .left ≡ 0 → (hs : List (HopOf Turned)) → leadsBy (tableBoard block goal) n labels hs ≡ false
     leads-over z hs = anyOf-no one hs (λ h m. one-over z h)
 
     -- a hop to a free scope, with the state behind it
-    one-state : (h : HopOf ℕ) (r : ℕ) → hasLabel labels (h .step) ≡ true → hasScope (n .free) (h .to) ≡ true → stateOf (nextCell block (n .state) (h .step)) ≡ some r
+    one-state : (h : HopOf Turned) (r : ℕ) → hasLabel labels (h .step .label) ≡ true → hasScope (n .free) (h .to) ≡ true → stateOf (nextCell block (n .state) (h .step .label)) ≡ some r
         → one h ≡ existsFrom (tableBoard block goal) (n .left) (without (hasScope (n .free)) (h .to)) (h .to) r
     unfolding hopLeads leadsTo tableBoard
     one-state h r w f e = rw (w, f, e, leadsTo)
 
-    one-stuck : (h : HopOf ℕ) → stateOf (nextCell block (n .state) (h .step)) ≡ none → one h ≡ false
-    one-stuck h e = rw (leads-stuck n h e) (and-false (hasLabel labels (h .step)))
+    one-stuck : (h : HopOf Turned) → stateOf (nextCell block (n .state) (h .step .label)) ≡ none → one h ≡ false
+    one-stuck h e = rw (leads-stuck n h e) (and-false (hasLabel labels (h .step .label)))
 
     -- whether the node behind a hop worth entering leads on is whether the hop does
-    one-enter : (table : List ℕ) (h : HopOf ℕ) (m : Node) → worthState block table (n .free) (n .state) labels h < 16
+    one-enter : (table : List ℕ) (h : HopOf Turned) (m : Node) → worthState block table (n .free) (n .state) labels h < 16
         → Entered n h (worthState block table (n .free) (n .state) labels h) m
         → one h ≡ existsFrom (tableBoard block goal) (suc (m .left)) (hasScope (m .free)) (m .scope) (m .state)
     one-enter table h m good in-m =
         let w = worthy block table (n .free) (n .state) labels h good in
         let is = hop-yes block table (n .free) (n .state) labels h (w .asked) (w .free-to) (w .held) in
-        one-state h (nextCell block (n .state) (h .step)) (w .asked) (w .free-to)
-        (state-some (nextCell block (n .state) (h .step)) (place-state table (h .to) (nextCell block (n .state) (h .step)) (w .held)))
+        one-state h (nextCell block (n .state) (h .step .label)) (w .asked) (w .free-to)
+        (state-some (nextCell block (n .state) (h .step .label)) (place-state table (h .to) (nextCell block (n .state) (h .step .label)) (w .held)))
         ∙ rw (in-m .left, in-m .scope, in-m .state, is, taken-is (n .free) (h .to) (m .free) (in-m .free))
 
     -- the node behind an edge whose hop is worth entering
@@ -163,29 +167,29 @@ module _ (block : List ℕ) (goal : ℕ) where
       pub enter-live : LiveAt block goal (hasScope (n .free)) table → LiveAt block goal (hasScope (m .free)) table
       enter-live = live-taken block goal (n .free) (hopOf (edgeCell block i) .to) (m .free) (behind .enters .free) table
 
-      enter-one : one (hopOf (edgeCell block i)) ≡ existsFrom (tableBoard block goal) (suc (m .left)) (hasScope (m .free)) (m .scope) (m .state)
+      pub enter-one : one (hopOf (edgeCell block i)) ≡ existsFrom (tableBoard block goal) (suc (m .left)) (hasScope (m .free)) (m .scope) (m .state)
       enter-one = one-enter table (hopOf (edgeCell block i)) m (behind .good) (behind .enters)
 
     -- a closed table: hops worth nothing lead nowhere
     module _ (live : List ℕ) (closed : LiveAt block goal (hasScope (n .free)) live) where
-      one-dead : (h : HopOf ℕ) → hasScope (n .free) (h .to) ≡ true → hasLabel labels (h .step) ≡ true → placeFlag live (h .to) (nextCell block (n .state) (h .step)) ≡ false → one h ≡ false
+      one-dead : (h : HopOf Turned) → hasScope (n .free) (h .to) ≡ true → hasLabel labels (h .step .label) ≡ true → placeFlag live (h .to) (nextCell block (n .state) (h .step .label)) ≡ false → one h ≡ false
       unfolding tableBoard
-      one-dead h f w d = at (stateOf (nextCell block (n .state) (h .step))) refl
+      one-dead h f w d = at (stateOf (nextCell block (n .state) (h .step .label))) refl
         where
-          at : (o : Option ℕ) → stateOf (nextCell block (n .state) (h .step)) ≡ o → one h ≡ false
+          at : (o : Option ℕ) → stateOf (nextCell block (n .state) (h .step .label)) ≡ o → one h ≡ false
           at none e = one-stuck h e
           at (some r) e =
               one-state h r w f e
               ∙ closed-exists (tableBoard block goal) (hasScope (n .free)) (placeFlag live) closed (n .left) (without (hasScope (n .free)) (h .to)) (h .to) r
-              (without-within (hasScope (n .free)) (hasScope (n .free)) (h .to) (λ k x. x)) f (rw (state-cell (nextCell block (n .state) (h .step)) r e) at d)
+              (without-within (hasScope (n .free)) (hasScope (n .free)) (h .to) (λ k x. x)) f (rw (state-cell (nextCell block (n .state) (h .step .label)) r e) at d)
 
-      pub one-idle : (h : HopOf ℕ) → 16 ≤ worthState block live (n .free) (n .state) labels h → one h ≡ false
+      pub one-idle : (h : HopOf Turned) → 16 ≤ worthState block live (n .free) (n .state) labels h → one h ≡ false
       one-idle h k =
-          ⊎-elim (one-unasked h) (⊎-elim (one-taken h) (λ d. at (Two (hasLabel labels (h .step))) (Two (hasScope (n .free) (h .to))) d))
+          ⊎-elim (one-unasked h) (⊎-elim (one-taken h) (λ d. at (Two (hasLabel labels (h .step .label))) (Two (hasScope (n .free) (h .to))) d))
           (idle block live (n .free) (n .state) labels h k)
         where
-          at : (hasLabel labels (h .step) ≡ true) ⊎ (hasLabel labels (h .step) ≡ false) → (hasScope (n .free) (h .to) ≡ true) ⊎ (hasScope (n .free) (h .to) ≡ false)
-              → placeFlag live (h .to) (nextCell block (n .state) (h .step)) ≡ false → one h ≡ false
+          at : (hasLabel labels (h .step .label) ≡ true) ⊎ (hasLabel labels (h .step .label) ≡ false) → (hasScope (n .free) (h .to) ≡ true) ⊎ (hasScope (n .free) (h .to) ≡ false)
+              → placeFlag live (h .to) (nextCell block (n .state) (h .step .label)) ≡ false → one h ≡ false
           at (inr w) f d = one-unasked h w
           at (inl w) (inr f) d = one-taken h f
           at (inl w) (inl f) d = one-dead h f w d

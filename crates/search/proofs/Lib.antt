@@ -14,5 +14,7 @@ pub mod Rules
 pub mod HopLaws
 pub mod Leads
 pub mod CutEnds
+pub mod Alike
+pub mod LaterLaws
 pub mod Parts
 pub mod Promises

@@ -12,7 +12,7 @@ use Rattle.scope_graph.specs.Path.{HopOf}
 use Rattle.scope_graph.specs.Rows.{anyOf}
 use Rattle.scope_graph.specs.Computed.{NodeOf, hopsAt, declaresAny}
 
--- A is what a step carries: in document 01 a label's number.
+-- A is what a step carries: a label, with a turn since 02's K12.
 pub record Board (A : Type 0) : Type 0 where
   -- the hops that leave a scope, in row sequence
   pub hops : ℕ → List (HopOf A)

@@ -6,7 +6,7 @@ use mathlib.Core.Bool.{Bool, true, false, not, _&&_}
 use mathlib.Core.List.{List}
 use lib.Dec.{eqb, ltb}
 use Rattle.scope_graph.specs.Language.{stop, by}
-use Rattle.scope_graph.specs.Path.{HopOf}
+use Rattle.scope_graph.specs.Turns.{Turned}
 use Rattle.scope_graph.specs.Rows.{anyOf}
 use Rattle.block.specs.Sets.{hasBit, hasScope, placesOf}
 use Rattle.block.specs.Block.{acceptSet}
@@ -27,7 +27,7 @@ freeAt start = without (λ t. ltb t 64) start
 -- Steps that may be followed: all but those that are cut wherever a path comes by them, since a
 -- scope of the set `cutting` is there, the state accepts, and stopping is preferred to the step.
 -- The empty set cuts none.
-unfoldable pub wayOf : List ℕ → ℕ → ℕ → ℕ → ℕ → Bool
+unfoldable pub wayOf : List ℕ → ℕ → ℕ → ℕ → Turned → Bool
 wayOf block cutting s q t = not (placesOf cutting (acceptSet block) s q && tableOrder block stop (by t))
 
 -- a table of places holds all from which what is sought can be reached, by any step
@@ -46,9 +46,9 @@ abbrev pub AwayAt : List ℕ → ℕ → List ℕ → Type 0
 AwayAt block goal away = Closed (tableBoard block goal) (placesOf 0 0) (wayOf block goal) (λ t. ltb t 64) (placeFlag away)
 
 -- does what is sought lie at the end with this number: here, or behind a hop with its label?
-unfoldable pub behindEnd : Board ℕ → ℕ → (ℕ → Bool) → ℕ → ℕ → ℕ → Bool
+unfoldable pub behindEnd : Board Turned → ℕ → (ℕ → Bool) → ℕ → ℕ → ℕ → Bool
 behindEnd b fuel free s q zero = b .here s q
-behindEnd b fuel free s q (suc l) = anyOf (λ h. eqb (h .step) l && hopLeads b fuel free q h) (b .hops s)
+behindEnd b fuel free s q (suc l) = anyOf (λ h. eqb (h .step .label) l && hopLeads b fuel free q h) (b .hops s)
 
 -- What is known of nine ends at a node, as the bits of a number: bit a says that what is sought
 -- lies at end a, bit 16 + a that it does not.

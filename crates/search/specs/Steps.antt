@@ -5,8 +5,9 @@ use mathlib.Core.Path.{_≡_}
 use mathlib.Core.Bool.{Bool, true, false, not, _&&_}
 use mathlib.Core.List.{List, [], _∷_, _++_}
 use lib.Dec.{eqb}
-use Rattle.scope_graph.specs.Language.{_∈_}
+use Rattle.scope_graph.specs.Language.{_∈_, by}
 use Rattle.scope_graph.specs.Path.{HopOf}
+use Rattle.scope_graph.specs.Turns.{Turned, laterStep}
 use Rattle.scope_graph.specs.Rows.{anyOf}
 use Rattle.block.specs.Sets.{hasScope, hasState, hasLabel, placesOf}
 use Rattle.block.specs.Block.{nextCell, firstEdge, edgeCell, hopOf, hopsOn, blockHops}
@@ -15,18 +16,18 @@ use Rattle.search.specs.Tables.{placeFlag}
 use Rattle.search.specs.declared.Node.{Node}
 
 -- the table lacks the place (s, q), though the hop leads from it to a place that it holds
-unfoldable pub lacks : List ℕ → (ℕ → ℕ → ℕ → Bool) → (ℕ → ℕ → Bool) → ℕ → HopOf ℕ → ℕ → Bool
-lacks block way live s h q = not (live s q) && (live (h .to) (nextCell block q (h .step)) && way s q (h .step))
+unfoldable pub lacks : List ℕ → (ℕ → ℕ → Turned → Bool) → (ℕ → ℕ → Bool) → ℕ → HopOf Turned → ℕ → Bool
+lacks block way live s h q = not (live s q) && (live (h .to) (nextCell block q (h .step .label)) && way s q (h .step))
 
 -- if the hop goes to a free scope, the table lacks no place that it leads from
-abbrev pub HopClosed : List ℕ → (ℕ → ℕ → ℕ → Bool) → (ℕ → Bool) → (ℕ → ℕ → Bool) → ℕ → HopOf ℕ → Type 0
+abbrev pub HopClosed : List ℕ → (ℕ → ℕ → Turned → Bool) → (ℕ → Bool) → (ℕ → ℕ → Bool) → ℕ → HopOf Turned → Type 0
 HopClosed block way free live s h = free (h .to) ≡ true → (q : ℕ) → q < 16 → lacks block way live s h q ≡ false
 
 -- the same of each hop of a scope, and of each free scope
-abbrev pub ScopeClosed : List ℕ → (ℕ → ℕ → ℕ → Bool) → (ℕ → Bool) → (ℕ → ℕ → Bool) → ℕ → Type 0
-ScopeClosed block way free live s = (h : HopOf ℕ) → h ∈ blockHops block s → HopClosed block way free live s h
+abbrev pub ScopeClosed : List ℕ → (ℕ → ℕ → Turned → Bool) → (ℕ → Bool) → (ℕ → ℕ → Bool) → ℕ → Type 0
+ScopeClosed block way free live s = (h : HopOf Turned) → h ∈ blockHops block s → HopClosed block way free live s h
 
-abbrev pub HopsClosed : List ℕ → (ℕ → ℕ → ℕ → Bool) → (ℕ → Bool) → (ℕ → ℕ → Bool) → Type 0
+abbrev pub HopsClosed : List ℕ → (ℕ → ℕ → Turned → Bool) → (ℕ → Bool) → (ℕ → ℕ → Bool) → Type 0
 HopsClosed block way free live = (s : ℕ) → free s ≡ true → ScopeClosed block way free live s
 
 -- no label leads on from a state outside the set
@@ -43,10 +44,10 @@ pub record Kept (a c : List ℕ) : Type 0 where
 
 -- the state after a hop with one of the labels, to a free scope, at a place that the table holds;
 -- else 16
-unfoldable pub worthState : List ℕ → List ℕ → ℕ → ℕ → ℕ → HopOf ℕ → ℕ
+unfoldable pub worthState : List ℕ → List ℕ → ℕ → ℕ → ℕ → HopOf Turned → ℕ
 worthState block table free q labels h =
-    elim (hasLabel labels (h .step) && (hasScope free (h .to) && placeFlag table (h .to) (nextCell block q (h .step)))) [
-      | true ↦ nextCell block q (h .step)
+    elim (hasLabel labels (h .step .label) && (hasScope free (h .to) && placeFlag table (h .to) (nextCell block q (h .step .label)))) [
+      | true ↦ nextCell block q (h .step .label)
       | false ↦ 16
     ]
 
@@ -54,9 +55,9 @@ worthState block table free q labels h =
 -- a number where none is left. The hops that stand before it are worth nothing.
 pub record NextHop (block table : List ℕ) (n : Node) (labels p r : ℕ) : Type 0 where
   pub on : p ≤ r
-  pub skipped : List (HopOf ℕ)
+  pub skipped : List (HopOf Turned)
   pub split : hopsOn block (n .scope) p ≡ skipped ++ hopsOn block (n .scope) r
-  pub idle : (h : HopOf ℕ) → h ∈ skipped → 16 ≤ worthState block table (n .free) (n .state) labels h
+  pub idle : (h : HopOf Turned) → h ∈ skipped → 16 ≤ worthState block table (n .free) (n .state) labels h
   pub found : r < firstEdge block (suc (n .scope))
       → hopsOn block (n .scope) r ≡ hopOf (edgeCell block r) ∷ hopsOn block (n .scope) (suc r)
   pub worth : r < firstEdge block (suc (n .scope)) → worthState block table (n .free) (n .state) labels (hopOf (edgeCell block r)) < 16
@@ -68,12 +69,17 @@ pub record HopAt (block table : List ℕ) (n : Node) (labels r : ℕ) : Type 0 w
   pub worth : worthState block table (n .free) (n .state) labels (hopOf (edgeCell block r)) < 16
 
 -- m is the node behind the hop, in state r: its scope is taken, and one hop fewer may be entered
-pub record Entered (n : Node) (h : HopOf ℕ) (r : ℕ) (m : Node) : Type 0 where
+pub record Entered (n : Node) (h : HopOf Turned) (r : ℕ) (m : Node) : Type 0 where
   pub free : (u : ℕ) → hasScope (m .free) u ≡ (hasScope (n .free) u && not (eqb u (h .to)))
   pub left : suc (m .left) ≡ n .left
   pub scope : m .scope ≡ h .to
   pub state : m .state ≡ r
 
 -- does one of the hops, with one of the labels, lead from the node to what is sought?
-abbrev pub leadsBy : Board ℕ → Node → ℕ → List (HopOf ℕ) → Bool
-leadsBy b n labels hs = anyOf (λ h. hasLabel labels (h .step) && hopLeads b (n .left) (hasScope (n .free)) (n .state) h) hs
+abbrev pub leadsBy : Board Turned → Node → ℕ → List (HopOf Turned) → Bool
+leadsBy b n labels hs = anyOf (λ h. hasLabel labels (h .step .label) && hopLeads b (n .left) (hasScope (n .free)) (n .state) h) hs
+
+-- does one of the hops, with the step's label and a higher turn, lead from the node to what is
+-- sought (02, K12)?
+abbrev pub laterLeads : Board Turned → Node → Turned → List (HopOf Turned) → Bool
+laterLeads b n t hs = anyOf (λ h. laterStep (by (h .step)) (by t) && hopLeads b (n .left) (hasScope (n .free)) (n .state) h) hs

@@ -16,9 +16,10 @@ ghost use mathlib.Core.Path.{_≡_};
 ghost use mathlib.Core.Bool.{true, false};
 ghost use Prim.Native.Nat.{ℕ, _≤_, _<_};
 ghost use lib.ListN.{length};
+ghost use Rattle.scope_graph.specs.Turns.{Turned};
 ghost use Rattle.block.specs.Sets.{hasScope, hasState};
 ghost use Rattle.block.specs.Layout.{IsBlock};
-ghost use Rattle.block.specs.Block.{Still, nextCell, hopOf};
+ghost use Rattle.block.specs.Block.{Bounds, nextCell, hopOf};
 ghost use Rattle.search.specs.Tables.{placeFlag};
 ghost use Rattle.search.specs.Conditions.{wayOf};
 ghost use Rattle.search.specs.Steps.{HopClosed, ScopeClosed, HopsClosed, Leading};
@@ -33,7 +34,7 @@ fn first_states(n: u64) -> u64
 // The states from which a label may lead on.
 pub fn leading(block: &[u64]) -> u64
     requires block { ⌜ IsBlock (now block) ⌝ }
-    requires still { ⌜ Still (now block) ⌝ }
+    requires bounds { ⌜ Bounds (now block) ⌝ }
     ensures leading { λ r. ⌜ Leading (now (block .entry)) r ⌝ }
 {
     first_states(state_count(block))
@@ -44,7 +45,7 @@ pub fn barred(block: &[u64], cutting: u64, s: u64, label: u64) -> u64
     requires block { ⌜ IsBlock (now block) ⌝ }
     requires scope { ⌜ s < 64 ⌝ }
     requires label { ⌜ label < 8 ⌝ }
-    ensures cut { λ r. ⌜ ((q : ℕ) → hasState r q ≡ true → wayOf (now (block .entry)) cutting s q label ≡ false) ⌝ }
+    ensures cut { λ r. ⌜ ((q : ℕ) (t : Turned) → t .label ≡ label → hasState r q ≡ true → wayOf (now (block .entry)) cutting s q t ≡ false) ⌝ }
 {
     if has(cutting, s) {
         if pair(block, 0, label + 1) {

@@ -14,17 +14,17 @@ ghost use Prim.Native.Nat.{ℕ, _<_, _≤_};
 ghost use lib.ListN.{length};
 ghost use Rattle.scope_graph.specs.Order.{endOf};
 ghost use Rattle.block.specs.Layout.{IsBlock};
-ghost use Rattle.block.specs.Block.{Still, pairFlag};
+ghost use Rattle.block.specs.Block.{Bounds, pairFlag};
 ghost use Rattle.block.specs.Sets.{hasBit, hasScope};
 ghost use Rattle.search.specs.Board.{cutHere};
-ghost use Rattle.search.specs.Tables.{tableOrder, tableBoard};
+ghost use Rattle.search.specs.Tables.{plainEnd, tableOrder, tableBoard};
 ghost use Rattle.search.specs.Conditions.{Inside, LiveAt, Known, behindEnd};
 
 // Does what is sought lie at the end with number a: here, or behind a hop with its label? The
 // nearest way is tried first.
 fn end_leads(block: &[u64], goal: u64, live: &[u64], n: Node, a: u64) -> bool
     requires block { ⌜ IsBlock (now block) ⌝ }
-    requires still { ⌜ Still (now block) ⌝ }
+    requires bounds { ⌜ Bounds (now block) ⌝ }
     requires table { ⌜ 64 ≤ length (now live) ⌝ }
     requires inside { ⌜ Inside n ⌝ }
     requires live { ⌜ LiveAt (now block) goal (hasScope (n .free)) (now live) ⌝ }
@@ -58,17 +58,17 @@ fn better(block: &[u64], c: u64) -> u64
     block[BETTER + c as usize] % 512
 }
 
-// Is the end with number c cut at the node? Only ends that are preferred to it are asked about, and
-// each once for all questions at the node: what was learnt is handed on.
+// Is the end with number c cut at the node, by its label alone? Only ends that are preferred to it
+// are asked about, and each once for all questions at the node: what was learnt is handed on.
 pub fn learn(block: &[u64], goal: u64, live: &[u64], n: Node, known: u64, c: u64) -> Learnt
     requires block { ⌜ IsBlock (now block) ⌝ }
-    requires still { ⌜ Still (now block) ⌝ }
+    requires bounds { ⌜ Bounds (now block) ⌝ }
     requires table { ⌜ 64 ≤ length (now live) ⌝ }
     requires inside { ⌜ Inside n ⌝ }
     requires live { ⌜ LiveAt (now block) goal (hasScope (n .free)) (now live) ⌝ }
     requires known { ⌜ Known (now block) goal n known ⌝ }
     ensures known { λ r. ⌜ Known (now (block .entry)) goal n (r .known) ⌝ }
-    ensures cut { λ r. ⌜ r .cut ≡ cutHere (tableBoard (now (block .entry)) goal) (tableOrder (now (block .entry))) (n .left) (hasScope (n .free)) (n .scope) (n .state) (endOf c) ⌝ }
+    ensures cut { λ r. ⌜ r .cut ≡ cutHere (tableBoard (now (block .entry)) goal) (tableOrder (now (block .entry))) (n .left) (hasScope (n .free)) (n .scope) (n .state) (plainEnd (endOf c)) ⌝ }
 {
     if 8 < c {
         return Learnt { known, cut: false };

@@ -16,7 +16,7 @@ ghost use mathlib.Core.Path.{_≡_};
 ghost use Prim.Native.Nat.{suc, _<_, _≤_};
 ghost use lib.ListN.{length};
 ghost use Rattle.block.specs.Layout.{IsBlock};
-ghost use Rattle.block.specs.Block.{Still, acceptSet, hopsOn};
+ghost use Rattle.block.specs.Block.{Bounds, acceptSet, hopsOn};
 ghost use Rattle.block.specs.Sets.{hasScope, placesOf};
 ghost use Rattle.search.specs.Board.{existsFrom};
 ghost use Rattle.search.specs.Tables.{tableBoard};
@@ -43,9 +43,9 @@ pub enum Table {
 }
 
 // Is what is sought at the node itself or behind it?
-fn exists_at(block: &[u64], goal: u64, live: &[u64], n: Node) -> bool
+pub(crate) fn exists_at(block: &[u64], goal: u64, live: &[u64], n: Node) -> bool
     requires block { ⌜ IsBlock (now block) ⌝ }
-    requires still { ⌜ Still (now block) ⌝ }
+    requires bounds { ⌜ Bounds (now block) ⌝ }
     requires table { ⌜ 64 ≤ length (now live) ⌝ }
     requires inside { ⌜ Inside n ⌝ }
     requires live { ⌜ LiveAt (now block) goal (hasScope (n .free)) (now live) ⌝ }
@@ -78,7 +78,7 @@ pub fn exists_from(
     p: u64,
 ) -> bool
     requires block { ⌜ IsBlock (now block) ⌝ }
-    requires still { ⌜ Still (now block) ⌝ }
+    requires bounds { ⌜ Bounds (now block) ⌝ }
     requires table { ⌜ 64 ≤ length (now live) ⌝ }
     requires inside { ⌜ Inside n ⌝ }
     requires live { ⌜ LiveAt (now block) goal (hasScope (n .free)) (now live) ⌝ }

@@ -16,7 +16,7 @@ ghost use Prim.Native.Nat.{ℕ, _≤_, _<_};
 ghost use lib.ListN.{length};
 ghost use Rattle.block.specs.Sets.{hasScope, placesOf};
 ghost use Rattle.block.specs.Layout.{IsBlock};
-ghost use Rattle.block.specs.Block.{Still};
+ghost use Rattle.block.specs.Block.{Bounds};
 ghost use Rattle.search.specs.Live.{Closed};
 ghost use Rattle.search.specs.Tables.{placeFlag, tableBoard};
 ghost use Rattle.search.specs.Conditions.{wayOf, LiveAt, AwayAt};
@@ -25,7 +25,7 @@ ghost use Rattle.search.specs.Conditions.{wayOf, LiveAt, AwayAt};
 // no step that a scope of `cutting` cuts.
 pub fn live_table(block: &[u64], cutting: u64, scopes: u64, states: u64, free: u64) -> [u64; 64]
     requires block { ⌜ IsBlock (now block) ⌝ }
-    requires still { ⌜ Still (now block) ⌝ }
+    requires bounds { ⌜ Bounds (now block) ⌝ }
     ensures closed { λ r. ⌜ ((goal : ℕ) → Closed (tableBoard (now (block .entry)) goal) (placesOf scopes states) (wayOf (now (block .entry)) cutting) (hasScope free) (placeFlag r)) ⌝ }
 {
     let full = leading(block);
@@ -59,7 +59,7 @@ fn prepare(block: &[u64], goal: u64, free: u64, full: u64, start: u64, out: &mut
 // where that was not found out. On the distances no answer depends, only which way is tried first.
 pub fn goal_table(block: &[u64], goal: u64, free: u64, start: u64) -> [u64; 192]
     requires block { ⌜ IsBlock (now block) ⌝ }
-    requires still { ⌜ Still (now block) ⌝ }
+    requires bounds { ⌜ Bounds (now block) ⌝ }
     requires scope { ⌜ start < 64 ⌝ }
     ensures live { λ r. ⌜ LiveAt (now (block .entry)) goal (hasScope free) r ⌝ }
 {
@@ -77,7 +77,7 @@ pub fn goal_table(block: &[u64], goal: u64, free: u64, start: u64) -> [u64; 192]
 // that the table is closed, and no more: who uses it looks whether the start is in it.
 pub fn away_table(block: &[u64], goal: u64, start: u64) -> [u64; 64]
     requires block { ⌜ IsBlock (now block) ⌝ }
-    requires still { ⌜ Still (now block) ⌝ }
+    requires bounds { ⌜ Bounds (now block) ⌝ }
     requires scope { ⌜ start < 64 ⌝ }
     ensures away { λ r. ⌜ AwayAt (now (block .entry)) goal r ⌝ }
 {

@@ -19,9 +19,11 @@ pub const SUMMARY: usize = 64;
 /// Bytes that the program lends for a listing.
 pub const LISTING: usize = 65_536;
 /// The forms of file, as the first cell of a graph table has them: names alone, which are of the
-/// kind `v`, or kinds and names.
+/// kind `v`, or kinds and names; with kinds and names also a turn for each edge, which is 0 in the
+/// other forms.
 pub const OLD_FORM: u64 = 0;
 pub const WITH_KINDS: u64 = 1;
+pub const WITH_TURNS: u64 = 2;
 /// Stack that serves every call, in bytes: counted, not proved.
 pub const STACK: usize = 3 * 512 * 1024;
 
@@ -81,14 +83,14 @@ impl fmt::Display for Refusal {
         f.write_str(match self {
             Refusal::TooLong => "the file is longer than 32,768 bytes",
             Refusal::Malformed => "a line or a table's row is not of its section's form, or a section is missing",
-            Refusal::OutOfRange => "a scope, state, mark, count or label is outside its range or list",
+            Refusal::OutOfRange => "a scope, state, mark, count, turn or label is outside its range or list",
             Refusal::NotAscending => "a row repeats or does not ascend",
             Refusal::TooManyRows => "a section has a row past its limit",
             Refusal::NoOrder => "the order has a pair with equal ends, or pairs a, b and b, c without a, c",
             Refusal::NoQuery => "there is no query of this number",
             Refusal::NoPathRow => "a path row is not of its form",
             Refusal::NoRoom => "the memory lent is too short for the output or the steps",
-            Refusal::NoOldForm => "the old form has no kinds, and a declaration or a query is of another than v",
+            Refusal::NoOldForm => "the old form has no kinds and no turns, and a kind is not v or a turn is not 0",
         })
     }
 }
@@ -259,13 +261,14 @@ pub fn summary(text: &[u8], out: &mut [u8]) -> Result<usize, Refusal> {
     written(unsafe { library::tewhoranu_summary(text.as_ptr(), text.len(), out.as_mut_ptr(), out.len()) })
 }
 
-/// Writes the file in the old form and answers how many bytes were written. A kind other than `v` is refused.
+/// Writes the file in the old form and answers how many bytes were written. A kind other than `v` is refused,
+/// and so is a turn other than 0.
 pub fn to_old(text: &[u8], out: &mut [u8]) -> Result<usize, Refusal> {
     // SAFETY: as said above.
     written(unsafe { library::tewhoranu_to_old(text.as_ptr(), text.len(), out.as_mut_ptr(), out.len()) })
 }
 
-/// Writes the file in the form with kinds and answers how many bytes were written.
+/// Writes the file in the form with kinds, one with turns as it is, and answers how many bytes were written.
 pub fn to_new(text: &[u8], out: &mut [u8]) -> Result<usize, Refusal> {
     // SAFETY: as said above.
     written(unsafe { library::tewhoranu_to_new(text.as_ptr(), text.len(), out.as_mut_ptr(), out.len()) })

@@ -2,7 +2,7 @@
 //! memory is compared whole, after refusals too.
 
 use crate::differ;
-use crate::files::without_pairs;
+use crate::files::{without_pairs, without_turns};
 use plain::random::{damaged_row, damaged_table, path_row, Rng};
 use std::collections::BTreeMap;
 use std::fmt::Debug;
@@ -211,9 +211,12 @@ impl Test {
             self.write(&table[..n]);
             let damaged = damaged_table(&mut self.rng, &table[..n]);
             self.write(&damaged);
-            // the same rows in the other form: in the old one a kind other than `v` is refused
-            table[0] = 1 - table[0];
-            self.write(&table[..n]);
+            // the same rows in the other forms: in the old one a kind other than `v` is refused, and
+            // in both of those without turns a turn other than 0
+            for form in [tewhoranu::OLD_FORM, tewhoranu::WITH_KINDS, tewhoranu::WITH_TURNS] {
+                table[0] = form;
+                self.write(&table[..n]);
+            }
         }
         self.summary(text);
         self.conversions(text);
@@ -221,9 +224,9 @@ impl Test {
             Ok(gym) => (gym.queries.len(), gym.scopes as usize, gym.labels.clone()),
             Err(_) => (1, 5, b"AB".to_vec()),
         };
-        // without order pairs a query sees all that it reaches: rows that are visible or shadowed
-        // with them
-        let unordered = without_pairs(text);
+        // without order pairs and turns a query sees all that it reaches: rows that are visible or
+        // shadowed with them
+        let unordered = without_turns(&without_pairs(text));
         let mut shown = Vec::new();
         for query in 0..queries + 1 {
             self.name_sought(text, query);

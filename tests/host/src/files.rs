@@ -18,30 +18,74 @@ pub fn without_pairs(text: &[u8]) -> Vec<u8> {
     lines.concat()
 }
 
-/// The names lines by which the two forms of file differ, the old one first.
-const LINES: [[&[u8]; 2]; 2] =
-    [[b"at name mark\n", b"at kind name mark\n"], [b"start seek\n", b"start kind seek\n"]];
+/// The file with every turn 0, its edges sorted; the file as it is where it says no turns or is too damaged to tell them.
+pub fn without_turns(text: &[u8]) -> Vec<u8> {
+    let mut lines: Vec<Vec<u8>> = text.split_inclusive(|&b| b == b'\n').map(<[u8]>::to_vec).collect();
+    let at = |names: &[u8]| lines.iter().position(|line| line == names);
+    let (Some(first), Some(last)) = (at(b"from label turn to\n"), at(b"at kind name mark\n")) else {
+        return text.to_vec();
+    };
+    let labels: Vec<Vec<u8>> = lines.iter().skip(1).take_while(|line| *line != b"less more\n").cloned().collect();
+    let mut rows = Vec::new();
+    for line in lines.get(first + 1..last).unwrap_or(&[]) {
+        let fields: Vec<String> = String::from_utf8_lossy(line).trim_end().split(' ').map(String::from).collect();
+        let number = |i: usize| fields.get(i).and_then(|field| field.parse::<usize>().ok());
+        let letter = fields.get(1).map(|letter| format!("{letter}\n").into_bytes());
+        let label = labels.iter().position(|l| Some(l) == letter.as_ref());
+        let (Some(from), Some(label), Some(to)) = (number(0), label, number(3)) else {
+            return text.to_vec();
+        };
+        rows.push((from, label, to, format!("{from} {} 0 {to}\n", fields[1]).into_bytes()));
+    }
+    rows.sort();
+    for (line, row) in lines[first + 1..].iter_mut().zip(rows) {
+        *line = row.3;
+    }
+    lines.concat()
+}
+
+/// The names lines by which the forms of file differ, the old one first.
+const LINES: [[&[u8]; 2]; 3] = [
+    [b"from label to\n", b"from label turn to\n"],
+    [b"at name mark\n", b"at kind name mark\n"],
+    [b"start seek\n", b"start kind seek\n"],
+];
 
 /// A file that is whole line by line, with a fault that small damage seldom makes: an order pair
-/// left out, an order pair with equal ends, a second count of scopes, one names line of the other
-/// form or both.
+/// left out, an order pair with equal ends, a second count of scopes, an edge that is there at
+/// another turn, one names line of another form or all.
 fn faulty(rng: &mut Rng, text: &[u8]) -> Vec<u8> {
     let mut lines: Vec<&[u8]> = text.split_inclusive(|&b| b == b'\n').collect();
     let at = |names: &[u8]| names_line(&lines, names).expect("an accepted file has them all");
     let pairs = at(b"less more\n") + 1..at(b"state label next\n");
     let scopes = at(b"scopes\n") + 1;
-    match rng.below(5) {
+    let edges = names_line(&lines, b"from label turn to\n").zip(names_line(&lines, b"at kind name mark\n"));
+    let again;
+    match rng.below(6) {
         0 if !pairs.is_empty() => {
             lines.remove(pairs.start + rng.below(pairs.len()));
         }
         1 => {
             lines.splice(pairs, [&b"$ $\n"[..]]);
         }
-        2 => other_line(&mut lines, LINES[rng.below(2)]),
+        2 => other_line(&mut lines, LINES[rng.below(3)]),
+        4 if edges.is_some_and(|(first, last)| first + 1 < last) => {
+            let (first, last) = edges.expect("edges");
+            let edge = first + 1 + rng.below(last - first - 1);
+            again = at_turn_99(lines[edge]);
+            lines.insert(last, &again);
+        }
         3 => LINES.into_iter().for_each(|both| other_line(&mut lines, both)),
         _ => lines.insert(scopes, lines[scopes]),
     }
     lines.concat()
+}
+
+/// An edge with the turn 99.
+fn at_turn_99(row: &[u8]) -> Vec<u8> {
+    let mut fields: Vec<&[u8]> = row.split(|&b| b == b' ').collect();
+    fields[2] = b"99";
+    fields.join(&b' ')
 }
 
 /// One form's names line put in place of the other's.
@@ -53,7 +97,7 @@ fn other_line<'a>(lines: &mut [&'a [u8]], both: [&'a [u8]; 2]) {
     }
 }
 
-/// A random file of either form: small or of middle size, whole or with a fault.
+/// A random file of any form: small or of middle size, whole or with a fault.
 pub fn file(rng: &mut Rng) -> Vec<u8> {
     let text = if rng.below(4) == 0 { gym(rng, MIDDLE) } else { gym(rng, SMALL) };
     match rng.below(6) {

@@ -17,12 +17,13 @@ const ROWS: &[u8] = b"mark path\n";
 
 /// Appends the names line and the values that the query gives.
 fn push_head(out: &mut Vec<u8>, form: Form, query: Query) {
-    out.extend_from_slice(match form {
-        Form::Old => HEAD,
-        Form::Kinds => HEAD_WITH_KIND,
+    out.extend_from_slice(if form.has_kinds() {
+        HEAD_WITH_KIND
+    } else {
+        HEAD
     });
     push_number(out, u64::from(query.start));
-    if form == Form::Kinds {
+    if form.has_kinds() {
         out.extend_from_slice(&[b' ', query.name.kind]);
     }
     out.push(b' ');
@@ -178,7 +179,7 @@ pub fn to_old(text: &[u8], out: &mut [u8]) -> Result<usize, Refusal> {
     put(&in_form(text, Form::Old)?, out)
 }
 
-/// Writes a text in the form with kinds; answers the bytes written.
+/// Writes a text in the form with kinds, one with turns as it is; answers the bytes written.
 pub fn to_new(text: &[u8], out: &mut [u8]) -> Result<usize, Refusal> {
     put(&in_form(text, Form::Kinds)?, out)
 }

@@ -1,4 +1,4 @@
-//! Document 01's rules by plain enumeration: every simple path, each held against every other.
+//! The rules of documents 01 and 02 by plain enumeration: every simple path, each held against every other.
 //! Slow, for small graphs, and with no code of the search in it. Only a gym's rows are taken from
 //! the reader.
 
@@ -8,7 +8,16 @@ use std::cmp::Ordering;
 /// A kind and a name (02, K8).
 pub type Name = (char, String);
 
-/// A graph or a completion of one: any number of scopes, any marks.
+/// An edge row, or one of a completion: its turn is any whole number (02, K12).
+#[derive(Clone, Copy, Debug, PartialEq, Eq)]
+pub struct Row {
+    pub from: usize,
+    pub label: u8,
+    pub turn: u64,
+    pub to: usize,
+}
+
+/// A graph or a completion of one: any number of scopes, any marks, any turns.
 #[derive(Clone)]
 pub struct Graph {
     /// Pairs of ends, `None` being `$`.
@@ -18,7 +27,7 @@ pub struct Graph {
     pub transitions: Vec<(u8, u8, u8)>,
     pub accepts: Vec<u8>,
     pub scopes: usize,
-    pub edges: Vec<(usize, u8, usize)>,
+    pub edges: Vec<Row>,
     pub declarations: Vec<(usize, Name, u64)>,
 }
 
@@ -73,7 +82,13 @@ impl Graph {
             edges: gym
                 .edges
                 .iter()
-                .map(|e| (e.from as usize, e.label, e.to as usize))
+                .zip(&gym.turns)
+                .map(|(e, &turn)| Row {
+                    from: e.from as usize,
+                    label: e.label,
+                    turn: u64::from(turn),
+                    to: e.to as usize,
+                })
                 .collect(),
             declarations: gym
                 .declarations
@@ -100,10 +115,10 @@ impl Graph {
         let mut at = 0;
         while at < paths.len() {
             let path = paths[at].clone();
-            for &(from, label, to) in &self.edges {
-                if from == path.last() && !path.visits(to) {
+            for row in &self.edges {
+                if row.from == path.last() && !path.visits(row.to) {
                     let mut longer = path.clone();
-                    longer.steps.push((label, to));
+                    longer.steps.push((row.label, row.to));
                     paths.push(longer);
                 }
             }
@@ -141,17 +156,37 @@ impl Graph {
         paths
     }
 
+    /// The turn of a step, if it is an edge row.
+    fn turn(&self, at: usize, step: (u8, usize)) -> Option<u64> {
+        let is_step = |row: &&Row| row.from == at && (row.label, row.to) == step;
+        self.edges.iter().find(is_step).map(|row| row.turn)
+    }
+
+    /// At one scope: is going on by the first step preferred to going on by the second, or, where
+    /// there is no step, is ending?
+    fn preferred(&self, at: usize, a: Option<(u8, usize)>, b: Option<(u8, usize)>) -> bool {
+        if self.order.contains(&(a.map(|s| s.0), b.map(|s| s.0))) {
+            return true;
+        }
+        let (Some(a), Some(b)) = (a, b) else {
+            return false;
+        };
+        match (self.turn(at, a), self.turn(at, b)) {
+            (Some(t), Some(u)) => a.0 == b.0 && t > u,
+            _ => false,
+        }
+    }
+
     pub fn more_specific(&self, p: &Path, q: &Path) -> bool {
         if p.start != q.start {
             return false;
         }
+        let mut at = p.start;
         for i in 0.. {
-            let (a, b) = (p.steps.get(i), q.steps.get(i));
-            if a != b {
-                return self.order.contains(&(a.map(|s| s.0), b.map(|s| s.0)));
-            }
-            if a.is_none() {
-                return false;
+            match (p.steps.get(i).copied(), q.steps.get(i).copied()) {
+                (None, None) => break,
+                (Some(a), Some(b)) if a == b => at = a.1,
+                (a, b) => return self.preferred(at, a, b),
             }
         }
         false
@@ -184,21 +219,31 @@ impl Graph {
     }
 
     /// A completion that adds to the old scopes at one pair only, as much as can matter: a
-    /// declaration with an unused mark, or an edge into a chain of new scopes, as many as there are
-    /// states, linked by every label, that all declare the name.
+    /// declaration with an unused mark, or an edge, of a turn above all, into a chain of new scopes,
+    /// as many as there are states, linked by every label, that all declare the name.
     fn fullest(&self, name: &Name, scope: usize, end: Option<u8>) -> Graph {
         let mut graph = self.clone();
         let unused = 1 + self.declarations.iter().map(|d| d.2).max().unwrap_or(0);
         match end {
             None => graph.declarations.push((scope, name.clone(), unused)),
             Some(label) => {
-                graph.edges.push((scope, label, self.scopes));
+                graph.edges.push(Row {
+                    from: scope,
+                    label,
+                    turn: 1 + self.edges.iter().map(|row| row.turn).max().unwrap_or(0),
+                    to: self.scopes,
+                });
                 graph.scopes += self.states();
                 for new in self.scopes..graph.scopes {
                     graph.declarations.push((new, name.clone(), unused));
                     for label in 0..self.labels {
                         if new + 1 < graph.scopes {
-                            graph.edges.push((new, label, new + 1));
+                            graph.edges.push(Row {
+                                from: new,
+                                label,
+                                turn: 0,
+                                to: new + 1,
+                            });
                         }
                     }
                 }
@@ -261,7 +306,7 @@ pub fn listing(gym: &Gym, query: Query) -> Vec<u8> {
     let (start, (kind, text)) = (query.start, sought);
     let mut out = match gym.form {
         Form::Old => format!("start seek found awaits\n{start} {text} {found} {awaits}\n"),
-        Form::Kinds => {
+        Form::Kinds | Form::Turns => {
             format!("start kind seek found awaits\n{start} {kind} {text} {found} {awaits}\n")
         }
     };

@@ -1,8 +1,10 @@
 //! The gym file: text and graph table read, admitted and written.
 //!
-//! A row is five cells, the same as in the graph table: a name takes two, an end is 0 for `$` and
+//! A row is five cells, as many as in the graph table: a name takes two, an end is 0 for `$` and
 //! n + 1 for label number n. Text and table give rows to one `Admission`, which tests 5, 3 and 4.
-//! Both forms of file have the same cells: in the old one, which shows no kinds, each kind is `v`.
+//! All forms of file have the same cells: where no kinds are shown each is `v`, and where no turns
+//! are shown each is 0. In an admission an edge with a turn has its line's columns, `from label
+//! turn to`; everywhere else the turn is its last cell (`turn_last`).
 
 pub type Refusal = u8;
 pub type Row = [u64; 5];
@@ -21,6 +23,7 @@ enum Field {
     Kind,
     Name,
     Mark,
+    Turn,
 }
 
 struct Section {
@@ -31,7 +34,7 @@ struct Section {
     key: usize,
 }
 
-use Field::{Count, End, Label, Letter, Mark, Scope, State};
+use Field::{Count, End, Label, Letter, Mark, Scope, State, Turn};
 
 const SECTIONS: [Section; 9] = [
     Section {
@@ -90,9 +93,18 @@ const SECTIONS: [Section; 9] = [
     },
 ];
 
+/// The edges of a file with turns.
+const TURNED: Section = Section {
+    title: "from label turn to",
+    limit: 512,
+    fields: &[Scope, Label, Turn, Scope],
+    key: 4,
+};
+
 const LABELS: usize = 0;
 const ORDER: usize = 1;
 const SCOPES: usize = 4;
+const EDGES: usize = 5;
 const DECLARATIONS: usize = 6;
 const QUERIES: usize = 8;
 
@@ -102,16 +114,40 @@ pub enum Form {
     #[default]
     Old = 0,
     Kinds = 1,
+    Turns = 2,
+}
+
+impl Form {
+    const ALL: [Form; 3] = [Form::Old, Form::Kinds, Form::Turns];
+
+    pub fn has_kinds(self) -> bool {
+        self != Form::Old
+    }
 }
 
 /// The kind that a file of the old form does not show.
 pub const USUAL: u8 = b'v';
 
+fn section_of(form: Form, section: usize) -> &'static Section {
+    if section == EDGES && form == Form::Turns {
+        &TURNED
+    } else {
+        &SECTIONS[section]
+    }
+}
+
 fn title(form: Form, section: usize) -> &'static [u8] {
-    match (form, section) {
-        (Form::Kinds, DECLARATIONS) => b"at kind name mark",
-        (Form::Kinds, QUERIES) => b"start kind seek",
-        _ => SECTIONS[section].title.as_bytes(),
+    match section {
+        DECLARATIONS if form.has_kinds() => b"at kind name mark",
+        QUERIES if form.has_kinds() => b"start kind seek",
+        _ => section_of(form, section).title.as_bytes(),
+    }
+}
+
+/// A row by its line's columns with the turn behind them, and the other way round.
+fn turn_last(form: Form, section: usize, row: &mut Row) {
+    if section == EDGES && form == Form::Turns {
+        row.swap(2, 3);
     }
 }
 
@@ -162,32 +198,58 @@ pub struct Gym {
     pub accepts: Vec<u8>,
     pub scopes: u8,
     pub edges: Vec<Edge>,
+    /// The turn of each edge. It stands apart, as a search that meets no turn does not ask for it.
+    pub turns: Vec<u8>,
     pub declarations: Vec<Declaration>,
     pub open: Vec<(u8, u8)>,
     pub queries: Vec<Query>,
 }
 
 /// What the rows so far allow the next one to be.
-#[derive(Default)]
 struct Admission {
     form: Form,
     section: usize,
+    /// The section's shape in this form.
+    shape: &'static Section,
     rows: usize,
     last: Row,
+    /// The scopes that the edges above lead to by the last one's label, where turns are shown.
+    met: u64,
     labels: Vec<u8>,
     scopes: u64,
     order: Vec<(u64, u64)>,
 }
 
 impl Admission {
+    fn new(form: Form) -> Admission {
+        Admission {
+            form,
+            section: 0,
+            shape: section_of(form, 0),
+            rows: 0,
+            last: [0; 5],
+            met: 0,
+            labels: Vec::new(),
+            scopes: 0,
+            order: Vec::new(),
+        }
+    }
+
     /// Goes on to the next section; false if this one may not be left.
     fn leave(&mut self) -> bool {
         if self.section == SCOPES && self.rows == 0 {
             return false;
         }
         self.section += 1;
+        self.shape = section_of(self.form, self.section);
         self.rows = 0;
         true
+    }
+
+    /// The form that a names line says, where it is the first to say it.
+    fn found(&mut self, form: Form) {
+        self.form = form;
+        self.shape = section_of(form, self.section);
     }
 
     fn in_range(&self, field: Field, cell: u64) -> bool {
@@ -199,11 +261,12 @@ impl Admission {
             Count => (1..=64).contains(&cell),
             Scope => cell < self.scopes,
             Mark => cell <= 65_535,
+            Turn => cell < 100,
         }
     }
 
     fn admit(&mut self, row: &Row) -> Result<(), Refusal> {
-        let section = &SECTIONS[self.section];
+        let section = self.shape;
         if self.rows == section.limit {
             return Err(5);
         }
@@ -229,6 +292,11 @@ impl Admission {
                 match self.section {
                     ORDER => self.order.push((row[0], row[1])),
                     SCOPES => self.scopes = row[0],
+                    EDGES if self.form == Form::Turns => {
+                        if self.repeats(row) {
+                            return Err(4);
+                        }
+                    }
                     _ => {}
                 }
             }
@@ -236,6 +304,17 @@ impl Admission {
         self.last = *row;
         self.rows += 1;
         Ok(())
+    }
+
+    /// Does an edge with a turn lead where one above it led by the same label? Edges that leave one
+    /// scope by one label stand together.
+    fn repeats(&mut self, row: &Row) -> bool {
+        if self.rows == 0 || self.last[..2] != row[..2] {
+            self.met = 0;
+        }
+        let before = self.met;
+        self.met |= 1 << row[3];
+        self.met == before
     }
 
     fn order_is_strict(&self) -> bool {
@@ -312,7 +391,7 @@ pub fn unpack(name: u128) -> Option<([u8; 16], usize)> {
 fn row_of_line(admission: &Admission, line: &[u8]) -> Option<Row> {
     let mut row = [0; 5];
     let (mut at, mut cell) = (0, 0);
-    for (i, &field) in SECTIONS[admission.section].fields.iter().enumerate() {
+    for (i, &field) in admission.shape.fields.iter().enumerate() {
         if field == Field::Kind && admission.form == Form::Old {
             row[cell] = u64::from(USUAL);
             cell += 1;
@@ -353,7 +432,7 @@ fn row_of_line(admission: &Admission, line: &[u8]) -> Option<Row> {
                 row[cell] = packed as u64;
                 at += len;
             }
-            State | Count | Scope | Mark => {
+            State | Count | Scope | Mark | Turn => {
                 let (value, len) = number(rest)?;
                 row[cell] = value;
                 at += len;
@@ -377,7 +456,7 @@ fn read_rows(text: &[u8], mut take: impl FnMut(usize, &Row)) -> Result<Form, Ref
     if lines.next() != Some(SECTIONS[0].title.as_bytes()) {
         return Err(2);
     }
-    let mut admission = Admission::default();
+    let mut admission = Admission::new(Form::Old);
     let mut line = lines.next().ok_or(2)?;
     // What follows the last LF is no line and must be empty.
     for following in lines {
@@ -385,16 +464,23 @@ fn read_rows(text: &[u8], mut take: impl FnMut(usize, &Row)) -> Result<Form, Ref
             if admission.section == QUERIES || !admission.leave() {
                 return Err(2);
             }
-            // The declarations' names line is the first that differs from form to form.
-            if admission.section == DECLARATIONS && line == title(Form::Kinds, DECLARATIONS) {
-                admission.form = Form::Kinds;
+            // The edges' names line says turns; else that of the declarations says the form.
+            if admission.section == EDGES && line == title(Form::Turns, EDGES) {
+                admission.found(Form::Turns);
+            }
+            if admission.section == DECLARATIONS
+                && admission.form == Form::Old
+                && line == title(Form::Kinds, DECLARATIONS)
+            {
+                admission.found(Form::Kinds);
             }
             if line != title(admission.form, admission.section) {
                 return Err(2);
             }
         } else {
-            let row = row_of_line(&admission, line).ok_or(2)?;
+            let mut row = row_of_line(&admission, line).ok_or(2)?;
             admission.admit(&row)?;
+            turn_last(admission.form, admission.section, &mut row);
             take(admission.section, &row);
         }
         line = following;
@@ -432,11 +518,14 @@ impl Gym {
             }),
             3 => self.accepts.push(small(0)),
             4 => self.scopes = small(0),
-            5 => self.edges.push(Edge {
-                from: small(0),
-                label: small(1),
-                to: small(2),
-            }),
+            5 => {
+                self.edges.push(Edge {
+                    from: small(0),
+                    label: small(1),
+                    to: small(2),
+                });
+                self.turns.push(small(3));
+            }
             6 => self.declarations.push(Declaration {
                 at: small(0),
                 name: name(),
@@ -464,14 +553,15 @@ pub fn read(text: &[u8], table: &mut [u64]) -> Result<usize, Refusal> {
     Ok(cells.len())
 }
 
-/// Whether a table's row could be written: numbers of five digits, letters, names, unused cells 0.
+/// Whether a table's row could be written: numbers of five digits, letters, names, unused cells 0,
+/// that of the turn too where none are shown.
 fn has_form(form: Form, section: usize, row: &Row) -> bool {
     let mut cell = 0;
-    for &field in SECTIONS[section].fields {
+    for &field in section_of(form, section).fields {
         let good = match field {
             Letter => (65..=90).contains(&row[cell]),
             Label | End => true,
-            State | Count | Scope | Mark => row[cell] <= 99_999,
+            State | Count | Scope | Mark | Turn => row[cell] <= 99_999,
             Field::Kind if form == Form::Old => row[cell] == u64::from(USUAL),
             Field::Kind => (97..=122).contains(&row[cell]),
             Field::Name => {
@@ -519,7 +609,7 @@ pub fn push_end(out: &mut Vec<u8>, labels: &[u8], end: u64) {
 /// Writes an admitted row's line.
 fn push_line(out: &mut Vec<u8>, form: Form, section: usize, row: &Row, labels: &[u8]) {
     let mut cell = 0;
-    for (i, &field) in SECTIONS[section].fields.iter().enumerate() {
+    for (i, &field) in section_of(form, section).fields.iter().enumerate() {
         if field == Field::Kind && form == Form::Old {
             cell += 1;
             continue;
@@ -531,7 +621,7 @@ fn push_line(out: &mut Vec<u8>, form: Form, section: usize, row: &Row, labels: &
             Letter | Field::Kind => out.push(row[cell] as u8),
             Label => out.push(labels[row[cell] as usize]),
             End => push_end(out, labels, row[cell]),
-            State | Count | Scope | Mark => push_number(out, row[cell]),
+            State | Count | Scope | Mark | Turn => push_number(out, row[cell]),
             Field::Name => {
                 cell += 1;
                 push_name(out, u128::from(row[cell - 1]) << 64 | u128::from(row[cell]));
@@ -550,14 +640,8 @@ fn push_title(out: &mut Vec<u8>, form: Form, section: usize) {
 /// Writes a graph table's text; answers the bytes written.
 pub fn write(table: &[u64], out: &mut [u8]) -> Result<usize, Refusal> {
     let (&form, rows) = table.split_first().ok_or(2)?;
-    let form = [Form::Old, Form::Kinds]
-        .into_iter()
-        .find(|&f| f as u64 == form)
-        .ok_or(2)?;
-    let mut admission = Admission {
-        form,
-        ..Admission::default()
-    };
+    let form = Form::ALL.into_iter().find(|&f| f as u64 == form).ok_or(2)?;
+    let mut admission = Admission::new(form);
     let mut text = Vec::new();
     push_title(&mut text, form, 0);
     for cells in rows.chunks(6) {
@@ -571,7 +655,8 @@ pub fn write(table: &[u64], out: &mut [u8]) -> Result<usize, Refusal> {
             }
             push_title(&mut text, form, admission.section);
         }
-        let row: Row = cells[1..].try_into().map_err(|_| 2)?;
+        let mut row: Row = cells[1..].try_into().map_err(|_| 2)?;
+        turn_last(form, admission.section, &mut row);
         if !has_form(form, admission.section, &row) {
             return Err(2);
         }
@@ -592,20 +677,27 @@ pub fn write(table: &[u64], out: &mut [u8]) -> Result<usize, Refusal> {
     Ok(text.len())
 }
 
-/// A text in a form of file. Where that is the old one, 14 is a kind that it does not show.
-pub fn in_form(text: &[u8], form: Form) -> Result<Vec<u8>, Refusal> {
+/// A text in the old form or in the one with kinds. A text with turns has kinds. To the old form
+/// 14 is a kind or a turn that it does not show.
+pub fn in_form(text: &[u8], wanted: Form) -> Result<Vec<u8>, Refusal> {
     let mut sections: [Vec<Row>; 9] = Default::default();
-    read_rows(text, |section, row| sections[section].push(*row))?;
+    let form = read_rows(text, |section, row| sections[section].push(*row))?;
+    if form == Form::Turns && wanted == Form::Kinds {
+        return Ok(text.to_vec());
+    }
     let mut named = sections[DECLARATIONS].iter().chain(&sections[QUERIES]);
-    if form == Form::Old && named.any(|row| row[1] != u64::from(USUAL)) {
+    if wanted == Form::Old
+        && (named.any(|row| row[1] != u64::from(USUAL))
+            || sections[EDGES].iter().any(|row| row[3] != 0))
+    {
         return Err(14);
     }
     let labels: Vec<u8> = sections[LABELS].iter().map(|row| row[0] as u8).collect();
     let mut out = Vec::new();
     for (section, rows) in sections.iter().enumerate() {
-        push_title(&mut out, form, section);
+        push_title(&mut out, wanted, section);
         for row in rows {
-            push_line(&mut out, form, section, row, &labels);
+            push_line(&mut out, wanted, section, row, &labels);
         }
     }
     Ok(out)

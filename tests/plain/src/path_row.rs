@@ -1,6 +1,6 @@
 //! Path rows: taken apart, written, compared.
 
-use crate::gym::{number, push_number, Gym, Refusal};
+use crate::gym::{number, push_number, Edge, Gym, Refusal};
 
 pub const MOST_STEPS: usize = 63;
 pub const LONGEST_ROW: usize = 256;
@@ -81,17 +81,27 @@ pub fn fill(table: &mut [Step], row: &PathRow) {
     table[..row.steps.len()].copy_from_slice(&row.steps);
 }
 
-fn prefers(gym: &Gym, a: Option<u8>, b: Option<u8>) -> bool {
-    let end = |letter: Option<u8>| match letter {
-        None => Some(0),
-        Some(letter) => gym
-            .labels
-            .iter()
-            .position(|&l| l == letter)
-            .map(|n| n as u8 + 1),
-    };
-    match (end(a), end(b)) {
-        (Some(a), Some(b)) => gym.order.contains(&(a, b)),
+/// A step's label number and, if it is an edge row, its turn.
+type Numbered = (u8, Option<u8>);
+
+/// The number of a step's label; `None` for a letter that the file does not list. `at` is the scope
+/// that it leaves.
+fn numbered(gym: &Gym, at: u8, step: Step) -> Option<Numbered> {
+    let label = gym.labels.iter().position(|&l| l == step.letter)? as u8;
+    let due = (at, label, step.scope);
+    let is_due = |e: &Edge| (e.from, e.label, e.to) == due;
+    let row = gym.edges.iter().position(is_due);
+    Some((label, row.map(|i| gym.turns[i])))
+}
+
+/// Is going on by `a` preferred to going on by `b`, `None` being the path's end?
+fn prefers(gym: &Gym, a: Option<Numbered>, b: Option<Numbered>) -> bool {
+    let end = |step: Option<Numbered>| step.map_or(0, |(label, _)| label + 1);
+    if gym.order.contains(&(end(a), end(b))) {
+        return true;
+    }
+    match (a, b) {
+        (Some((label, Some(turn))), Some((other, Some(lower)))) => label == other && turn > lower,
         _ => false,
     }
 }
@@ -106,8 +116,17 @@ pub fn compare_rows(gym: &Gym, first: &PathRow, second: &PathRow) -> Compared {
         .zip(&second.steps)
         .take_while(|(a, b)| a == b)
         .count();
-    let a = first.steps.get(same).map(|s| s.letter);
-    let b = second.steps.get(same).map(|s| s.letter);
+    let at = first.steps[..same].last().map_or(first.start, |s| s.scope);
+    let mut ends = [None; 2];
+    for (end, row) in ends.iter_mut().zip([first, second]) {
+        if let Some(&step) = row.steps.get(same) {
+            let Some(numbered) = numbered(gym, at, step) else {
+                return Compared::Neither;
+            };
+            *end = Some(numbered);
+        }
+    }
+    let [a, b] = ends;
     if prefers(gym, a, b) {
         Compared::First
     } else if prefers(gym, b, a) {

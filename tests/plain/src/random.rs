@@ -1,5 +1,7 @@
-//! Random gyms in both forms of file, path rows, and damage to them. The same seed gives the same
+//! Random gyms in all forms of file, path rows, and damage to them. The same seed gives the same
 //! inputs everywhere.
+
+use crate::gym::Form;
 
 pub struct Rng(u64);
 
@@ -66,11 +68,18 @@ pub const MIDDLE: Size = Size {
 /// Ascending, and one a beginning of the other.
 const NAMES: [&str; 2] = ["service", "service_2"];
 const KINDS: [&str; 3] = ["c", "l", "v"];
+/// The turns that a file's edges take. In one of them the column is zeros.
+const TURNS: [&[usize]; 5] = [&[0], &[0, 1], &[1, 2], &[0, 1, 2, 99], &[3, 9, 10, 50]];
 const MARKS: [usize; 6] = [0, 1, 2, 10, 99, 65_535];
 
 /// Up to `most` different numbers below `all`, ascending.
 fn subset(rng: &mut Rng, all: usize, most: usize) -> Vec<usize> {
     let count = rng.below(most.min(all) + 1);
+    chosen(rng, all, count)
+}
+
+/// So many different numbers below `all`, ascending.
+fn chosen(rng: &mut Rng, all: usize, count: usize) -> Vec<usize> {
     let mut chosen: Vec<usize> = (0..all).collect();
     rng.shuffle(&mut chosen);
     chosen.truncate(count);
@@ -108,11 +117,22 @@ fn order(rng: &mut Rng, ends: usize) -> Vec<(usize, usize)> {
     pairs
 }
 
-/// The names that a file's rows take, ascending, as they stand in a row: in half of the files with
-/// kinds, up to three of them, drawn.
-fn names(rng: &mut Rng) -> (bool, Vec<String>) {
-    if rng.below(2) == 0 {
-        return (false, NAMES.map(String::from).to_vec());
+fn form(rng: &mut Rng) -> Form {
+    match rng.below(12) {
+        0..=3 => Form::Old,
+        4..=6 => Form::Kinds,
+        _ => Form::Turns,
+    }
+}
+
+/// The names that a file's rows take, ascending, as they stand in a row: in files with kinds up to
+/// three of them, drawn. Most files with turns have a single one, which is then at many scopes.
+fn names(rng: &mut Rng, form: Form) -> Vec<String> {
+    if !form.has_kinds() {
+        return NAMES.map(String::from).to_vec();
+    }
+    if form == Form::Turns && rng.below(4) > 0 {
+        return vec![format!("{} {}", rng.pick(&KINDS), rng.pick(&NAMES))];
     }
     let kinds = &KINDS[rng.below(KINDS.len())..];
     let names = &NAMES[rng.below(NAMES.len())..];
@@ -122,23 +142,68 @@ fn names(rng: &mut Rng) -> (bool, Vec<String>) {
             .map(move |name| format!("{kind} {name}"))
             .collect::<Vec<_>>()
     };
-    (true, kinds.iter().flat_map(each).collect())
+    kinds.iter().flat_map(each).collect()
+}
+
+/// The edges' names line and rows; where the file has turns, these are drawn, and the rows are many,
+/// so that several leave a scope by one label.
+fn edges(rng: &mut Rng, form: Form, scopes: usize, letters: &[char], most: usize) -> String {
+    let turns = *rng.pick(&TURNS);
+    let labels = letters.len();
+    let all = scopes * labels * scopes;
+    let mut count = rng.below(most.min(all) + 1);
+    if form == Form::Turns {
+        count = count.max(most.min(all) * 2 / 3);
+    }
+    let mut rows = Vec::new();
+    for edge in chosen(rng, all, count) {
+        let (from, rest) = (edge / scopes / labels, edge % (scopes * labels));
+        let turn = if form == Form::Turns {
+            *rng.pick(turns)
+        } else {
+            0
+        };
+        rows.push((from, rest / scopes, turn, rest % scopes));
+    }
+    rows.sort();
+    let line = |(from, label, turn, to): (usize, usize, usize, usize)| match form {
+        Form::Turns => format!("{from} {} {turn} {to}\n", letters[label]),
+        _ => format!("{from} {} {to}\n", letters[label]),
+    };
+    let names = match form {
+        Form::Turns => "from label turn to\n",
+        _ => "from label to\n",
+    };
+    rows.into_iter()
+        .map(line)
+        .fold(names.to_string(), |text, row| text + &row)
 }
 
 /// A gym file's text that is accepted.
 pub fn gym(rng: &mut Rng, size: Size) -> Vec<u8> {
     let mut letters: Vec<char> = ('A'..='Z').collect();
     rng.shuffle(&mut letters);
+    let form = form(rng);
     // Mostly with labels; a gym without any has one-scope paths only.
     let labels = if rng.below(20) == 0 {
         0
+    } else if form == Form::Turns {
+        1 + rng.below(size.labels.min(2))
     } else {
         1 + rng.below(size.labels)
     };
     let letters = &letters[..labels];
     let end = |e: usize| if e == 0 { '$' } else { letters[e - 1] };
-    let states = 1 + rng.below(size.states);
-    let scopes = 1 + rng.below(size.scopes);
+    // Where turns decide, several edges of a label lead on: half of the files with turns have one
+    // state, and all of them some scopes.
+    let states = match form {
+        Form::Turns if rng.below(2) == 0 => 1,
+        _ => 1 + rng.below(size.states),
+    };
+    let scopes = match form {
+        Form::Turns => 3 + rng.below(size.scopes - 2),
+        _ => 1 + rng.below(size.scopes),
+    };
     let mut text = String::from("label\n");
     for letter in letters {
         text += &format!("{letter}\n");
@@ -162,16 +227,10 @@ pub fn gym(rng: &mut Rng, size: Size) -> Vec<u8> {
             text += &format!("{state}\n");
         }
     }
-    text += &format!("scopes\n{scopes}\nfrom label to\n");
-    for edge in subset(rng, scopes * labels * scopes, size.edges) {
-        let (from, label, to) = (
-            edge / scopes / labels,
-            edge / scopes % labels,
-            edge % scopes,
-        );
-        text += &format!("{from} {} {to}\n", letters[label]);
-    }
-    let (kinds, names) = names(rng);
+    let kinds = form.has_kinds();
+    text += &format!("scopes\n{scopes}\n");
+    text += &edges(rng, form, scopes, letters, size.edges);
+    let names = names(rng, form);
     text += if kinds {
         "at kind name mark\n"
     } else {
@@ -202,7 +261,7 @@ pub fn gym(rng: &mut Rng, size: Size) -> Vec<u8> {
 }
 
 const BYTES: &[u8] = b"0123456789 \n\n$ABIPZ[@abcvz_`{-/:+\x00\x7f\x80\xff";
-const PIECES: [&str; 33] = [
+const PIECES: [&str; 38] = [
     "0",
     "1",
     "15",
@@ -232,6 +291,11 @@ const PIECES: [&str; 33] = [
     "start kind seek",
     "at name mark",
     "at kind name mark",
+    "from label to",
+    "from label turn to",
+    "turn ",
+    "99",
+    "100",
     "kind ",
     "c",
     "v ",
@@ -359,6 +423,7 @@ pub fn damaged_table(rng: &mut Rng, cells: &[u64]) -> Vec<u64> {
             0,
             1,
             2,
+            3,
             5,
             8,
             9,
@@ -371,6 +436,7 @@ pub fn damaged_table(rng: &mut Rng, cells: &[u64]) -> Vec<u64> {
             96,
             97,
             99,
+            100,
             118,
             122,
             123,

@@ -16,9 +16,14 @@ fn holds(places: &Places, scope: u8, state: u8) -> bool {
     places[state as usize] & bit(scope) != 0
 }
 
+/// By label, the turn that an edge must have at a node to be followed there.
+type Turns = [u8; 8];
+
 /// What all queries of a gym share.
 pub struct Rules<'a> {
     gym: &'a Gym,
+    /// Is there a turn other than 0?
+    turned: bool,
     next: [[u8; 8]; 16],
     accepting: u16,
     /// States from which transitions alone reach acceptance.
@@ -37,6 +42,7 @@ impl<'a> Rules<'a> {
     pub fn new(gym: &'a Gym) -> Rules<'a> {
         let mut rules = Rules {
             gym,
+            turned: gym.turns.iter().any(|&turn| turn != 0),
             next: [[NONE; 8]; 16],
             accepting: 0,
             hopeful: 0,
@@ -75,6 +81,11 @@ impl<'a> Rules<'a> {
 
     fn leaving(&self, scope: u8) -> &'a [Edge] {
         &self.gym.edges[self.first_edge[scope as usize]..self.first_edge[scope as usize + 1]]
+    }
+
+    /// The turns of these edges.
+    fn turns_leaving(&self, scope: u8) -> &'a [u8] {
+        &self.gym.turns[self.first_edge[scope as usize]..self.first_edge[scope as usize + 1]]
     }
 
     fn accepts(&self, state: u8) -> bool {
@@ -246,6 +257,31 @@ impl<'a> Search<'a> {
         cut & wanted
     }
 
+    /// Of each of the `wanted` ends the highest turn by which a reached path goes on from this node,
+    /// that of the last edge of its label that leads on. An edge of the label with a lower turn is
+    /// cut; one with this turn is not.
+    fn turns(&self, at: u8, state: u8, path: u64, live: &Places, wanted: u16) -> Turns {
+        let mut turns = [0; 8];
+        let mut done = !wanted;
+        let edges = self.rules.leaving(at);
+        let given = self.rules.turns_leaving(at);
+        for (i, edge) in edges.iter().enumerate().rev() {
+            let end = 1 << (edge.label + 1);
+            // The first edge of its label has the lowest turn and cuts none.
+            let first = i == 0 || edges[i - 1].label != edge.label;
+            if done & end != 0 || first {
+                continue;
+            }
+            if let Some(next) = self.enter(edge, state, path, live) {
+                if self.exists(edge.to, next, path | bit(edge.to), live) {
+                    turns[edge.label as usize] = given[i];
+                    done |= end;
+                }
+            }
+        }
+        turns
+    }
+
     /// The ends by which a path may go on from this node into `places`.
     fn ends_into(&self, at: u8, state: u8, path: u64, places: &Places) -> u16 {
         let mut ends = 0;
@@ -262,7 +298,13 @@ impl<'a> Search<'a> {
         if holds(&self.live, self.start, 0) {
             let mut steps = Vec::with_capacity(64);
             let mut found = false;
-            self.follow(
+            let follow = if self.rules.turned {
+                Self::follow::<true, _>
+            } else {
+                Self::follow::<false, _>
+            };
+            follow(
+                self,
                 self.start,
                 0,
                 bit(self.start),
@@ -274,20 +316,26 @@ impl<'a> Search<'a> {
         }
     }
 
+    /// `TURNED`: whether some turn is not 0; a file without turns is not to pay for them.
     #[allow(clippy::too_many_arguments)]
-    fn follow(
+    fn follow<const TURNED: bool, V: FnMut(&[Edge], u16) -> Go>(
         &self,
         at: u8,
         state: u8,
         path: u64,
         live: &Places,
         steps: &mut Vec<Edge>,
-        visit: &mut impl FnMut(&[Edge], u16) -> Go,
+        visit: &mut V,
         found: &mut bool,
     ) -> Go {
         let ends = self.ends_into(at, state, path, live);
         let stop = u16::from(self.matches(at, state));
         let cut = self.cuts(at, state, path, live, ends | stop);
+        let turns = if TURNED {
+            self.turns(at, state, path, live, ends & !cut)
+        } else {
+            [0; 8]
+        };
         if stop & !cut != 0 {
             *found = true;
             for mark in self.marks(at) {
@@ -297,15 +345,18 @@ impl<'a> Search<'a> {
             }
         }
         let mut finer = None;
-        for edge in self.rules.leaving(at) {
+        for (i, edge) in self.rules.leaving(at).iter().enumerate() {
             if cut >> (edge.label + 1) & 1 == 1 {
+                continue;
+            }
+            if TURNED && self.rules.turns_leaving(at)[i] < turns[edge.label as usize] {
                 continue;
             }
             let table = finer.as_ref().unwrap_or(live);
             if let Some(next) = self.enter(edge, state, path, table) {
                 let mut below = false;
                 steps.push(*edge);
-                let go = self.follow(
+                let go = self.follow::<TURNED, _>(
                     edge.to,
                     next,
                     path | bit(edge.to),
@@ -377,12 +428,25 @@ impl<'a> Search<'a> {
             targets,
         };
         let places = self.goals_off(&goal, 0);
+        let reaches = if self.rules.turned {
+            Self::reaches::<true>
+        } else {
+            Self::reaches::<false>
+        };
         holds(&places, self.start, 0)
-            && self.reaches(&goal, self.start, 0, bit(self.start), &places, &self.live)
+            && reaches(
+                self,
+                &goal,
+                self.start,
+                0,
+                bit(self.start),
+                &places,
+                &self.live,
+            )
     }
 
     /// Is the goal's end followed at or behind this followed node?
-    fn reaches(
+    fn reaches<const TURNED: bool>(
         &self,
         goal: &Goal,
         at: u8,
@@ -396,21 +460,24 @@ impl<'a> Search<'a> {
             return holds(&goal.targets, at, state)
                 && self.cuts(at, state, path, live, wanted) == 0;
         }
-        let cut = self.cuts(
-            at,
-            state,
-            path,
-            live,
-            self.ends_into(at, state, path, places),
-        );
+        let ends = self.ends_into(at, state, path, places);
+        let cut = self.cuts(at, state, path, live, ends);
+        let turns = if TURNED {
+            self.turns(at, state, path, live, ends & !cut)
+        } else {
+            [0; 8]
+        };
         let mut finer = None;
-        for edge in self.rules.leaving(at) {
+        for (i, edge) in self.rules.leaving(at).iter().enumerate() {
             if cut >> (edge.label + 1) & 1 == 1 {
+                continue;
+            }
+            if TURNED && self.rules.turns_leaving(at)[i] < turns[edge.label as usize] {
                 continue;
             }
             let table = finer.as_ref().unwrap_or(places);
             if let Some(next) = self.enter(edge, state, path, table) {
-                if self.reaches(goal, edge.to, next, path | bit(edge.to), table, live) {
+                if self.reaches::<TURNED>(goal, edge.to, next, path | bit(edge.to), table, live) {
                     return true;
                 }
                 if finer.is_none() {
@@ -421,30 +488,32 @@ impl<'a> Search<'a> {
         false
     }
 
-    /// The place of a path with a mark: `None` if it is unreached, else whether it is visible.
+    /// The place of a path, by its labels and scopes, with a mark: `None` if it is unreached, else whether it is visible.
     pub fn visible(&self, start: u8, steps: &[(u8, u8)], mark: u16) -> Option<bool> {
         if start != self.start {
             return None;
         }
         let (mut at, mut state, mut path) = (start, 0, bit(start));
+        let mut turns = Vec::with_capacity(steps.len());
         for &(label, to) in steps {
-            let edge = Edge {
-                from: at,
-                label,
-                to,
-            };
             let next = self.rules.next[state as usize][label as usize];
-            if next == NONE || path & bit(to) != 0 || !self.rules.leaving(at).contains(&edge) {
+            if next == NONE || path & bit(to) != 0 {
                 return None;
             }
+            let mut leaving = self.rules.leaving(at).iter();
+            let i = leaving.position(|e| (e.label, e.to) == (label, to))?;
+            turns.push(self.rules.turns_leaving(at)[i]);
             (at, state, path) = (to, next, path | bit(to));
         }
         if !self.rules.accepts(state) || !self.marks(at).any(|m| m == mark) {
             return None;
         }
         let (mut at, mut state, mut path) = (start, 0, bit(start));
-        for &(label, to) in steps {
-            if self.cuts(at, state, path, &self.live, 1 << (label + 1)) != 0 {
+        for (&(label, to), turn) in steps.iter().zip(turns) {
+            let end = 1 << (label + 1);
+            if self.cuts(at, state, path, &self.live, end) != 0
+                || turn < self.turns(at, state, path, &self.live, end)[label as usize]
+            {
                 return Some(false);
             }
             state = self.rules.next[state as usize][label as usize];

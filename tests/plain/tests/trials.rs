@@ -195,7 +195,10 @@ fn forms() {
     assert_eq!(cells[0], 1);
     let m = gym::write(&cells[..n], &mut out).unwrap();
     assert_eq!(out[..m], *text.as_bytes());
-    for form in [0, 2, 3, u64::MAX] {
+    cells[0] = 2;
+    let m = gym::write(&cells[..n], &mut out).unwrap();
+    assert!(out[..m].starts_with(b"label\n"));
+    for form in [0, 3, 4, u64::MAX] {
         cells[0] = form;
         assert_eq!(gym::write(&cells[..n], &mut out), Err(2));
     }
@@ -240,6 +243,62 @@ fn conversions() {
     let fault = last.replace("3 v service", "5 v service");
     assert_eq!(convert(true, &fault, 0), Err(3));
     assert_eq!(convert(true, &last.replace("I P", "I I"), 0), Err(6));
+}
+
+/// Two imports of a lane, the later with the higher turn (02, K12).
+fn two_imports(edges: &str, declared: &str, open: &str) -> String {
+    lines(&format!(
+        "label / I / P / less more / $ I / $ P / I P / state label next / 0 I 1 / 0 P 0 / 1 I 1 / accept / 0 / 1 / scopes / 5 / \
+        from label turn to / {edges}at kind name mark / {declared}at open / {open}start kind seek / 2 v hours / "
+    ))
+}
+
+#[test]
+fn turns() {
+    let (later, equal) = ("2 I 1 3 / 2 I 2 4 / ", "2 I 1 3 / 2 I 1 4 / ");
+    let both = "3 v hours 30 / 4 v hours 40 / ";
+    let seen = |edges, declared, open| listed(&two_imports(edges, declared, open), 0);
+    assert_eq!(seen(later, both, ""), "2 v hours one - / 40 2I4");
+    assert_eq!(
+        seen(later, "3 v hours 30 / ", ""),
+        "2 v hours one - / 30 2I3"
+    );
+    assert_eq!(
+        seen(equal, both, ""),
+        "2 v hours several - / 30 2I3 / 40 2I4"
+    );
+    assert_eq!(
+        seen("2 I 99 4 / ", both, "2 I / "),
+        "2 v hours one 2I / 40 2I4"
+    );
+    assert_eq!(seen(later, both, "2 P / "), "2 v hours one - / 40 2I4");
+    assert_eq!(
+        seen("2 I 1 4 / 2 I 2 3 / ", both, ""),
+        "2 v hours one - / 30 2I3"
+    );
+    for (open, due) in [("3 $", "-"), ("4 $", "4$"), ("2 I", "2I"), ("3 I", "-")] {
+        let text = two_imports(later, both, &format!("{open} / "));
+        assert_eq!(listed(&text, 0), format!("2 v hours one {due} / 40 2I4"));
+    }
+    let refused = |edges| answers::summary(two_imports(edges, both, "").as_bytes(), &mut [0; 99]);
+    assert_eq!(refused("2 I 100 4 / "), Err(3));
+    assert_eq!(refused("2 I 00 4 / "), Err(2));
+    assert_eq!(refused("1 I 2 4 / 1 I 3 4 / "), Err(4));
+    assert_eq!(refused("1 I 2 4 / 1 I 3 3 / 1 I 4 4 / "), Err(4));
+    assert_eq!(refused("1 I 3 3 / 1 I 2 4 / "), Err(4));
+    let text = two_imports(later, both, "");
+    assert_eq!(judged(&text, 0, "40 2I4"), Ok(Standing::Visible));
+    assert_eq!(judged(&text, 0, "30 2I3"), Ok(Standing::Shadowed));
+    let compared = |a: &str, b: &str| {
+        let (mut first, mut second) = ([BLANK; 63], [BLANK; 63]);
+        let (a, b) = (a.as_bytes(), b.as_bytes());
+        path_row::compare(text.as_bytes(), a, b, &mut first, &mut second)
+    };
+    assert_eq!(compared("1 2I4", "1 2I3"), Ok(Compared::First));
+    assert_eq!(compared("1 2I3", "1 2I4"), Ok(Compared::Second));
+    assert_eq!(compared("1 2I1", "1 2I4"), Ok(Compared::Neither));
+    let mixed = text.replace("at kind name mark", "at name mark");
+    assert_eq!(answers::summary(mixed.as_bytes(), &mut []), Err(2));
 }
 
 #[test]

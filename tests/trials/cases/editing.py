@@ -1,7 +1,7 @@
-"""Cases of texts and tables with small changes at random places, in both forms of file."""
+"""Cases of texts and tables with small changes at random places, in all forms of file."""
 from cases.case_file import Dice
 from cases.file_calls import TOP, name_cells, reads, try_read, writes
-from cases.gyms import graph, kinds_text, text_of
+from cases.gyms import graph, kinds_text, text_of, turns_text
 
 # what is put in
 BYTES = b" \n$IPZ01234569acz_@\x80"
@@ -52,3 +52,5 @@ def cases():
     edited(Dice(2026), "", text_of(small), BYTES, CELLS)
     kinds = graph(["I"], ["$ I"], [], ["0"], ["3"], ["2 I 1"], ["0 c ab 5", "0 v a 7", "0 v ab 5", "1 l a_c 6"], ["1 $"], ["1 c ab", "2 v a", "0 z a"])
     edited(Dice(8), "with kinds: ", kinds_text(kinds), BYTES + b"lv`{", CELLS + KIND_CELLS)
+    turns = graph(["I"], [], [], ["0"], ["3"], ["0 I 1 2", "0 I 2 1", "2 I 0 1"], ["0 c ab 5"], ["1 $"], ["1 c ab", "2 v a"])
+    edited(Dice(12), "with turns: ", turns_text(turns), BYTES + b"lv`{", CELLS + KIND_CELLS + [98, 100])

@@ -1,7 +1,7 @@
 """What is wrong in a field, in a row, in a section: the faults that the cases are made from."""
 from cases.case_file import bytes_of
 from cases.gyms import SMALLEST, at_section, changed, largest
-from reference.gym_file import ACCEPT, DECLARED, EDGE, END, KIND, KINDS, LABEL, LETTER, NAME, NUMBER, OPEN, ORDER, QUERY, SCOPES, STEP
+from reference.gym_file import ACCEPT, DECLARED, EDGE, END, KIND, LABEL, LETTER, NAME, NUMBER, OLD, OPEN, ORDER, QUERY, SCOPES, STEP, TURNS
 
 # What a field's text may not be (2), and what is of its form and out of its range (3).
 BAD_NUMBER = ["", "00", "05", "000001", "100000", "99999999999999999999", "-1", "+1", "1a", "x", "/", ":", "1.", "\x80", "\0"]
@@ -24,9 +24,11 @@ OUT = {
 
 
 def out_of_range(f, k, i):
-    """The same by a field of this form of file: no kind is out of range, and the fields behind it stand one further on."""
-    if f.number == KINDS and k in (DECLARED, QUERY) and i > 0:
+    """The same by a field of this form of file: no kind is out of range, a turn is from 100 on, and the fields behind them stand one further on."""
+    if f.number != OLD and k in (DECLARED, QUERY) and i > 0:
         return OUT.get((k, i - 1), []) if i > 1 else []
+    if f.number == TURNS and k == EDGE and i > 1:
+        return OUT[k, 2] if i > 2 else ["100", "101", "999", "99999"]
     return OUT.get((k, i), [])
 
 

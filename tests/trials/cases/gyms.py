@@ -1,7 +1,7 @@
 """The gyms that the cases are made from: document 01's example with sections put in place, the smallest, the largest, one of a usual size, random ones; and
-the two forms of file that they are put into."""
+the forms of file that they are put into."""
 from cases.case_file import bytes_of
-from reference.gym_file import DECLARED, FIELDS_OF, KINDS, NAMES, NAMES_OF, OLD, OPEN, QUERY
+from reference.gym_file import DECLARED, EDGE, FIELDS_OF, KINDS, NAMES, NAMES_OF, OLD, OPEN, QUERY, TURNS
 
 
 def text_of(g, names=NAMES):
@@ -68,14 +68,31 @@ def kinds_text(g):
     return text_of(g, NAMES_OF[KINDS])
 
 
+def turned(row, turn):
+    """An edge row of the old line with a turn put in; a row of too few fields as it is."""
+    fields = bytes_of(row).split(b" ", 2)
+    return b" ".join(fields[:2] + [b"%d" % turn] + fields[2:]) if len(fields) == 3 else bytes_of(row)
+
+
+def turns_text(g):
+    """The text of a graph whose rows have kinds and turns."""
+    return text_of(g, NAMES_OF[TURNS])
+
+
+def by_letter(letter):
+    """One turn for each label, so that none of them decides anything. Labels compared by their turns would be told."""
+    return letter[0] % 10
+
+
 class Form:
-    """A form of file. Gyms are written down in the old form's rows; here they are put into this one, where it has kinds with the kind `v`.
+    """A form of file. Gyms are written down in the old form's rows; here they are put into this one, where it has kinds with the kind `v`, and where it has
+    turns with those that `turn` gives to each label.
 
-    `title` tells its cases from those of the other form. `sections` are those whose own rows and lines are tried: all in the old form, and in the form with
-    kinds the ones that come after the line that says the form."""
+    `title` tells its cases from those of the other forms. `sections` are those whose own rows and lines are tried: all in the old form, in the form with
+    kinds the ones that come after the line that says the form, and in the form with turns the edges, as the others are those of the form with kinds."""
 
-    def __init__(self, number, title, sections):
-        self.number, self.title, self.sections = number, title, sections
+    def __init__(self, number, title, sections, turn=by_letter):
+        self.number, self.title, self.sections, self.turn = number, title, sections, turn
         self.names, self.fields = NAMES_OF[number], FIELDS_OF[number]
 
     def titled(self, call):
@@ -83,7 +100,10 @@ class Form:
         return lambda title, *given, **named: call(self.title + title, *given, **named)
 
     def row(self, k, row):
-        return kinded(k, row) if self.number == KINDS else bytes_of(row)
+        row = bytes_of(row)
+        if k == EDGE and self.number == TURNS and row.count(b" ") > 1:
+            return turned(row, self.turn(row.split(b" ")[1] or b"0"))
+        return row if self.number == OLD else kinded(k, row)
 
     def graph(self, g):
         return [[self.row(k, row) for row in rows] for k, rows in enumerate(g)]
@@ -102,7 +122,14 @@ class Form:
 
     def kinds(self, dice):
         """The kinds that a random gym draws from."""
-        return "" if self.number == OLD else dice.pick(["c", "cv", "cv", "alz"])
+        return {OLD: lambda: "", KINDS: lambda: dice.pick(["c", "cv", "cv", "alz"]), TURNS: lambda: dice.pick(["c", "v", "cv"])}[self.number]()
+
+    def turns(self, dice):
+        """The turns that a random gym draws from."""
+        return () if self.number != TURNS else dice.pick([[0], [0, 1], [1, 2], [0, 1, 2, 99], [3, 9, 10, 50]])
+
+    def random(self, dice, scopes, most_edges):
+        return random_gym(dice, scopes, most_edges, self.kinds(dice), self.turns(dice))
 
     def last_row(self, k):
         return self.row(k, EXAMPLE[k][-1]).decode("latin-1")
@@ -117,7 +144,12 @@ class Form:
         return text_of(at_section(example, k, example[k] + list(rows)), self.names)
 
 
-FORMS = [Form(OLD, "", range(9)), Form(KINDS, "with kinds: ", (DECLARED, OPEN, QUERY))]
+OLD_FORM = Form(OLD, "", range(9))
+WITH_KINDS = Form(KINDS, "with kinds: ", (DECLARED, OPEN, QUERY))
+WITH_TURNS = Form(TURNS, "with turns: ", (EDGE,))
+FORMS = [OLD_FORM, WITH_KINDS, WITH_TURNS]
+# Turns that are all 0 are the only ones that the other forms can say.
+TURNS_OF_0 = Form(TURNS, "turns of 0: ", (EDGE,), lambda letter: 0)
 
 
 def with_rows(k, *rows):
@@ -167,9 +199,10 @@ def shuffled(dice, items):
     return [items.pop(dice.below(len(items))) for _ in range(len(items))]
 
 
-def random_gym(dice, scopes, most_edges, kinds=""):
-    """A gym of the old form; where kinds are given, one with kinds drawn from them."""
-    letters = shuffled(dice, "IPDX")[: 1 + dice.below(4)]
+def random_gym(dice, scopes, most_edges, kinds="", turns=()):
+    """A gym of the old form; where kinds are given, one with kinds drawn from them, and where turns are, one with turns drawn from them and with few labels and
+    more edges, so that several leave a scope by one."""
+    letters = shuffled(dice, "IPDX")[: 1 + dice.below(2 if turns else 4)]
     ends = ["$"] + letters
     rank = shuffled(dice, ends)
     thick = dice.below(4)
@@ -177,20 +210,26 @@ def random_gym(dice, scopes, most_edges, kinds=""):
     states = range(1 + dice.below(3))
     steps = ["%d %s %d" % (s, l, dice.pick(states)) for s in states for l in letters if dice.below(5)]
     accept = [str(s) for s in states if dice.below(4)]
-    edges = {(dice.below(scopes), dice.below(len(letters)), dice.below(scopes)) for _ in range(scopes // 2 + dice.below(most_edges))}
+    # more of them with turns, but in wide gyms, where there would be too many paths to list
+    fewest = scopes + scopes // 2 if turns and scopes < 8 else scopes // 2
+    edges = sorted({(dice.below(scopes), dice.below(len(letters)), dice.below(scopes)) for _ in range(fewest + dice.below(most_edges))})
+    rows = ["%d %s %d" % (a, letters[l], b) for a, l, b in edges]
+    if turns:
+        edges = sorted((a, l, dice.pick(turns), b) for a, l, b in edges)
+        rows = ["%d %s %d %d" % (a, letters[l], turn, b) for a, l, turn, b in edges]
     names = ["a", "ab"][: 1 + dice.below(2)]
     name = lambda: "%s %s" % (dice.pick(kinds), dice.pick(names)) if kinds else dice.pick(names)
     declared = {(dice.below(scopes), name(), dice.pick([0, 7, 10, 65535])) for _ in range(2 + dice.below(2 * scopes))}
     thick = dice.below(5)
     opens = ["%d %s" % (s, e) for s in range(scopes) for e in ends if dice.below(10) < thick]
     queries = ["%d %s" % (dice.below(scopes), name()) for _ in range(1 + dice.below(4))]
-    return (kinds_text if kinds else text_of)(graph(
+    return (turns_text if turns else kinds_text if kinds else text_of)(graph(
         letters,
         ["%s %s" % (a, b) for a in ends for b in ends if (a, b) in pairs],
         steps,
         accept,
         [str(scopes)],
-        ["%d %s %d" % (a, letters[l], b) for a, l, b in sorted(edges)],
+        rows,
         ["%d %s %d" % d for d in sorted(declared)],
         opens,
         queries,

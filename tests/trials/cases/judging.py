@@ -1,9 +1,9 @@
-"""Cases of path rows that are judged for a query, in both forms of file."""
+"""Cases of path rows that are judged for a query, in all forms of file."""
 from cases.case_file import Dice, bytes_of, case
 from cases.file_calls import TOP
-from cases.gyms import EXAMPLE, FORMS, changed, random_gym, refused_files, with_rows
+from cases.gyms import EXAMPLE, FORMS, changed, refused_files, with_rows
 from cases.path_rows import chain
-from reference.gym_file import EDGE, OLD, Refused
+from reference.gym_file import EDGE, Refused
 from reference.judge import judged
 from reference.query import Gym
 
@@ -123,11 +123,11 @@ def random_row(dice, gym, query):
 
 
 def random_cases(f):
-    dice = Dice(10 if f.number == OLD else 88)
+    dice = Dice((10, 88, 1212)[f.number])
     n = 0
     while n < 90:
         scopes = 2 + dice.below(6)
-        text = random_gym(dice, scopes, 2 * scopes + 1, f.kinds(dice))
+        text = f.random(dice, scopes, 2 * scopes + 1)
         gym = Gym(text)
         if dice.below(3) and not any(shadowed(gym, query) for query in range(len(gym.queries))):
             continue

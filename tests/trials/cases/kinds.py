@@ -1,14 +1,13 @@
-"""Cases of files and tables with kinds (02, K8), beside those that both forms of file have: the letters, the sort, the two forms mixed, the cells."""
+"""Cases of files and tables with kinds (02, K8), beside those that all forms of file have: the letters, the sort, the two forms mixed, the cells."""
 from cases.case_file import bytes_of
 from cases.comparing import compare
 from cases.faults import FAULTS, faulty, full_sections
 from cases.file_calls import TOP, name_cells, reads, row, rows_of, seeks, table, try_read, writes
-from cases.gyms import EXAMPLE, FORMS, SMALLEST, WORD, at_section, changed, kinded, kinds_text, largest, text_of
+from cases.gyms import EXAMPLE, FORMS, OLD_FORM, SMALLEST, WITH_KINDS, WORD, at_section, changed, kinded, kinds_text, largest, text_of
 from cases.judging import judge
 from cases.listing import listed, summed
-from reference.gym_file import DECLARED, EDGE, KINDS, NAMES_OF, OLD, ORDER, QUERY, SCOPES
+from reference.gym_file import DECLARED, EDGE, KINDS, NAMES_OF, OLD, ORDER, QUERY, SCOPES, TURNS
 
-OLD_FORM, WITH_KINDS = FORMS
 LETTERS = "abcdefghijklmnopqrstuvwxyz"
 
 
@@ -156,7 +155,7 @@ def table_cases():
     for form in (OLD, KINDS):
         writes("form %d, cells as they were before kinds" % form, table(before, form), due=2)
     for form in (OLD, KINDS, 2, 3, 255, 256, 1 << 32, (1 << 32) + 1, TOP):
-        writes("two kinds, form %d" % form, table(two, form), due=0 if form == KINDS else 2)
+        writes("two kinds, form %d" % form, table(two, form), due=0 if form in (KINDS, TURNS) else 2)
     for title, names, due in [
         ("c x above v x", [("x", "c"), ("x", "v")], 0), ("v x above c x", [("x", "v"), ("x", "c")], 4), ("c x twice", [("x", "c"), ("x", "c")], 4),
         ("c z above v a", [("z", "c"), ("a", "v")], 0), ("v a above c z", [("a", "v"), ("z", "c")], 4),

@@ -2,13 +2,11 @@
 from cases.case_file import Dice
 from cases.comparing import compare
 from cases.file_calls import seeks, try_read
-from cases.gyms import EXAMPLE, FORMS, at_section, changed, graph, kinds_text, random_gym, realistic, refused_files, text_of
+from cases.gyms import EXAMPLE, OLD_FORM, WITH_KINDS, at_section, changed, graph, kinds_text, random_gym, realistic, refused_files, text_of
 from cases.judging import judge
 from cases.kinds import LETTERS
 from cases.listing import asked, ladder, put, summed, whole
 from reference.gym_file import KINDS, QUERY
-
-OLD_FORM, WITH_KINDS = FORMS
 
 # The example with counters (c) and limits (l): the wall has one name in both kinds, lane 2 and its profile have limits alone.
 TWO = changed(

@@ -1,8 +1,8 @@
-"""Cases of listings and summaries, in both forms of file."""
+"""Cases of listings and summaries, in all forms of file."""
 from cases.case_file import Dice, bytes_of, case, sum_of
 from cases.file_calls import TOP
-from cases.gyms import EXAMPLE, FORMS, SMALLEST, changed, random_gym, realistic, refused_files, with_rows
-from reference.gym_file import DECLARED, EDGE, OLD, Refused
+from cases.gyms import EXAMPLE, FORMS, SMALLEST, changed, realistic, refused_files, with_rows
+from reference.gym_file import DECLARED, EDGE, Refused
 from reference.query import Gym
 
 
@@ -265,13 +265,13 @@ def long_cases(f):
 
 
 def random_cases(f):
-    """Random gyms, those of the form with kinds with kinds drawn."""
-    dice = Dice(64 if f.number == OLD else 8)
+    """Random gyms, with kinds and turns drawn where the form has them."""
+    dice = Dice((64, 8, 12)[f.number])
     for n in range(450):
         scopes = 2 + dice.below(6)
-        whole(f, "gym %d" % n, random_gym(dice, scopes, 2 * scopes + 1, f.kinds(dice)))
+        whole(f, "gym %d" % n, f.random(dice, scopes, 2 * scopes + 1))
     for n in range(40):
-        whole(f, "wider gym %d" % n, random_gym(dice, 9 + dice.below(4), 18, f.kinds(dice)))
+        whole(f, "wider gym %d" % n, f.random(dice, 9 + dice.below(4), 18))
 
 
 def cases():

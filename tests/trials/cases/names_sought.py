@@ -1,4 +1,4 @@
-"""Cases of the name that a query seeks, in both forms of file."""
+"""Cases of the name that a query seeks, in all forms of file."""
 from cases import file_calls
 from cases.faults import faulty
 from cases.file_calls import TOP

@@ -1,4 +1,4 @@
-"""Cases of gym files that are read, in both forms of file."""
+"""Cases of gym files that are read, in all forms of file."""
 from cases import file_calls
 from cases.case_file import bytes_of
 from cases.faults import BAD, FAULTS, faulty, full_sections, out_of_range, shown
@@ -242,7 +242,7 @@ def limit_cases(f):
         reads("%s full, then its names line again" % WORD[k], twice, due=2)
     text = f.text(largest())
     n = len(try_read(text))
-    assert n == 1 + 6 * sum(MOST) and len(text) < (27000 if f.number == OLD else 29000)
+    assert n == 1 + 6 * sum(MOST) and len(text) < (27000, 29000, 30000)[f.number]
     reads("the largest graph", text, room=n, due=0)
     reads("the largest graph, a cell less", text, room=n - 1, due=9)
     reads("the largest graph, order broken", text.replace(b"U I\n", b"I I\n", 1), room=n, due=6)

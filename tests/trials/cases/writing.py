@@ -1,9 +1,9 @@
-"""Cases of graph tables that are written, in both forms of file. The cells of a graph differ in the first alone, the form."""
+"""Cases of graph tables that are written, in all forms of file. The cells of a graph differ in the first alone, the form."""
 from cases import file_calls
 from cases.faults import full_sections
 from cases.file_calls import TOP, name_cells, raw_cells, row, rows_of, table
 from cases.gyms import EXAMPLE, FORMS, SMALLEST, WORD, largest
-from reference.gym_file import ACCEPT, DECLARED, EDGE, LABEL, OLD, OPEN, ORDER, QUERY, SCOPES, STEP
+from reference.gym_file import ACCEPT, DECLARED, EDGE, LABEL, OLD, OPEN, ORDER, QUERY, SCOPES, STEP, TURNS
 
 # the example's rows and its table, and where each section's first and last row stand
 ROWS = rows_of(EXAMPLE)
@@ -69,7 +69,7 @@ def length_cases(f):
 def form_cases():
     writes = file_calls.writes
     for form in (1, 2, 10, 255, TOP):
-        writes("form %d" % form, table(ROWS, form), due=0 if form == 1 else 2)
+        writes("form %d" % form, table(ROWS, form), due=0 if form <= TURNS else 2)
         writes("form %d alone" % form, [form], due=2)
     writes("form 0 alone", [0], due=2)
 
@@ -104,12 +104,12 @@ def scopes_cases(f):
 
 def cell_cases(f):
     writes = writing(f)
-    used = [1, 2, 3, 1, 1, 3, 5, 2, 4]
+    used = [1, 2, 3, 1, 1, 4 if f.number == TURNS else 3, 5, 2, 4]
     for k in f.sections:
         for c in range(used[k] + 1, 6):
             for v in (1, TOP):
                 writes("%s unused cell %d is %d" % (WORD[k], c, v), put(LAST[k], **{"c%d" % c: v}), due=2)
-    number_cells = {STEP: [1, 3], ACCEPT: [1], SCOPES: [1], EDGE: [1, 3], DECLARED: [1, 5], OPEN: [1], QUERY: [1]}
+    number_cells = {STEP: [1, 3], ACCEPT: [1], SCOPES: [1], EDGE: [1, 3] + [4] * (f.number == TURNS), DECLARED: [1, 5], OPEN: [1], QUERY: [1]}
     for k in f.sections:
         for c in number_cells.get(k, []):
             for v in (16, 65, 65535, 65536, 99999, 100000, 4294967296, 4294967297, TOP):

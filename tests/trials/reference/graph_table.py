@@ -1,7 +1,7 @@
 """The graph table, from the layout of its cells (docs/ARCHITECTURE.md, "The graph table"): a graph as cells, and cells as a text."""
 import re
 
-from reference.gym_file import ACCEPT, DECLARED, EDGE, KIND, KINDS, LABEL, NAME, OLD, OPEN, ORDER, QUERY, SCOPES, STEP, USUAL, Graph, Refused
+from reference.gym_file import ACCEPT, DECLARED, EDGE, KIND, LABEL, NAME, OLD, OPEN, ORDER, QUERY, SCOPES, STEP, TURNS, USUAL, Graph, Refused
 
 
 def packed(name):
@@ -14,6 +14,8 @@ def cells_of(g):
     for k in range(9):
         for v in g.rows[k]:
             row = [k]
+            # the cells of an edge have its turn last
+            v = v[:2] + (v[3], v[2]) if k == EDGE else v
             for i, x in enumerate(v):
                 if not isinstance(x, bytes):
                     row.append(x)
@@ -46,6 +48,13 @@ def kind_of(g, x):
     return kind
 
 
+def turn_of(g, x):
+    """The turn of a cell, or 2: a number, and in a graph without turns no other than 0."""
+    if x > 99999 or (g.form != TURNS and x != 0):
+        raise Refused(2)
+    return x
+
+
 def number_of(x):
     if x > 99999:
         raise Refused(2)
@@ -63,7 +72,9 @@ def values_of(g, k, c):
         v, used = (bytes([c[0]]),), 1
     elif k == ORDER:
         v, used = (end(c[0]), end(c[1])), 2
-    elif k in (STEP, EDGE):
+    elif k == EDGE:
+        v, used = (number_of(c[0]), label(c[1]), turn_of(g, c[3]), number_of(c[2])), 4
+    elif k == STEP:
         v, used = (number_of(c[0]), label(c[1]), number_of(c[2])), 3
     elif k in (ACCEPT, SCOPES):
         v, used = (number_of(c[0]),), 1
@@ -80,7 +91,7 @@ def values_of(g, k, c):
 
 def write(cells):
     """The text of a graph table, or Refused."""
-    if not cells or cells[0] not in (OLD, KINDS):
+    if not cells or cells[0] > TURNS:
         raise Refused(2)
     g = Graph(cells[0])
     k = 0

@@ -1,5 +1,5 @@
-"""The gym file, from document 01 ("The gym file", "Who can cause a refusal") and, for kinds, document 02 (K8): its sections, its rows, what is refused, and
-the name that a query seeks.
+"""The gym file, from document 01 ("The gym file", "Who can cause a refusal") and, for kinds and turns, document 02 (K8, K12): its sections, its rows, what is
+refused, and the name that a query seeks.
 
 Nothing here is shared with the crates."""
 import re
@@ -25,17 +25,31 @@ FORMS = [
     [NUMBER, NAME],
 ]
 
-# The two forms of file: the old one, and the one with kinds, which has two names lines of its own and in their rows a kind as the second field. In a file of
-# the old form each kind is `v`.
-OLD, KINDS = range(2)
-NAMES_OF = [NAMES, [{DECLARED: b"at kind name mark", QUERY: b"start kind seek"}.get(k, name) for k, name in enumerate(NAMES)]]
-FIELDS_OF = [FORMS, [[NUMBER, KIND] + fields[1:] if k in (DECLARED, QUERY) else fields for k, fields in enumerate(FORMS)]]
+# The three forms of file: the old one; the one with kinds, which has two names lines of its own and in their rows a kind as the second field; and the one with
+# kinds and turns, which has the edges' names line of its own too and in its rows a turn as the third field. Where a file says no kinds each is `v`, and where
+# it says no turns each is 0.
+OLD, KINDS, TURNS = range(3)
+KIND_NAMES = {DECLARED: b"at kind name mark", QUERY: b"start kind seek"}
+TURN_NAMES = {**KIND_NAMES, EDGE: b"from label turn to"}
+NAMES_OF = [[own.get(k, name) for k, name in enumerate(NAMES)] for own in ({}, KIND_NAMES, TURN_NAMES)]
+WITH_KIND = [[NUMBER, KIND] + fields[1:] if k in (DECLARED, QUERY) else fields for k, fields in enumerate(FORMS)]
+WITH_TURN = [[NUMBER, LETTER, NUMBER, NUMBER] if k == EDGE else fields for k, fields in enumerate(WITH_KIND)]
+FIELDS_OF = [FORMS, WITH_KIND, WITH_TURN]
 USUAL = b"v"
 
 
-def fuller(k, v):
-    """The values of a row of the old form with the kind that it does not say."""
-    return v[:1] + (USUAL,) + v[1:] if k in (DECLARED, QUERY) else v
+def fuller(form, k, v):
+    """The values of a row with what its form does not say: a kind before the name, a turn before the scope that an edge leads to."""
+    if k == EDGE and form != TURNS:
+        return v[:2] + (0,) + v[2:]
+    return v[:1] + (USUAL,) + v[1:] if k in (DECLARED, QUERY) and form == OLD else v
+
+
+def barer(form, k, v):
+    """The values of a row that its form says."""
+    if k == EDGE and form != TURNS:
+        return v[:2] + v[3:]
+    return v[:1] + v[2:] if k in (DECLARED, QUERY) and form == OLD else v
 
 
 class Refused(Exception):
@@ -45,7 +59,7 @@ class Refused(Exception):
 
 class Graph:
     """The form, and the rows so far, each as its values: numbers, letters as bytes, names as bytes, an end as b'$' or a letter. A row with a name has its kind
-    before it, whatever the form."""
+    before it, and an edge is a scope, a label, a turn and a scope, whatever the form."""
 
     def __init__(self, form=OLD):
         self.form = form
@@ -73,7 +87,7 @@ class Graph:
         if k == SCOPES:
             return 1 <= v[0] <= 64
         if k == EDGE:
-            return scope(v[0]) and label(v[1]) and scope(v[2])
+            return scope(v[0]) and label(v[1]) and 0 <= v[2] <= 99 and scope(v[3])
         if k == DECLARED:
             return scope(v[0]) and mark(v[3])
         if k == OPEN:
@@ -92,7 +106,7 @@ class Graph:
         if k == ACCEPT:
             return (v[0],)
         if k == EDGE:
-            return (v[0], number(v[1]), v[2])
+            return (v[0], number(v[1]), v[2], v[3])
         if k == DECLARED:
             return (v[0], v[1], v[2], v[3])
         if k == OPEN:
@@ -111,6 +125,9 @@ class Graph:
                 raise Refused(4)
         elif self.key(k, v) is not None and rows and not self.key(k, rows[-1]) < self.key(k, v):
             raise Refused(4)
+        # an edge that is there already, whatever its turn
+        if k == EDGE and any((from_, label, to) == (v[0], v[1], v[3]) for from_, label, _, to in rows):
+            raise Refused(4)
         rows.append(v)
 
     def order(self):
@@ -128,9 +145,7 @@ class Graph:
         for k in range(9):
             lines.append(NAMES_OF[self.form][k])
             for v in self.rows[k]:
-                if self.form == OLD and k in (DECLARED, QUERY):
-                    v = v[:1] + v[2:]
-                lines.append(b" ".join(x if isinstance(x, bytes) else b"%d" % x for x in v))
+                lines.append(b" ".join(x if isinstance(x, bytes) else b"%d" % x for x in barer(self.form, k, v)))
         return b"".join(x + b"\n" for x in lines)
 
 
@@ -151,8 +166,10 @@ def read(text):
             if k == 8 or (k == SCOPES and not g.rows[SCOPES]):
                 raise Refused(2)
             k += 1
-            # the declarations' names line is the first that says which form the file has
-            if k == DECLARED and line == NAMES_OF[KINDS][k]:
+            # the edges' names line says turns; else that of the declarations says which form the file has
+            if k == EDGE and line == NAMES_OF[TURNS][k]:
+                g.form = TURNS
+            if k == DECLARED and g.form == OLD and line == NAMES_OF[KINDS][k]:
                 g.form = KINDS
             if line != NAMES_OF[g.form][k]:
                 raise Refused(2)
@@ -164,7 +181,7 @@ def read(text):
         if not m:
             raise Refused(2)
         v = tuple(int(x) if f is NUMBER else x for f, x in zip(fields, m.groups()))
-        g.add(k, fuller(k, v) if g.form == OLD else v)
+        g.add(k, fuller(g.form, k, v))
     if k != 8:
         raise Refused(2)
     g.order()

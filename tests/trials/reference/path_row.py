@@ -1,7 +1,7 @@
-"""Path rows, from document 01 ("Paths"): taken apart, made from their parts, and compared."""
+"""Path rows, from document 01 ("Paths"): taken apart, made from their parts, and compared, with turns as document 02 (K12) has them."""
 import re
 
-from reference.gym_file import ORDER, Refused, read
+from reference.gym_file import EDGE, ORDER, Refused, read
 
 NUMBER = rb"(?:0|[1-9][0-9]{0,4})"
 ROW = re.compile(b"(%s) (%s)((?:[A-Z]%s)*)" % (NUMBER, NUMBER, NUMBER))
@@ -29,22 +29,34 @@ def row_from(mark, start, letters, scopes, count):
     return b"%d %d" % (mark, start) + b"".join(b"%c%d" % (at(letters, i), at(scopes, i)) for i in range(count))
 
 
-def more_specific(order, p, q):
-    """Is the path p, its start and its steps, more specific than q? `order` holds pairs of ends; a letter that is not listed is in none."""
+def turns_of(edges):
+    """The turns of edge rows, each by its from, label and to."""
+    return {(at, label, to): turn for at, label, turn, to in edges}
+
+
+def more_specific(order, turns, p, q):
+    """Is the path p, its start and its steps, more specific than q? `order` holds pairs of ends; a letter that is not listed is in none. `turns` holds those of
+    the edge rows; a step that is none has no turn. At one label the higher turn is preferred."""
     if p[0] != q[0] or p[1] == q[1]:
         return False
     n = 0
     while n < len(p[1]) and n < len(q[1]) and p[1][n] == q[1][n]:
         n += 1
+    at = p[1][n - 1][1] if n else p[0]
     end = lambda steps: steps[n][0] if n < len(steps) else b"$"
-    return (end(p[1]), end(q[1])) in order
+    turn = lambda steps: turns.get((at, *steps[n])) if n < len(steps) else None
+    a, b = turn(p[1]), turn(q[1])
+    later = end(p[1]) == end(q[1]) and a is not None and b is not None and a > b
+    return later or (end(p[1]), end(q[1])) in order
 
 
 def compared(text, a, b, n, m):
     """The answer, and how many records go into each table; or Refused."""
-    order = set(read(text).rows[ORDER])
+    g = read(text)
+    order, turns = set(g.rows[ORDER]), turns_of(g.rows[EDGE])
     p, q = row_of(a), row_of(b)
     if len(p[2]) > n or len(q[2]) > m:
         raise Refused(9)
-    word = b"first" if more_specific(order, p[1:], q[1:]) else b"second" if more_specific(order, q[1:], p[1:]) else b"neither"
+    specific = lambda a, b: more_specific(order, turns, a[1:], b[1:])
+    word = b"first" if specific(p, q) else b"second" if specific(q, p) else b"neither"
     return word, len(p[2]), len(q[2])

@@ -1,11 +1,11 @@
 """What a query sees, from document 01 ("Paths", "The listing"): all simple paths of a query are enumerated, kept where they are lawful and end at the
 name, and compared with each other, two by two; `awaits` is decided by completions that are built.
 
-A name is here a kind and a name (02, K8): a pair, whatever the file's form."""
+A name is here a kind and a name (02, K8): a pair, whatever the file's form. An edge has a turn (02, K12), 0 where the file says none."""
 from fractions import Fraction
 
-from reference.gym_file import ACCEPT, DECLARED, EDGE, KINDS, OPEN, ORDER, QUERY, SCOPES, STEP, Refused, read
-from reference.path_row import more_specific
+from reference.gym_file import ACCEPT, DECLARED, EDGE, OLD, OPEN, ORDER, QUERY, SCOPES, STEP, Refused, read
+from reference.path_row import more_specific, turns_of
 
 
 class Gym:
@@ -26,7 +26,7 @@ class Gym:
     def paths(self, start):
         """The steps of each path from a scope: along edges, no scope twice."""
         out = {}
-        for at, label, to in self.edges:
+        for at, label, _, to in self.edges:
             out.setdefault(at, []).append((label, to))
         found = []
 
@@ -52,7 +52,8 @@ class Gym:
     def entries(self, start, name):
         """The entries of a query, sorted as the listing has them."""
         reached = self.reached(start, name)
-        visible = [p for p in reached if not any(more_specific(self.order, (start, q), (start, p)) for q in reached)]
+        turns = turns_of(self.edges)
+        visible = [p for p in reached if not any(more_specific(self.order, turns, (start, q), (start, p)) for q in reached)]
         last = lambda p: p[-1][1] if p else start
         entries = [(p, mark) for p in visible for at, n, mark in self.declared if n == name and at == last(p)]
         number = {label: i for i, label in enumerate(self.labels)}
@@ -60,15 +61,15 @@ class Gym:
 
     def completed(self, at, end, name):
         """The completion that decides whether an open pair is decisive. For `$` it has one declaration more, with an unused mark. For a label it has one
-        edge more, to the first of a chain of new scopes that each declare the name; the chain is as long as the automaton has states, and each scope in it
-        leads to the next by every label.
+        edge more, of a turn above all, to the first of a chain of new scopes that each declare the name; the chain is as long as the automaton has states, and
+        each scope in it leads to the next by every label.
 
         Why this one is enough: let some completion H that adds at this pair only see other entries. Then H sees an entry that is new, since one that is
         lost is shadowed by a new path, and below that stands a visible new path. The new path p goes along old edges to `at` and there ends by a new
         declaration, or takes a new edge of this label; no reached path of the graph is more specific than p. Here stands a path p' that shares that
         beginning and that end: with the new mark, or into the chain, along a shortest word that leads the automaton from there to acceptance, which is
         shorter than the number of states. So p' is reached. A reached path of the graph that is more specific than p' differs from it no later than at this
-        end, so it would be more specific than p too, and there is none. So whatever is visible at or below p' here is new, and the entries change."""
+        end, and there by a preferred label, as no turn is above that of p'; so it would be more specific than p too, and there is none. So whatever is visible at or below p' here is new, and the entries change."""
         more = Gym.__new__(Gym)
         more.__dict__.update(self.__dict__)
         more.declared, more.edges = list(self.declared), list(self.edges)
@@ -77,8 +78,9 @@ class Gym:
             more.declared.append((at, name, unused))
             return more
         new = range(self.scopes, self.scopes + len(self.states))
-        more.edges.append((at, end, new[0]))
-        more.edges += [(s, label, s + 1) for s in new[:-1] for label in self.labels]
+        highest = max([turn for _, _, turn, _ in self.edges], default=0)
+        more.edges.append((at, end, highest + 1, new[0]))
+        more.edges += [(s, label, 0, s + 1) for s in new[:-1] for label in self.labels]
         more.declared += [(s, name, unused) for s in new]
         return more
 
@@ -94,8 +96,8 @@ class Gym:
             raise Refused(7)
         start, name = self.queries[query]
         entries = self.entries(start, name)
-        shown = b" ".join(name) if self.form == KINDS else name[1]
-        names = b"start kind seek found awaits" if self.form == KINDS else b"start seek found awaits"
+        shown = name[1] if self.form == OLD else b" ".join(name)
+        names = b"start seek found awaits" if self.form == OLD else b"start kind seek found awaits"
         lines = [names, b"%d %s %s %s" % (start, shown, found(start, entries), self.awaits(start, name)), b"mark path"]
         for steps, mark in entries:
             lines.append(b"%d %d" % (mark, start) + b"".join(b"%s%d" % step for step in steps))

@@ -35,7 +35,7 @@ fn back(same: bool) -> &'static str {
     if same {
         "back the same"
     } else {
-        "NOT BACK"
+        "back ANOTHER"
     }
 }
 

@@ -2,12 +2,13 @@
 //! said.
 //!
 //! Same listing (entries, found, awaits), the same verdict on random path rows, comparison as the
-//! rules have it; a settled listing stays the same in random completions; reading and writing are
-//! inverse, on damaged files and tables too; an old file and the same file with every kind `v` give
-//! the same answers.
+//! rules have it; a settled listing stays the same in random completions, and any listing in those
+//! that add at a pair that is not decisive; reading and writing are inverse, on damaged files and
+//! tables too; an old file, the same file with every kind `v` and that with every turn 0 give the
+//! same answers, and convert to one another.
 
 use plain::answers::{self, Standing};
-use plain::enumerate::{self, name_of, Graph, Name, Path, Verdict};
+use plain::enumerate::{self, name_of, Graph, Name, Path, Row, Verdict};
 use plain::gym::{self, Form, Gym, Query};
 use plain::path_row::{self, Compared, PathRow, Step};
 use plain::random::{self, Rng};
@@ -20,18 +21,26 @@ const BLANK: Step = Step {
 
 #[derive(Default, Debug)]
 struct Counts {
+    old: usize,
     with_kinds: usize,
+    with_turns: usize,
+    only_turns_0: usize,
     listings: usize,
+    entries_by_turns: usize,
+    awaits_by_turns: usize,
     other_kind_reached: usize,
     unsettled: usize,
     several: usize,
     one_by_more_routes: usize,
     none: usize,
     completions: usize,
+    completions_at_one_pair: usize,
     visible: usize,
     shadowed: usize,
+    shadowed_by_turns: usize,
     unreached: usize,
     more_specific: usize,
+    more_specific_by_turns: usize,
     damaged_accepted: usize,
     damaged_refused: [usize; 10],
     table_refused: [usize; 10],
@@ -57,9 +66,12 @@ fn path_of(gym: &Gym, row: &PathRow) -> Option<Path> {
     Some(path)
 }
 
-/// A random completion: rows at open pairs, new scopes with any rows; of the name sought and of the
-/// same in another kind.
-fn completion(rng: &mut Rng, gym: &Gym, sought: &Name) -> Graph {
+/// Turns that a completion's edges take: any whole number, those of the file and others.
+const TURNS: [u64; 8] = [0, 1, 2, 3, 10, 99, 100, 1 << 40];
+
+/// A random completion: rows at these open pairs, new scopes with any rows; of the name sought and
+/// of the same in another kind. Its edges have any turns and repeat no from, label and to.
+fn completion(rng: &mut Rng, gym: &Gym, sought: &Name, open: &[(u8, u8)]) -> Graph {
     let mut graph = Graph::of(gym);
     let other = ('w', sought.1.clone());
     let name = |rng: &mut Rng| {
@@ -71,7 +83,7 @@ fn completion(rng: &mut Rng, gym: &Gym, sought: &Name) -> Graph {
     };
     let old = graph.scopes;
     graph.scopes += rng.below(3);
-    for &(scope, e) in &gym.open {
+    for &(scope, e) in open {
         for _ in 0..rng.below(3) {
             match enumerate::end(e) {
                 None => {
@@ -80,9 +92,10 @@ fn completion(rng: &mut Rng, gym: &Gym, sought: &Name) -> Graph {
                         .declarations
                         .push((scope as usize, name, 70_000 + rng.below(3) as u64))
                 }
-                Some(label) => graph
-                    .edges
-                    .push((scope as usize, label, rng.below(graph.scopes))),
+                Some(label) => {
+                    let to = rng.below(graph.scopes);
+                    add_edge(rng, &mut graph, scope as usize, label, to)
+                }
             }
         }
     }
@@ -92,16 +105,37 @@ fn completion(rng: &mut Rng, gym: &Gym, sought: &Name) -> Graph {
             graph.declarations.push((new, name, rng.below(3) as u64));
         }
         for label in 0..graph.labels {
-            if rng.below(2) == 0 {
-                graph.edges.push((new, label, rng.below(graph.scopes)));
+            for _ in 0..rng.below(3) {
+                let to = rng.below(graph.scopes);
+                add_edge(rng, &mut graph, new, label, to);
             }
         }
     }
-    graph.edges.sort();
-    graph.edges.dedup();
     graph.declarations.sort();
     graph.declarations.dedup();
     graph
+}
+
+/// One edge more, of any turn, unless it is there.
+fn add_edge(rng: &mut Rng, graph: &mut Graph, from: usize, label: u8, to: usize) {
+    let row = Row {
+        from,
+        label,
+        turn: *rng.pick(&TURNS),
+        to,
+    };
+    let same = |r: &Row| (r.from, r.label, r.to) == (from, label, to);
+    if !graph.edges.iter().any(same) {
+        graph.edges.push(row);
+    }
+}
+
+/// The same gym with every turn 0.
+fn without_turns(gym: &Gym) -> Gym {
+    Gym {
+        turns: vec![0; gym.edges.len()],
+        ..gym.clone()
+    }
 }
 
 fn check_listing(
@@ -133,6 +167,12 @@ fn check_listing(
     let sought = name_of(query.name);
     let entries = graph.entries(query.start as usize, &sought);
     c.listings += 1;
+    let equal = without_turns(gym);
+    let by_labels = Graph::of(&equal).entries(query.start as usize, &sought);
+    let awaits = enumerate::awaits(gym, query);
+    c.entries_by_turns += usize::from(entries != by_labels);
+    c.awaits_by_turns +=
+        usize::from(entries == by_labels && awaits != enumerate::awaits(&equal, query));
     let others = "clv".chars().filter(|&k| k != sought.0);
     let mut seen = others.map(|k| graph.entries(query.start as usize, &(k, sought.1.clone())));
     c.other_kind_reached += usize::from(seen.any(|other| !other.is_empty()));
@@ -145,13 +185,24 @@ fn check_listing(
     c.several += usize::from(declarations > 1);
     c.one_by_more_routes += usize::from(declarations == 1 && entries.len() > 1);
     c.none += usize::from(entries.is_empty());
-    if enumerate::awaits(gym, query).is_some() {
+    if awaits.is_some() {
         c.unsettled += 1;
+        let start = query.start as usize;
+        for &(scope, e) in &gym.open {
+            if graph.decisive(start, &sought, scope as usize, enumerate::end(e)) {
+                continue;
+            }
+            c.completions_at_one_pair += 1;
+            if completion(rng, gym, &sought, &[(scope, e)]).entries(start, &sought) != entries {
+                fail(seed, &format!("query {n}: open {scope} {e} matters"), text);
+            }
+        }
         return;
     }
     for _ in 0..3 {
         c.completions += 1;
-        if completion(rng, gym, &sought).entries(query.start as usize, &sought) != entries {
+        let more = completion(rng, gym, &sought, &gym.open);
+        if more.entries(query.start as usize, &sought) != entries {
             fail(seed, &format!("query {n} is not settled"), text);
         }
     }
@@ -167,6 +218,7 @@ fn check_rows(
     c: &mut Counts,
 ) {
     let graph = Graph::of(gym);
+    let by_labels = Graph::of(&without_turns(gym));
     let seen: Vec<Vec<u8>> = enumerate::listing(&free_order(gym), query)
         .split(|&b| b == b'\n')
         .skip(3)
@@ -194,6 +246,12 @@ fn check_rows(
                 graph.verdict(start, &name_of(query.name), &p, mark)
             }
         };
+        if due == Verdict::Shadowed {
+            let p = path_of(gym, &parsed).expect("a path");
+            let (start, mark) = (query.start as usize, u64::from(parsed.mark));
+            let without = by_labels.verdict(start, &name_of(query.name), &p, mark);
+            c.shadowed_by_turns += usize::from(without == Verdict::Visible);
+        }
         let mut table = [BLANK; 63];
         let got = answers::judge(text, n, row, &mut table);
         let (same, counter) = match due {
@@ -233,6 +291,8 @@ fn check_rows(
                 _ => Compared::Neither,
             };
             c.more_specific += usize::from(due != Compared::Neither);
+            let neither = !by_labels.more_specific(&p, &q) && !by_labels.more_specific(&q, &p);
+            c.more_specific_by_turns += usize::from(due != Compared::Neither && neither);
             if got != Ok(due) {
                 fail(seed, "compare", text);
             }
@@ -248,12 +308,12 @@ fn check_rows(
     }
 }
 
-/// The same gym without its order, in which every reached path is visible.
+/// The same gym without its order and its turns, in which every reached path is visible.
 fn free_order(gym: &Gym) -> Gym {
     Gym {
         order: Vec::new(),
         open: Vec::new(),
-        ..gym.clone()
+        ..without_turns(gym)
     }
 }
 
@@ -315,6 +375,24 @@ fn with_kinds(text: &[u8]) -> Vec<u8> {
     out
 }
 
+/// The text with the edges' line of a file with turns and the turn 0 in each of its rows.
+fn with_zeros(text: &[u8]) -> Vec<u8> {
+    let mut edges = false;
+    let mut out = Vec::new();
+    for line in text.split_inclusive(|&b| b == b'\n') {
+        if line[0].is_ascii_lowercase() {
+            edges = line == b"from label to\n";
+            out.extend(if edges { b"from label turn to\n" } else { line });
+        } else if edges {
+            let space = line.iter().rposition(|&b| b == b' ').expect("three fields");
+            out.extend([&line[..space], b" 0", &line[space..]].concat());
+        } else {
+            out.extend(line);
+        }
+    }
+    out
+}
+
 /// What the program prints without the heads' kinds.
 fn without_kinds(printed: Vec<u8>) -> String {
     let printed = String::from_utf8(printed).expect("ASCII");
@@ -323,16 +401,48 @@ fn without_kinds(printed: Vec<u8>) -> String {
         .replace(" v ", " ")
 }
 
-/// An old file means what the same file with every kind `v` means.
+fn converted(convert: fn(&[u8], &mut [u8]) -> Result<usize, u8>, text: &[u8]) -> Vec<u8> {
+    let mut out = vec![b'#'; gym::LONGEST];
+    let n = convert(text, &mut out).unwrap_or(0);
+    out.truncate(n);
+    out
+}
+
+/// An old file means what the same file with every kind `v` means, and what that means with every
+/// turn 0; each converts to the others, but that none gets its turns back.
 fn check_forms(seed: usize, text: &[u8]) {
-    let new = with_kinds(text);
-    let (mut a, mut b) = (vec![7; 12_300], vec![7; 12_300]);
-    let same = gym::read(text, &mut a) == gym::read(&new, &mut b) && (a[0], b[0]) == (0, 1);
-    if !same || a[1..] != b[1..] {
-        fail(seed, "other cells in the form with kinds", text);
+    let kinds = with_kinds(text);
+    let zeros = with_zeros(&kinds);
+    let mut tables = vec![vec![7; 12_300]; 3];
+    for (form, text) in [text, &kinds, &zeros].into_iter().enumerate() {
+        let cells = gym::read(text, &mut tables[form]);
+        if cells.is_err() || tables[form][0] != form as u64 || tables[form][1..] != tables[0][1..] {
+            fail(seed, "other cells in another form", text);
+        }
+        if without_kinds(answers::program(text)) != without_kinds(answers::program(&kinds)) {
+            fail(seed, "other answers in another form", text);
+        }
     }
-    if without_kinds(answers::program(&new)) != without_kinds(answers::program(text)) {
-        fail(seed, "other answers in the form with kinds", text);
+    for (from, old, new) in [
+        (text, text, &kinds),
+        (&kinds, text, &kinds),
+        (&zeros, text, &zeros),
+    ] {
+        if converted(answers::to_old, from) != old || converted(answers::to_new, from) != *new {
+            fail(seed, "conversion", from);
+        }
+    }
+}
+
+/// A file with a turn other than 0 has no old form, and is in the new one.
+fn check_turns(seed: usize, text: &[u8], gym: &Gym, c: &mut Counts) {
+    let turned = gym.turns.iter().any(|&turn| turn != 0);
+    c.only_turns_0 += usize::from(!turned);
+    if turned && answers::to_old(text, &mut []) != Err(14) {
+        fail(seed, "14", text);
+    }
+    if converted(answers::to_new, text) != text {
+        fail(seed, "not as it was", text);
     }
 }
 
@@ -348,8 +458,15 @@ fn check(seed: usize, c: &mut Counts) {
         }
     }
     match gym.form {
-        Form::Old => check_forms(seed, &text),
+        Form::Old => {
+            c.old += 1;
+            check_forms(seed, &text)
+        }
         Form::Kinds => c.with_kinds += 1,
+        Form::Turns => {
+            c.with_turns += 1;
+            check_turns(seed, &text, &gym, c)
+        }
     }
     let past = gym.queries.len();
     if answers::listing(&text, past, &mut []) != Err(7) || !gym::name_sought(&text, past).is_empty()

@@ -1,8 +1,9 @@
 use Prim.Native.Nat.{ℕ}
 use mathlib.Core.Path.{_≡_, sym, ap, subst, _∙_}
 use mathlib.Core.List.{List}
-use lib.ListN.{length}
+use lib.ListN.{length, set, length-set}
 use Rattle.graph_table.specs.Sections.{startOf}
+use Rattle.block.specs.Layout.{TURN}
 use Rattle.board.specs.Tables.{tabulate}
 use Rattle.board.specs.Edges.{EdgesPut}
 use Rattle.board.specs.Marks.{declaredCell}
@@ -40,17 +41,22 @@ slice-aggregate-put-cells c = search needs
 put-cells-requires-2 : tie.Need-put-cells-requires-2
 put-cells-requires-2 c κs = search needs
 
+slice-write-block : tie.Need-slice-write-block
+slice-write-block c = let size = c .before .before .put-cells2 .kept .0 ∙ c .before .before .before .before .before .before .before .before .before .before .put-edges .kept .1 .0 ∙ c .before .before .before .before .before .before .before .before .before .before .before .before .before .before .before .put-cells .kept .0 ∙ c .before .before .before .before .before .before .before .before .before .before .before .before .before .before .before .before .before .before .before .before .pre .1 in omega arith
+
 same-length : tie.Need-same-length
-same-length c = search needs
+same-length c = length-set (c .before .before .put-cells2 .last .0) TURN (c .before .before .before .before .before .before .before .before .before .before .put-edges .result)
+    ∙ c .before .before .put-cells2 .kept .0 ∙ c .before .before .before .before .before .before .before .before .before .before .put-edges .kept .1 .0 ∙ c .before .before .before .before .before .before .before .before .before .before .before .before .before .before .before .put-cells .kept .0
 
 returns : tie.Need-returns
 returns c = let a = c .before .before .before .before .before .before .before .before .before .before .before .before .before .before .before .before .before .before .before .before .args in
     let at-is = c .before .before .before .before .before .before .before .before .before .before .before .before .before .before .before .before .before .before .before .before .pre .0 in
     let c1 = c .before .before .before .before .before .before .before .before .before .before .before .before .before .before .before .put-cells .last .0 in
     let c2 = c .before .before .before .before .before .before .before .before .before .before .put-edges .last .1 .0 in
-    subst (λ (x : List ℕ). GraphPut (a .table .now) (a .block .now) x) (sym (c .before .before .put-cells2 .ensures))
-    (graph-put (a .table .now) (a .block .now) c1 c2 (a .at .now) (c .before .before .before .before .before .declared-table .result) (c .before .before .before .before .before .before .before .before .before .before .before .before .before .before .before .before .before .before .before .before .pre .1) at-is (c .before .before .before .before .before .before .before .before .before .before .before .before .before .before .before .put-cells .ensures)
-    (subst (λ (x : List ℕ). EdgesPut x c1 c2) (c .before .before .before .before .before .before .before .before .before .before .before .before .rows-at .ensures) (c .before .before .before .before .before .before .before .before .before .before .put-edges .ensures))
+    let turn = c .before .before .before .before .before .before .before .before .before .before .put-edges .result in
+    subst (λ (x : List ℕ). GraphPut (a .table .now) (a .block .now) (set x TURN turn)) (sym (c .before .before .put-cells2 .ensures))
+    (graph-put (a .table .now) (a .block .now) c1 c2 (a .at .now) (c .before .before .before .before .before .declared-table .result) turn (c .before .before .before .before .before .before .before .before .before .before .before .before .before .before .before .before .before .before .before .before .pre .1) at-is (c .before .before .before .before .before .before .before .before .before .before .before .before .before .before .before .put-cells .ensures)
+    (subst (λ (x : List ℕ). EdgesPut x c1 c2 turn) (c .before .before .before .before .before .before .before .before .before .before .before .before .rows-at .ensures) (c .before .before .before .before .before .before .before .before .before .before .put-edges .ensures))
     (c .before .before .before .before .before .declared-table .ensures
     ∙ ap (λ (n : ℕ). tabulate (declaredCell n (c .before .before .before .before .before .before .rows-at2 .result .now)) 65) (at-is .places 6 (omega arith))
     ∙ ap (λ (x : List ℕ). tabulate (declaredCell (startOf 6 (a .table .now)) x) 65) (c .before .before .before .before .before .before .rows-at2 .ensures)))
@@ -67,5 +73,6 @@ put-graph-spec =
     declared-table-requires
     slice-aggregate-put-cells
     put-cells-requires-2
+    slice-write-block
     same-length
     returns)

@@ -86,14 +86,14 @@ slice-aggregate-put-cells-4 c = search needs
 put-cells-requires-4 : tie.Need-put-cells-requires-4
 put-cells-requires-4 c κs = let z = c .before .before .before .before .before .before .before .before .before .put-cells2 .kept .0 ∙ c .before .before .before .before .before .before .before .before .before .before .before .before .before .before .put-cells .kept .0 ∙ c .before .before .before .before .before .before .before .before .before .before .before .before .before .before .before .before .before .before .before .before .before .before .before .before .before .before .before .before .before .before .before .before .before .before .pre .1 in
     let b = c .before .before .before .before .before .before .before .before .before .put-cells2 .last .0 in
-    let y : length (c .before .before .before .before .put-cells3 .last .0) ≡ 1899 = c .before .before .before .before .put-cells3 .kept .0 ∙ length-set (set b 137 (c .before .before .before .before .before .before .before .before .before .before .before .before .before .before .before .before .before .before .before .before .before .before .before .before .before .accept-set .result)) 138 (c .before .before .before .before .before .before .before .before .before .before .before .before .before .before .before .before .before .before .before .value-of .result) ∙ length-set b 137 (c .before .before .before .before .before .before .before .before .before .before .before .before .before .before .before .before .before .before .before .before .before .before .before .before .before .accept-set .result) ∙ z in
+    let y : length (c .before .before .before .before .put-cells3 .last .0) ≡ 1900 = c .before .before .before .before .put-cells3 .kept .0 ∙ length-set (set b 137 (c .before .before .before .before .before .before .before .before .before .before .before .before .before .before .before .before .before .before .before .before .before .before .before .before .before .accept-set .result)) 138 (c .before .before .before .before .before .before .before .before .before .before .before .before .before .before .before .before .before .before .before .value-of .result) ∙ length-set b 137 (c .before .before .before .before .before .before .before .before .before .before .before .before .before .before .before .before .before .before .before .before .before .before .before .before .before .accept-set .result) ∙ z in
     let u = ap length (c .before .before .before .before .before .before .before .before .before .before .before .before .before .before .before .before .before .letter-table .ensures) ∙ tabulate-length _ 8 in omega arith
 
 slice-write-block-3 : tie.Need-slice-write-block-3
 slice-write-block-3 c = let z = c .before .before .before .before .before .before .before .before .before .before .before .before .put-cells2 .kept .0 ∙ c .before .before .before .before .before .before .before .before .before .before .before .before .before .before .before .before .before .put-cells .kept .0 ∙ c .before .before .before .before .before .before .before .before .before .before .before .before .before .before .before .before .before .before .before .before .before .before .before .before .before .before .before .before .before .before .before .before .before .before .before .before .before .pre .1 in
     let b = c .before .before .before .before .before .before .before .before .before .before .before .before .put-cells2 .last .0 in
-    let y : length (c .before .before .before .before .before .before .before .put-cells3 .last .0) ≡ 1899 = c .before .before .before .before .before .before .before .put-cells3 .kept .0 ∙ length-set (set b 137 (c .before .before .before .before .before .before .before .before .before .before .before .before .before .before .before .before .before .before .before .before .before .before .before .before .before .before .before .before .accept-set .result)) 138 (c .before .before .before .before .before .before .before .before .before .before .before .before .before .before .before .before .before .before .before .before .before .before .value-of .result) ∙ length-set b 137 (c .before .before .before .before .before .before .before .before .before .before .before .before .before .before .before .before .before .before .before .before .before .before .before .before .before .before .before .before .accept-set .result) ∙ z in
-    let x : length (c .before .before .put-cells4 .last .0) ≡ 1899 = c .before .before .put-cells4 .kept .0 ∙ y in omega arith
+    let y : length (c .before .before .before .before .before .before .before .put-cells3 .last .0) ≡ 1900 = c .before .before .before .before .before .before .before .put-cells3 .kept .0 ∙ length-set (set b 137 (c .before .before .before .before .before .before .before .before .before .before .before .before .before .before .before .before .before .before .before .before .before .before .before .before .before .before .before .before .accept-set .result)) 138 (c .before .before .before .before .before .before .before .before .before .before .before .before .before .before .before .before .before .before .before .before .before .before .value-of .result) ∙ length-set b 137 (c .before .before .before .before .before .before .before .before .before .before .before .before .before .before .before .before .before .before .before .before .before .before .before .before .before .before .before .before .accept-set .result) ∙ z in
+    let x : length (c .before .before .put-cells4 .last .0) ≡ 1900 = c .before .before .put-cells4 .kept .0 ∙ y in omega arith
 
 same-length : tie.Need-same-length
 same-length c = let z = c .before .before .before .before .before .before .before .before .before .before .before .before .put-cells2 .kept .0 ∙ c .before .before .before .before .before .before .before .before .before .before .before .before .before .before .before .before .before .put-cells .kept .0 in

@@ -38,26 +38,20 @@ pair-requires-3 c κs = search needs
 enum-known-more-2 : tie.Need-enum-known-more-2
 enum-known-more-2 c = search needs
 
-label-end-requires-3 : tie.Need-label-end-requires-3
-label-end-requires-3 c κs = search needs
-
-label-end-requires-4 : tie.Need-label-end-requires-4
-label-end-requires-4 c κs = search needs
-
-pair-requires-4 : tie.Need-pair-requires-4
-pair-requires-4 c κs = search needs
+step-preferred-requires : tie.Need-step-preferred-requires
+step-preferred-requires c κs = search needs
 
 returns : tie.Need-returns
 returns c = let a = c .before .before .before .before .before .before .args in both-stop (now (a .block)) (a .p .less) (a .p .more) (c .pair .result) (c .before .before .before .enum-told .given .1) (c .before .enum-told2 .given .1) (c .pair .ensures)
 
 returns-2 : tie.Need-returns-2
-returns-2 c = let a = c .before .before .before .before .before .before .before .before .args in second-label (now (a .block)) (a .p .less) (a .p .more) (c .pair2 .result) _ _ (c .before .before .before .before .before .enum-told .given .1) (c .before .before .before .more .given .1) (c .before .label-end .ensures) (c .pair2 .ensures)
+returns-2 c = let a = c .before .before .before .before .before .before .before .before .args in second-label (now (a .block)) (a .p .less) (a .p .more) (c .pair2 .result) _ _ _ (c .before .before .before .before .before .enum-told .given .1) (c .before .before .before .more .given .1) (c .before .label-end .ensures) (c .pair2 .ensures)
 
 returns-3 : tie.Need-returns-3
-returns-3 c = let a = c .before .before .before .before .before .before .before .before .args in first-label (now (a .block)) (a .p .less) (a .p .more) (c .pair3 .result) _ _ (c .before .before .before .before .before .less .given .1) (c .before .before .enum-told3 .given .1) (c .before .label-end2 .ensures) (c .pair3 .ensures)
+returns-3 c = let a = c .before .before .before .before .before .before .before .before .args in first-label (now (a .block)) (a .p .less) (a .p .more) (c .pair3 .result) _ _ _ (c .before .before .before .before .before .less .given .1) (c .before .before .enum-told3 .given .1) (c .before .label-end2 .ensures) (c .pair3 .ensures)
 
 returns-4 : tie.Need-returns-4
-returns-4 c = let a = c .before .before .before .before .before .before .before .before .before .before .args in both-label (now (a .block)) (a .p .less) (a .p .more) (c .pair4 .result) _ _ _ _ (c .before .before .before .before .before .before .before .less .given .1) (c .before .before .before .before .more2 .given .1) (c .before .before .label-end3 .ensures) (c .before .label-end4 .ensures) (c .pair4 .ensures)
+returns-4 c = let a = c .before .before .before .before .before .before .before .before .args in both-label (now (a .block)) (a .p .less) (a .p .more) (c .step-preferred .result) _ _ _ _ (c .before .before .before .before .before .less .given .1) (c .before .before .more2 .given .1) (c .step-preferred .ensures)
 
 pub preferred-spec : {M : Type 1} → statement M
 preferred-spec =
@@ -74,9 +68,7 @@ preferred-spec =
     label-end-requires-2
     pair-requires-3
     enum-known-more-2
-    label-end-requires-3
-    label-end-requires-4
-    pair-requires-4
+    step-preferred-requires
     returns
     returns-2
     returns-3

@@ -17,7 +17,7 @@ steps-preferred-requires : tie.Need-steps-preferred-requires
 steps-preferred-requires c κs = c .before .before .before .before .before .pre
 
 returns : tie.Need-returns
-returns c = c .steps-preferred .ensures ∙ steps-as (now (c .before .before .before .before .before .before .args .block)) _ _ _ _ (steps-first _ _ (c .before .before .first-step .ensures)) (steps-first _ _ (c .before .first-step2 .ensures))
+returns c = c .steps-preferred .ensures ∙ steps-as (now (c .before .before .before .before .before .before .args .block)) (c .before .before .before .before .before .before .args .start) _ _ _ _ (steps-first _ _ (c .before .before .first-step .ensures)) (steps-first _ _ (c .before .first-step2 .ensures))
 
 pub row-preferred-spec : {M : Type 1} → statement M
 row-preferred-spec =

@@ -5,6 +5,7 @@ use borrow.Author.Tests.{not-true, not-false}
 use lib.ListN.{drop}
 use Rattle.graph_file.specs.Admission.{rowOf, inRange, unless}
 use Rattle.graph_file.specs.Table.{itemsAt, rangePlace}
+use Rattle.graph_file.proofs.ColumnLaws.{layout-limit, layout-range}
 use Rattle.graph_file.proofs.AdmissionLaws.{refused-full, refused-range, follows-last}
 use borrow.Author.Needs.{needs}
 use Rattle.graph_file.proofs.admission.admitted.Statement.{statement}
@@ -13,33 +14,29 @@ use Rattle.graph_file.proofs.admission.admitted.Reads as reads
 use Rattle.graph_file.proofs.admission.admitted.Lts as lts
 use Rattle.graph_file.proofs.admission.in_range.Reads as in-range-reads
 use Rattle.graph_file.proofs.admission.row_follows.Reads as row-follows-reads
-use Rattle.graph_file.proofs.format.range_place.Reads as range-place-reads
 
 cast-if1 : tie.Need-cast-if1
 cast-if1 c = search needs
 
 returns : tie.Need-returns
-returns c = let a = c .before .before .before .args in λ form. sym (refused-full form (a .k) (a .table .now) (a .p) (a .c) (omega (arith, c .before .before .before .pre .1, c .if1 .taken)))
-
-range-place-requires : tie.Need-range-place-requires
-range-place-requires c κs = search needs
+returns c = let a = c .before .before .before .before .args in sym (refused-full (a .s .form) (a .s .section) (a .table .now) (a .p) (a .c) (omega (arith, layout-limit (a .s) (c .before .before .before .before .pre .1 .1), c .if1 .taken)))
 
 in-range-requires : tie.Need-in-range-requires
 in-range-requires c κs = search needs
 
 returns-2 : tie.Need-returns-2
-returns-2 c = let a = c .before .before .before .before .before .before .args in let i : inRange (a .c .labels) (a .c .scopes) (itemsAt (rangePlace (a .k))) (rowOf (drop (a .p) (a .table .now))) ≡ false = rw (← c .before .before .range-place .ensures, ← c .before .in-range .ensures) (not-true _ (c .if2 .taken)) in λ form. sym (refused-range form (a .k) (a .table .now) (a .p) (a .c) (omega (arith, c .before .before .before .before .before .before .pre .1, c .before .before .before .if1 .left)) i)
+returns-2 c = let a = c .before .before .before .before .before .before .args in let i : inRange (a .c .labels) (a .c .scopes) (itemsAt (rangePlace (a .s .form) (a .s .section))) (rowOf (drop (a .p) (a .table .now))) ≡ false = rw (← layout-range (a .s) (c .before .before .before .before .before .before .pre .1 .1), ← c .before .in-range .ensures) (not-true _ (c .if2 .taken)) in sym (refused-range (a .s .form) (a .s .section) (a .table .now) (a .p) (a .c) (omega (arith, layout-limit (a .s) (c .before .before .before .before .before .before .pre .1 .1), c .before .before .if1 .left)) i)
 
 row-follows-requires : tie.Need-row-follows-requires
 row-follows-requires c κs = search needs
 
 returns-3 : tie.Need-returns-3
 unfolding unless
-returns-3 c = let a = c .before .before .before .before .before .before .before .before .args in let i : inRange (a .c .labels) (a .c .scopes) (itemsAt (rangePlace (a .k))) (rowOf (drop (a .p) (a .table .now))) ≡ true = rw (← c .before .before .before .before .range-place .ensures, ← c .before .before .before .in-range .ensures) (not-false _ (c .before .before .if2 .left)) in λ form. sym (follows-last form (a .k) (a .table .now) (a .p) (a .c) (omega (arith, c .before .before .before .before .before .before .before .before .pre .1, c .before .before .before .before .before .if1 .left)) i (sym (c .before .row-follows .ensures) ∙ not-true _ (c .if3 .taken)))
+returns-3 c = let a = c .before .before .before .before .before .before .before .before .args in let i : inRange (a .c .labels) (a .c .scopes) (itemsAt (rangePlace (a .s .form) (a .s .section))) (rowOf (drop (a .p) (a .table .now))) ≡ true = rw (← layout-range (a .s) (c .before .before .before .before .before .before .before .before .pre .1 .1), ← c .before .before .before .in-range .ensures) (not-false _ (c .before .before .if2 .left)) in sym (follows-last (a .s .form) (a .s .section) (a .table .now) (a .p) (a .c) (omega (arith, layout-limit (a .s) (c .before .before .before .before .before .before .before .before .pre .1 .1), c .before .before .before .before .if1 .left)) i (sym (c .before .row-follows .ensures) ∙ not-true _ (c .if3 .taken)))
 
 returns-4 : tie.Need-returns-4
 unfolding unless
-returns-4 c = let a = c .before .before .before .before .before .before .before .before .args in let i : inRange (a .c .labels) (a .c .scopes) (itemsAt (rangePlace (a .k))) (rowOf (drop (a .p) (a .table .now))) ≡ true = rw (← c .before .before .before .before .range-place .ensures, ← c .before .before .before .in-range .ensures) (not-false _ (c .before .before .if2 .left)) in λ form. sym (follows-last form (a .k) (a .table .now) (a .p) (a .c) (omega (arith, c .before .before .before .before .before .before .before .before .pre .1, c .before .before .before .before .before .if1 .left)) i (sym (c .before .row-follows .ensures) ∙ not-false _ (c .if3 .left)))
+returns-4 c = let a = c .before .before .before .before .before .before .before .before .args in let i : inRange (a .c .labels) (a .c .scopes) (itemsAt (rangePlace (a .s .form) (a .s .section))) (rowOf (drop (a .p) (a .table .now))) ≡ true = rw (← layout-range (a .s) (c .before .before .before .before .before .before .before .before .pre .1 .1), ← c .before .before .before .in-range .ensures) (not-false _ (c .before .before .if2 .left)) in sym (follows-last (a .s .form) (a .s .section) (a .table .now) (a .p) (a .c) (omega (arith, layout-limit (a .s) (c .before .before .before .before .before .before .before .before .pre .1 .1), c .before .before .before .before .if1 .left)) i (sym (c .before .row-follows .ensures) ∙ not-false _ (c .if3 .left)))
 
 pub admitted-spec : {M : Type 1} → statement M
 admitted-spec =
@@ -47,7 +44,6 @@ admitted-spec =
     (tie.spec
     cast-if1
     returns
-    range-place-requires
     in-range-requires
     returns-2
     row-follows-requires

@@ -2,7 +2,7 @@ use mathlib.Core.Path.{sym}
 use borrow.Author.Tests.{le-leb, lt-leb}
 use Rattle.graph_file.specs.Admission.{contentInRange}
 use Rattle.graph_file.specs.Table.{contentOf}
-use Rattle.graph_file.proofs.FormatLaws.{content-free}
+use Rattle.graph_file.proofs.ColumnLaws.{content-turn, past-plain}
 use Rattle.graph_file.proofs.admission.content_in_range.Statement.{statement}
 use Rattle.graph_file.proofs.admission.content_in_range.Tie as tie
 use Rattle.graph_file.proofs.admission.content_in_range.Reads as reads
@@ -42,7 +42,19 @@ returns-8 c = rw (c .match .keys7)
 
 returns-9 : tie.Need-returns-9
 unfolding contentInRange contentOf
-returns-9 c = let r = c .match .rest in sym (content-free _ _ (c .before .args .content) _ (r .0 .0 .0 .0 .0 .0 .1) (r .0 .0 .0 .0 .0 .1) (r .0 .0 .0 .0 .1) (r .0 .0 .0 .1) (r .0 .0 .1) (r .0 .1) (r .1))
+returns-9 c = rw (c .match .keys8)
+
+returns-10 : tie.Need-returns-10
+unfolding contentInRange contentOf
+returns-10 c = rw (c .match .keys9)
+
+returns-11 : tie.Need-returns-11
+unfolding contentInRange contentOf
+returns-11 c = rw (c .match .keys10)
+
+returns-12 : tie.Need-returns-12
+unfolding contentInRange
+returns-12 c = let r = c .match .rest in let n = c .before .args .content in sym (rw (content-turn n (past-plain n (r .0 .0 .0 .0 .0 .0 .0 .0 .0 .1) (r .0 .0 .0 .0 .0 .0 .0 .0 .1) (r .0 .0 .0 .0 .0 .0 .0 .1) (r .0 .0 .0 .0 .0 .0 .1) (r .0 .0 .0 .0 .0 .1) (r .0 .0 .0 .0 .1) (r .0 .0 .0 .1) (r .0 .0 .1) (r .0 .1) (r .1))))
 
 pub content-in-range-spec : {M : Type 1} → statement M
 content-in-range-spec =
@@ -56,4 +68,7 @@ content-in-range-spec =
     returns-6
     returns-7
     returns-8
-    returns-9)
+    returns-9
+    returns-10
+    returns-11
+    returns-12)

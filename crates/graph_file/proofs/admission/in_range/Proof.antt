@@ -18,7 +18,7 @@ abbrev Inv-loop : tie.InvT-loop
 Inv-loop format o labels scopes table p i₀ x₀ i x = (x ≡ getD formatBytes i 10) × (everyItem (itemInRange labels scopes (rowOf (drop p table))) (itemsAt i) ≡ everyItem (itemInRange labels scopes (rowOf (drop p table))) (itemsAt o))
 
 abbrev μ-loop : tie.MeasureT-loop
-μ-loop format o labels scopes table p i₀ x₀ i x = 227 - i
+μ-loop format o labels scopes table p i₀ x₀ i x = 260 - i
 
 item-requires : tie.Need-item-requires Inv-loop μ-loop
 item-requires c κs = c .before .before .pre .0
@@ -34,13 +34,13 @@ unfolding inRange
 returns c = let l = c .before .before .before .loop in sym (sym (l .inv .1) ∙ every-false _ (l .i) (l .x) (l .inv .0) (c .before .before .loop-test .taken) (sym (c .before .item-in-range .ensures) ∙ not-true _ (c .if1 .taken)))
 
 add-i : tie.Need-add-i Inv-loop μ-loop
-add-i c = let l = c .before .before .before .loop in let h : l .i < 227 = within-format (l .i) (λ e. c .before .before .loop-test .taken (l .inv .0 ∙ e)) in omega arith
+add-i c = let l = c .before .before .before .loop in let h : l .i < 260 = within-format (l .i) (λ e. c .before .before .loop-test .taken (l .inv .0 ∙ e)) in omega arith
 
 item-requires-2 : tie.Need-item-requires-2 Inv-loop μ-loop
 item-requires-2 c κs = c .before .before .before .before .before .before .before .pre .0
 
 loop-less : tie.Need-loop-less Inv-loop μ-loop
-loop-less c = let l = c .before .before .before .before .loop in let h : l .i < 227 = within-format (l .i) (λ e. c .before .before .before .loop-test .taken (l .inv .0 ∙ e)) in omega arith
+loop-less c = let l = c .before .before .before .before .loop in let h : l .i < 260 = within-format (l .i) (λ e. c .before .before .before .loop-test .taken (l .inv .0 ∙ e)) in omega arith
 
 loop-again : tie.Need-loop-again Inv-loop μ-loop
 loop-again c = let l = c .before .before .before .before .loop in (c .item2 .ensures, every-true _ (l .i) (l .x) (l .inv .0) (c .before .before .before .loop-test .taken) (sym (c .before .before .item-in-range .ensures) ∙ not-false _ (c .before .if1 .left)) ∙ l .inv .1)

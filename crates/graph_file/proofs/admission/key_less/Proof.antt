@@ -17,7 +17,7 @@ abbrev Inv-loop : tie.InvT-loop
 Inv-loop format o table q p i₀ x₀ i x = (x ≡ getD formatBytes i 10) × (keyLess (keyAt i) (rowOf (drop q table)) (rowOf (drop p table)) ≡ keyLess (keyAt o) (rowOf (drop q table)) (rowOf (drop p table)))
 
 abbrev μ-loop : tie.MeasureT-loop
-μ-loop format o table q p i₀ x₀ i x = 227 - i
+μ-loop format o table q p i₀ x₀ i x = 260 - i
 
 item-requires : tie.Need-item-requires Inv-loop μ-loop
 item-requires c κs = c .before .before .pre .0
@@ -41,13 +41,13 @@ returns-2 : tie.Need-returns-2 Inv-loop μ-loop
 returns-2 c = let l = c .before .before .before .before .before .loop in sym (sym (l .inv .1) ∙ key-greater (l .i) (l .x) _ _ (l .inv .0) (c .before .before .before .before .loop-test .taken) (omega (arith, c .before .before .before .value-at .ensures, c .before .before .value-at2 .ensures, c .before .if1 .left)) (λ e. c .if2 .taken (c .before .before .before .value-at .ensures ∙ e ∙ sym (c .before .before .value-at2 .ensures))))
 
 add-i : tie.Need-add-i Inv-loop μ-loop
-add-i c = let l = c .before .before .before .before .before .loop in let h : l .i < 227 = within-format (l .i) (λ e. c .before .before .before .before .loop-test .taken (l .inv .0 ∙ e)) in omega arith
+add-i c = let l = c .before .before .before .before .before .loop in let h : l .i < 260 = within-format (l .i) (λ e. c .before .before .before .before .loop-test .taken (l .inv .0 ∙ e)) in omega arith
 
 item-requires-2 : tie.Need-item-requires-2 Inv-loop μ-loop
 item-requires-2 c κs = c .before .before .before .before .before .before .before .before .before .pre .0
 
 loop-less : tie.Need-loop-less Inv-loop μ-loop
-loop-less c = let l = c .before .before .before .before .before .before .loop in let h : l .i < 227 = within-format (l .i) (λ e. c .before .before .before .before .before .loop-test .taken (l .inv .0 ∙ e)) in omega arith
+loop-less c = let l = c .before .before .before .before .before .before .loop in let h : l .i < 260 = within-format (l .i) (λ e. c .before .before .before .before .before .loop-test .taken (l .inv .0 ∙ e)) in omega arith
 
 loop-again : tie.Need-loop-again Inv-loop μ-loop
 loop-again c = let l = c .before .before .before .before .before .before .loop in (c .item2 .ensures, key-equal (l .i) (l .x) _ _ (l .inv .0) (c .before .before .before .before .before .loop-test .taken) (sym (c .before .before .before .before .value-at .ensures) ∙ c .before .if2 .left ∙ c .before .before .before .value-at2 .ensures) ∙ l .inv .1)

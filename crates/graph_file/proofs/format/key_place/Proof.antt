@@ -45,7 +45,7 @@ returns-9 c = rw (c .match .keys9)
 
 returns-10 : tie.Need-returns-10
 unfolding keyPlace
-returns-10 c = sym (List·getD-eq-default keyPlaces 227 {n = c .before .args .k} (let r = c .match .rest in past-last (c .before .args .k) (r .0 .0 .0 .0 .0 .0 .0 .0 .1) (r .0 .0 .0 .0 .0 .0 .0 .1) (r .0 .0 .0 .0 .0 .0 .1) (r .0 .0 .0 .0 .0 .1) (r .0 .0 .0 .0 .1) (r .0 .0 .0 .1) (r .0 .0 .1) (r .0 .1) (r .1)))
+returns-10 c = sym (List·getD-eq-default keyPlaces 260 {n = c .before .args .k} (let r = c .match .rest in past-last (c .before .args .k) (r .0 .0 .0 .0 .0 .0 .0 .0 .1) (r .0 .0 .0 .0 .0 .0 .0 .1) (r .0 .0 .0 .0 .0 .0 .1) (r .0 .0 .0 .0 .0 .1) (r .0 .0 .0 .0 .1) (r .0 .0 .0 .1) (r .0 .0 .1) (r .0 .1) (r .1)))
 
 pub key-place-spec : {M : Type 1} → statement M
 key-place-spec =

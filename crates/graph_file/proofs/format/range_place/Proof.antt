@@ -2,10 +2,20 @@ use mathlib.Core.Path.{sym}
 use lib.ListN.{List·getD-eq-default}
 use Rattle.graph_file.specs.Table.{rangePlaces, rangePlace}
 use Rattle.graph_file.proofs.FormatLaws.{past-last}
+use Rattle.graph_file.proofs.ColumnLaws.{place-told}
+use borrow.Author.Needs.{needs}
 use Rattle.graph_file.proofs.format.range_place.Statement.{statement}
 use Rattle.graph_file.proofs.format.range_place.Tie as tie
 use Rattle.graph_file.proofs.format.range_place.Reads as reads
 use Rattle.graph_file.proofs.format.range_place.Lts as lts
+use Rattle.graph_file.proofs.format.has_turns.Reads as has-turns-reads
+use Rattle.graph_file.proofs.format.place_by.Reads as place-by-reads
+
+has-turns-requires : tie.Need-has-turns-requires
+has-turns-requires c κs = search needs
+
+place-by-requires : tie.Need-place-by-requires
+place-by-requires c κs = search needs
 
 returns : tie.Need-returns
 unfolding rangePlace
@@ -29,7 +39,7 @@ returns-5 c = rw (c .match .keys5)
 
 returns-6 : tie.Need-returns-6
 unfolding rangePlace
-returns-6 c = rw (c .match .keys6)
+returns-6 c = rw (c .before .before .match .keys6) (place-told _ _ _ _ _ (c .place-by .ensures) (c .before .has-turns .ensures))
 
 returns-7 : tie.Need-returns-7
 unfolding rangePlace
@@ -45,12 +55,14 @@ returns-9 c = rw (c .match .keys9)
 
 returns-10 : tie.Need-returns-10
 unfolding rangePlace
-returns-10 c = sym (List·getD-eq-default rangePlaces 227 {n = c .before .args .k} (let r = c .match .rest in past-last (c .before .args .k) (r .0 .0 .0 .0 .0 .0 .0 .0 .1) (r .0 .0 .0 .0 .0 .0 .0 .1) (r .0 .0 .0 .0 .0 .0 .1) (r .0 .0 .0 .0 .0 .1) (r .0 .0 .0 .0 .1) (r .0 .0 .0 .1) (r .0 .0 .1) (r .0 .1) (r .1)))
+returns-10 c = sym (List·getD-eq-default (rangePlaces (c .before .args .form)) 260 {n = c .before .args .k} (let r = c .match .rest in past-last (c .before .args .k) (r .0 .0 .0 .0 .0 .0 .0 .0 .1) (r .0 .0 .0 .0 .0 .0 .0 .1) (r .0 .0 .0 .0 .0 .0 .1) (r .0 .0 .0 .0 .0 .1) (r .0 .0 .0 .0 .1) (r .0 .0 .0 .1) (r .0 .0 .1) (r .0 .1) (r .1)))
 
 pub range-place-spec : {M : Type 1} → statement M
 range-place-spec =
     tie.close
     (tie.spec
+    has-turns-requires
+    place-by-requires
     returns
     returns-2
     returns-3

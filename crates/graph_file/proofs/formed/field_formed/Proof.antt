@@ -4,7 +4,7 @@ use borrow.Author.Tests.{le-leb, lt-leb}
 use Rattle.text_field.specs.Bytes.{within, isCapital, isLower}
 use Rattle.graph_file.specs.Line.{fieldFormed}
 use Rattle.graph_file.specs.Table.{contentOf}
-use Rattle.graph_file.proofs.FormatLaws.{content-plain}
+use Rattle.graph_file.proofs.ColumnLaws.{content-turn}
 use Rattle.graph_file.proofs.WriteLaws.{formed-number}
 use borrow.Author.Needs.{needs}
 use Rattle.graph_file.proofs.formed.field_formed.Statement.{statement}
@@ -48,8 +48,12 @@ unfolding fieldFormed contentOf within isLower
 returns-8 c = rw (c .before .match .keys5, lt-leb _ _ (c .if3 .left))
 
 returns-9 : tie.Need-returns-9
+unfolding fieldFormed contentOf
+returns-9 c = rw (c .match .keys6)
+
+returns-10 : tie.Need-returns-10
 unfolding fieldFormed
-returns-9 c = let r = c .match .rest in sym (rw (content-plain (c .before .before .args .content) (omega (arith, c .before .if1 .left, r .0 .0 .0 .0 .1, r .0 .0 .0 .1, r .0 .0 .1, r .0 .1, r .1))))
+returns-10 c = let r = c .match .rest in sym (rw (content-turn (c .before .before .args .content) (omega (arith, c .before .if1 .left, r .0 .0 .0 .0 .0 .1, r .0 .0 .0 .0 .1, r .0 .0 .0 .1, r .0 .0 .1, r .0 .1, r .1))))
 
 pub field-formed-spec : {M : Type 1} → statement M
 field-formed-spec =
@@ -64,4 +68,5 @@ field-formed-spec =
     returns-6
     returns-7
     returns-8
-    returns-9)
+    returns-9
+    returns-10)

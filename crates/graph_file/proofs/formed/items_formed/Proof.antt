@@ -19,7 +19,7 @@ abbrev Inv-loop : tie.InvT-loop
 Inv-loop format o row i₀ x₀ i x = (x ≡ getD formatBytes i 10) × (everyItem (itemFormed row) (itemsAt i) ≡ everyItem (itemFormed row) (itemsAt o))
 
 abbrev μ-loop : tie.MeasureT-loop
-μ-loop format o row i₀ x₀ i x = 227 - i
+μ-loop format o row i₀ x₀ i x = 260 - i
 
 item-requires : tie.Need-item-requires Inv-loop μ-loop
 item-requires c κs = c .before .before .pre
@@ -34,13 +34,13 @@ returns : tie.Need-returns Inv-loop μ-loop
 returns c = let l = c .before .before .before .loop in sym (sym (l .inv .1) ∙ every-false _ (l .i) (l .x) (l .inv .0) (c .before .before .loop-test .taken) (sym (c .before .item-formed .ensures) ∙ not-true _ (c .if1 .taken)))
 
 add-i : tie.Need-add-i Inv-loop μ-loop
-add-i c = let l = c .before .before .before .loop in let h : l .i < 227 = within-format (l .i) (λ e. c .before .before .loop-test .taken (l .inv .0 ∙ e)) in omega arith
+add-i c = let l = c .before .before .before .loop in let h : l .i < 260 = within-format (l .i) (λ e. c .before .before .loop-test .taken (l .inv .0 ∙ e)) in omega arith
 
 item-requires-2 : tie.Need-item-requires-2 Inv-loop μ-loop
 item-requires-2 c κs = c .before .before .before .before .before .before .before .pre
 
 loop-less : tie.Need-loop-less Inv-loop μ-loop
-loop-less c = let l = c .before .before .before .before .loop in let h : l .i < 227 = within-format (l .i) (λ e. c .before .before .before .loop-test .taken (l .inv .0 ∙ e)) in omega arith
+loop-less c = let l = c .before .before .before .before .loop in let h : l .i < 260 = within-format (l .i) (λ e. c .before .before .before .loop-test .taken (l .inv .0 ∙ e)) in omega arith
 
 loop-again : tie.Need-loop-again Inv-loop μ-loop
 loop-again c = let l = c .before .before .before .before .loop in (c .item2 .ensures, every-true _ (l .i) (l .x) (l .inv .0) (c .before .before .before .loop-test .taken) (sym (c .before .before .item-formed .ensures) ∙ not-false _ (c .before .if1 .left)) ∙ l .inv .1)

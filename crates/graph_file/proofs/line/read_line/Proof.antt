@@ -22,7 +22,7 @@ abbrev Inv-loop : tie.InvT-loop
 Inv-loop format table labels o text at row₀ place₀ i₀ x₀ row place i x = (x ≡ getD formatBytes i 10) × (readItems (lettersAt labels (drop 1 table)) (itemsAt i) row (drop place text) ≡ readItems (lettersAt labels (drop 1 table)) (itemsAt o) blank (drop at text)) × (length row ≡ 5)
 
 abbrev μ-loop : tie.MeasureT-loop
-μ-loop format table labels o text at row₀ place₀ i₀ x₀ row place i x = 227 - i
+μ-loop format table labels o text at row₀ place₀ i₀ x₀ row place i x = 260 - i
 
 item-requires : tie.Need-item-requires Inv-loop μ-loop
 item-requires c κs = c .before .before .before .pre
@@ -41,13 +41,13 @@ unfolding lineOutcome
 returns c = let l = c .before .before .before .before .before .before .loop in let s = c .before .before .before .line-item in line-refused _ (l .i) (l .x) (l .row) _ _ (record { ok = s .result .ok; next = s .result .next; row = s .last .1 .1 .1 .0 }) (l .inv .0) (s .ensures) (c .before .before .before .before .before .loop-test .taken) (not-true _ (c .if1 .taken)) ∙ l .inv .1
 
 add-i : tie.Need-add-i Inv-loop μ-loop
-add-i c = let l = c .before .before .before .before .before .before .loop in let h : l .i < 227 = within-format (l .i) (λ e. c .before .before .before .before .before .loop-test .taken (l .inv .0 ∙ e)) in omega arith
+add-i c = let l = c .before .before .before .before .before .before .loop in let h : l .i < 260 = within-format (l .i) (λ e. c .before .before .before .before .before .loop-test .taken (l .inv .0 ∙ e)) in omega arith
 
 item-requires-2 : tie.Need-item-requires-2 Inv-loop μ-loop
 item-requires-2 c κs = c .before .before .before .before .before .before .before .before .before .before .before .pre
 
 loop-less : tie.Need-loop-less Inv-loop μ-loop
-loop-less c = let l = c .before .before .before .before .before .before .before .loop in let h : l .i < 227 = within-format (l .i) (λ e. c .before .before .before .before .before .before .loop-test .taken (l .inv .0 ∙ e)) in omega arith
+loop-less c = let l = c .before .before .before .before .before .before .before .loop in let h : l .i < 260 = within-format (l .i) (λ e. c .before .before .before .before .before .before .loop-test .taken (l .inv .0 ∙ e)) in omega arith
 
 loop-again : tie.Need-loop-again Inv-loop μ-loop
 loop-again c = let l = c .before .before .before .before .before .before .before .loop in let s = c .before .before .before .before .line-item in (c .item2 .ensures, line-on _ (l .i) (l .x) (l .row) _ _ (record { ok = s .result .ok; next = s .result .next; row = s .last .1 .1 .1 .0 }) (l .inv .0) (s .ensures) (c .before .before .before .before .before .before .loop-test .taken) (not-false _ (c .before .if1 .left)) ∙ l .inv .1, s .kept .1 .1 .1 .0 ∙ l .inv .2)

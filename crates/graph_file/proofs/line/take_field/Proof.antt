@@ -3,7 +3,7 @@ use native.Mathlib.Omega.{arith}
 use Rattle.graph_file.specs.Line.{readField}
 use Rattle.graph_file.specs.Table.{contentOf}
 use Rattle.graph_file.specs.Reader.{took}
-use Rattle.graph_file.proofs.FormatLaws.{content-plain}
+use Rattle.graph_file.proofs.ColumnLaws.{content-turn}
 use Rattle.graph_file.proofs.LineLaws.{field-number, first-at}
 use borrow.Author.Needs.{needs}
 use Rattle.graph_file.proofs.line.take_field.Statement.{statement}
@@ -67,6 +67,9 @@ cast-take-byte-3 c = search needs
 take-byte-requires-3 : tie.Need-take-byte-requires-3
 take-byte-requires-3 c κs = search needs
 
+take-number-requires-2 : tie.Need-take-number-requires-2
+take-number-requires-2 c κs = search needs
+
 returns-2 : tie.Need-returns-2
 unfolding readField contentOf
 returns-2 c = let a = c .before .before .before .before .before .before .before .args in c .take-byte .ensures ∙ sym (rw (c .before .before .match .keys1, first-at (a .text .now) (a .at), ← c .before .before .before .byte-at .ensures, ← c .before .is-capital .ensures))
@@ -88,8 +91,12 @@ unfolding readField contentOf
 returns-6 c = let a = c .before .before .before .before .before .before .before .args in c .take-byte3 .ensures ∙ sym (rw (c .before .before .match .keys5, first-at (a .text .now) (a .at), ← c .before .before .before .byte-at .ensures, ← c .before .is-lower .ensures))
 
 returns-7 : tie.Need-returns-7
-unfolding readField took
-returns-7 c = let a = c .before .before .before .before .before .args in let r = c .match .rest in sym (rw (content-plain (a .content) (omega (arith, c .before .before .if1 .left, r .0 .0 .0 .0 .1, r .0 .0 .0 .1, r .0 .0 .1, r .0 .1, r .1))))
+unfolding readField contentOf took
+returns-7 c = sym (rw (c .match .keys6))
+
+returns-8 : tie.Need-returns-8
+unfolding readField
+returns-8 c = let a = c .before .before .before .before .before .before .args in let r = c .before .match .rest in c .take-number2 .ensures ∙ sym (rw (content-turn (a .content) (omega (arith, c .before .before .before .if1 .left, r .0 .0 .0 .0 .0 .1, r .0 .0 .0 .0 .1, r .0 .0 .0 .1, r .0 .0 .1, r .0 .1, r .1))))
 
 pub take-field-spec : {M : Type 1} → statement M
 take-field-spec =
@@ -111,9 +118,11 @@ take-field-spec =
     is-lower-requires
     cast-take-byte-3
     take-byte-requires-3
+    take-number-requires-2
     returns-2
     returns-3
     returns-4
     returns-5
     returns-6
-    returns-7)
+    returns-7
+    returns-8)

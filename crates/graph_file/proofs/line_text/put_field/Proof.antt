@@ -5,8 +5,8 @@ use lib.ListN.{drop}
 use Rattle.text_field.specs.Buffer.{puts}
 use Rattle.text_field.proofs.BufferLaws.{puts-none}
 use Rattle.graph_file.specs.Table.{lettersAt}
-use Rattle.graph_file.proofs.FormatLaws.{content-plain}
-use Rattle.graph_file.proofs.WriteLaws.{put-text, text-number, text-letter, text-label, text-end, text-name, text-kind, text-plain}
+use Rattle.graph_file.proofs.ColumnLaws.{content-turn}
+use Rattle.graph_file.proofs.WriteLaws.{put-text, text-number, text-letter, text-label, text-end, text-name, text-kind, text-plain, text-turn}
 use borrow.Author.Needs.{needs}
 use Rattle.graph_file.proofs.line_text.put_field.Statement.{statement}
 use Rattle.graph_file.proofs.line_text.put_field.Tie as tie
@@ -58,6 +58,9 @@ byte-of-requires-3 c κs = search needs
 put-byte-requires-4 : tie.Need-put-byte-requires-4
 put-byte-requires-4 c κs = search needs
 
+put-number-requires-2 : tie.Need-put-number-requires-2
+put-number-requires-2 c κs = search needs
+
 same-length-2 : tie.Need-same-length-2
 same-length-2 c = search needs
 
@@ -89,7 +92,13 @@ returns-6 : tie.Need-returns-6
 returns-6 c = let a = c .before .before .before .before .before .before .before .before .before .args in put-text _ _ _ _ _ (c .before .before .put-byte4 .ensures) (c .before .before .before .byte-of3 .ensures) (text-kind (lettersAt (a .labels) (drop 1 (a .table .now))) (a .content) (a .v) (a .w) (c .before .before .before .before .before .match .keys5))
 
 returns-7 : tie.Need-returns-7
-returns-7 c = let a = c .before .before .before .before .args in let r = c .match .rest in puts-none _ _ (sym (text-plain (lettersAt (a .labels) (drop 1 (a .table .now))) (a .content) (a .v) (a .w) (content-plain (a .content) (omega (arith, c .before .if1 .left, r .0 .0 .0 .0 .1, r .0 .0 .0 .1, r .0 .0 .1, r .0 .1, r .1)))))
+returns-7 c = let a = c .before .before .before .before .args in puts-none _ _ (sym (text-plain (lettersAt (a .labels) (drop 1 (a .table .now))) (a .content) (a .v) (a .w) (c .match .keys6)))
+
+same-length-7 : tie.Need-same-length-7
+same-length-7 c = search needs
+
+returns-8 : tie.Need-returns-8
+returns-8 c = let a = c .before .before .before .before .before .before .before .before .args in let r = c .before .before .before .before .match .rest in c .before .before .put-number2 .ensures ∙ ap (puts _) (text-turn (lettersAt (a .labels) (drop 1 (a .table .now))) (a .content) (a .v) (a .w) (content-turn (a .content) (omega (arith, c .before .before .before .before .before .if1 .left, r .0 .0 .0 .0 .0 .1, r .0 .0 .0 .0 .1, r .0 .0 .0 .1, r .0 .0 .1, r .0 .1, r .1))))
 
 pub put-field-spec : {M : Type 1} → statement M
 put-field-spec =
@@ -108,6 +117,7 @@ put-field-spec =
     put-name-requires
     byte-of-requires-3
     put-byte-requires-4
+    put-number-requires-2
     same-length-2
     returns-2
     same-length-3
@@ -118,4 +128,6 @@ put-field-spec =
     returns-5
     same-length-6
     returns-6
-    returns-7)
+    returns-7
+    same-length-7
+    returns-8)

@@ -21,7 +21,7 @@ abbrev Inv-loop : tie.InvT-loop
 Inv-loop format table labels o row out₀ n i₀ k₀ x₀ out i k x = (length out ≡ length out₀) × (x ≡ getD formatBytes i 10) × (puts (out, k) (lineText (lettersAt labels (drop 1 table)) (itemsAt i) row) ≡ puts (out₀, n) (lineText (lettersAt labels (drop 1 table)) (itemsAt o) row))
 
 abbrev μ-loop : tie.MeasureT-loop
-μ-loop format table labels o row out₀ n i₀ k₀ x₀ out i k x = 227 - i
+μ-loop format table labels o row out₀ n i₀ k₀ x₀ out i k x = 260 - i
 
 item-requires : tie.Need-item-requires Inv-loop μ-loop
 item-requires c κs = c .before .before .before .before .pre
@@ -33,13 +33,13 @@ put-item-requires : tie.Need-put-item-requires Inv-loop μ-loop
 put-item-requires c κs = search needs
 
 add-i : tie.Need-add-i Inv-loop μ-loop
-add-i c = let l = c .before .before .before .before .before .loop in let h : l .i < 227 = within-format (l .i) (λ e. c .before .before .before .before .loop-test .taken (l .inv .1 ∙ e)) in omega arith
+add-i c = let l = c .before .before .before .before .before .loop in let h : l .i < 260 = within-format (l .i) (λ e. c .before .before .before .before .loop-test .taken (l .inv .1 ∙ e)) in omega arith
 
 item-requires-2 : tie.Need-item-requires-2 Inv-loop μ-loop
 item-requires-2 c κs = c .before .before .before .before .before .before .before .before .before .before .before .pre
 
 loop-less : tie.Need-loop-less Inv-loop μ-loop
-loop-less c = let l = c .before .before .before .before .before .before .loop in let h : l .i < 227 = within-format (l .i) (λ e. c .before .before .before .before .before .loop-test .taken (l .inv .1 ∙ e)) in omega arith
+loop-less c = let l = c .before .before .before .before .before .before .loop in let h : l .i < 260 = within-format (l .i) (λ e. c .before .before .before .before .before .loop-test .taken (l .inv .1 ∙ e)) in omega arith
 
 loop-again : tie.Need-loop-again Inv-loop μ-loop
 loop-again c = let l = c .before .before .before .before .before .before .loop in let a = c .before .before .before .before .before .before .before .before .before .before .before .before .args in (c .before .before .before .put-item .kept .1 .1 .1 .1 .0 ∙ l .inv .0, c .item2 .ensures, puts-step _ _ _ _ _ _ (c .before .before .before .put-item .ensures) (text-more (lettersAt (a .labels) (drop 1 (a .table .now))) (a .row .now) (l .i) (l .x) (l .inv .1) (c .before .before .before .before .before .loop-test .taken)) (l .inv .2))

@@ -7,6 +7,7 @@ use Rattle.graph_file.specs.Admission.{value, blank}
 use Rattle.graph_file.specs.Line.{readItems}
 use Rattle.graph_file.specs.Table.{itemsAt, lettersAt}
 use Rattle.graph_file.specs.Reader.{partOutcome, refusedOr, countsAfter}
+use Rattle.graph_file.proofs.ColumnLaws.{layout-line}
 use Rattle.graph_file.proofs.LineLaws.{line-length}
 use Rattle.graph_file.proofs.ReadLaws.{put-grown, placed-after, one-refused, one-not, one-taken, one-room}
 use borrow.Author.Needs.{needs}
@@ -16,12 +17,8 @@ use Rattle.graph_file.proofs.reader.read_row.Reads as reads
 use Rattle.graph_file.proofs.reader.read_row.Lts as lts
 use Rattle.graph_file.proofs.admission.admitted.Reads as admitted-reads
 use Rattle.graph_file.proofs.cells.put_row.Reads as put-row-reads
-use Rattle.graph_file.proofs.format.row_place.Reads as row-place-reads
 use Rattle.graph_file.proofs.line.read_line.Reads as read-line-reads
 use Rattle.graph_file.proofs.rows.counts_after.Reads as counts-after-reads
-
-row-place-requires : tie.Need-row-place-requires
-row-place-requires c κs = search needs
 
 read-line-requires : tie.Need-read-line-requires
 read-line-requires c κs = search needs
@@ -31,20 +28,20 @@ same-length c = search needs
 
 returns : tie.Need-returns
 unfolding partOutcome refusedOr
-returns c = let a = c .before .before .before .before .before .before .before .before .args in (one-refused (a .form) (a .k) (a .n) (a .table .now) (a .part .now) (a .at) (a .c) (c .before .before .read-line .result) (c .before .before .read-line .ensures ∙ ap (λ (o : ℕ). readItems (lettersAt (a .c .labels) (drop 1 (a .table .now))) (itemsAt o) blank (drop (a .at) (a .part .now))) (c .before .before .before .row-place .ensures)) (not-true _ (c .if1 .taken)), λ z. absurd (omega arith))
+returns c = let a = c .before .before .before .before .before .before .before .args in (one-refused (a .s .form) (a .s .section) (a .n) (a .table .now) (a .part .now) (a .at) (a .c) (c .before .before .read-line .result) (c .before .before .read-line .ensures ∙ ap (λ (o : ℕ). readItems (lettersAt (a .c .labels) (drop 1 (a .table .now))) (itemsAt o) blank (drop (a .at) (a .part .now))) (layout-line (a .s) (c .before .before .before .before .before .before .before .pre .1 .3))) (not-true _ (c .if1 .taken)), λ z. absurd (omega arith))
 
 put-row-requires : tie.Need-put-row-requires
 put-row-requires c κs = search needs
 
 admitted-requires : tie.Need-admitted-requires
-admitted-requires c κs = search needs
+admitted-requires c κs = let q = c .before .before .before .before .before .before .before .before .before .before .before .before .before .pre in (q .0, (omega (arith, q .1 .0, c .before .before .before .put-row .kept .0), q .1 .3))
 
 same-length-2 : tie.Need-same-length-2
 same-length-2 c = search needs
 
 returns-2 : tie.Need-returns-2
 unfolding partOutcome
-returns-2 c = let a = c .before .before .before .before .before .before .before .before .before .before .before .before .before .before .before .before .args in let q = c .before .before .before .before .before .before .before .before .before .before .before .before .before .before .before .before .pre .1 in let l = c .before .before .before .before .before .before .before .before .before .before .read-line .result in let w : length (l .row) ≡ 5 = line-length _ _ blank _ (a .part .now) l (c .before .before .before .before .before .before .before .before .before .before .read-line .ensures) (not-false _ (c .before .before .before .before .before .before .before .before .if1 .left)) in (one-not (a .form) (a .k) (a .n) (a .table .now) (a .part .now) (a .at) (a .c) l (c .before .before .before .before .before .before .before .before .before .before .read-line .ensures ∙ ap (λ (o : ℕ). readItems (lettersAt (a .c .labels) (drop 1 (a .table .now))) (itemsAt o) blank (drop (a .at) (a .part .now))) (c .before .before .before .before .before .before .before .before .before .before .before .row-place .ensures)) (q .2) (not-false _ (c .before .before .before .before .before .before .before .before .if1 .left)) (q .0) w (c .before .before .before .before .before .put-row .last .0) (put-grown _ _ _ _ _ _ (q .0) w (c .before .before .before .before .before .put-row .ensures)) (c .before .admitted .result) _ (c .before .admitted .ensures (a .form)) (c .if2 .taken), λ z. absurd (c .if2 .taken z))
+returns-2 c = let a = c .before .before .before .before .before .before .before .before .before .before .before .before .before .before .before .args in let q = c .before .before .before .before .before .before .before .before .before .before .before .before .before .before .before .pre .1 in let l = c .before .before .before .before .before .before .before .before .before .before .read-line .result in let w : length (l .row) ≡ 5 = line-length _ _ blank _ (a .part .now) l (c .before .before .before .before .before .before .before .before .before .before .read-line .ensures) (not-false _ (c .before .before .before .before .before .before .before .before .if1 .left)) in (one-not (a .s .form) (a .s .section) (a .n) (a .table .now) (a .part .now) (a .at) (a .c) l (c .before .before .before .before .before .before .before .before .before .before .read-line .ensures ∙ ap (λ (o : ℕ). readItems (lettersAt (a .c .labels) (drop 1 (a .table .now))) (itemsAt o) blank (drop (a .at) (a .part .now))) (layout-line (a .s) (q .3))) (q .2) (not-false _ (c .before .before .before .before .before .before .before .before .if1 .left)) (q .0) w (c .before .before .before .before .before .put-row .last .0) (put-grown _ _ _ _ _ _ (q .0) w (c .before .before .before .before .before .put-row .ensures)) (c .before .admitted .result) _ (c .before .admitted .ensures) (c .if2 .taken), λ z. absurd (c .if2 .taken z))
 
 array-read-counts-after : tie.Need-array-read-counts-after
 array-read-counts-after c = search needs
@@ -52,21 +49,20 @@ array-read-counts-after c = search needs
 counts-after-requires : tie.Need-counts-after-requires
 counts-after-requires c κs = search needs
 
-add-t17 : tie.Need-add-t17
-add-t17 c = omega (arith, c .before .before .before .before .before .before .before .before .before .before .before .before .before .before .before .before .before .pre .1 .1)
+add-t25 : tie.Need-add-t25
+add-t25 c = search needs
 
 same-length-3 : tie.Need-same-length-3
 same-length-3 c = search needs
 
 returns-3 : tie.Need-returns-3
 unfolding partOutcome countsAfter
-returns-3 c = let a = c .before .before .before .before .before .before .before .before .before .before .before .before .before .before .before .before .before .args in let q = c .before .before .before .before .before .before .before .before .before .before .before .before .before .before .before .before .before .pre .1 in let l = c .before .before .before .before .before .before .before .before .before .before .before .read-line .result in let w : length (l .row) ≡ 5 = line-length _ _ blank _ (a .part .now) l (c .before .before .before .before .before .before .before .before .before .before .before .read-line .ensures) (not-false _ (c .before .before .before .before .before .before .before .before .before .if1 .left)) in let f : c .counts-after .result ≡ countsAfter (a .k) (a .c) (value (l .row) 0) = c .counts-after .ensures in (rw f (one-taken (a .form) (a .k) (a .n) (a .table .now) (a .part .now) (a .at) (a .c) l (c .before .before .before .before .before .before .before .before .before .before .before .read-line .ensures ∙ ap (λ (o : ℕ). readItems (lettersAt (a .c .labels) (drop 1 (a .table .now))) (itemsAt o) blank (drop (a .at) (a .part .now))) (c .before .before .before .before .before .before .before .before .before .before .before .before .row-place .ensures)) (q .2) (not-false _ (c .before .before .before .before .before .before .before .before .before .if1 .left)) (q .0) w (c .before .before .before .before .before .before .put-row .last .0) (put-grown _ _ _ _ _ _ (q .0) w (c .before .before .before .before .before .before .put-row .ensures)) (c .before .before .admitted .result) (c .before .before .admitted .ensures (a .form)) (c .before .if2 .left)), λ z. rw f (record { room = one-room (a .form) (a .k) (a .n) (a .table .now) (a .part .now) (a .at) (a .c) l (c .before .before .before .before .before .before .before .before .before .before .before .read-line .ensures ∙ ap (λ (o : ℕ). readItems (lettersAt (a .c .labels) (drop 1 (a .table .now))) (itemsAt o) blank (drop (a .at) (a .part .now))) (c .before .before .before .before .before .before .before .before .before .before .before .before .row-place .ensures)) (q .2) (not-false _ (c .before .before .before .before .before .before .before .before .before .if1 .left)) (q .0) w (c .before .before .before .before .before .before .put-row .last .0) (put-grown _ _ _ _ _ _ (q .0) w (c .before .before .before .before .before .before .put-row .ensures)) (c .before .before .admitted .result) (c .before .before .admitted .ensures (a .form)) (c .before .if2 .left); longer = refl; more = refl; placed = placed-after (a .k) (a .n) (a .c) (value (l .row) 0) (q .2) }))
+returns-3 c = let a = c .before .before .before .before .before .before .before .before .before .before .before .before .before .before .before .before .args in let q = c .before .before .before .before .before .before .before .before .before .before .before .before .before .before .before .before .pre .1 in let l = c .before .before .before .before .before .before .before .before .before .before .before .read-line .result in let w : length (l .row) ≡ 5 = line-length _ _ blank _ (a .part .now) l (c .before .before .before .before .before .before .before .before .before .before .before .read-line .ensures) (not-false _ (c .before .before .before .before .before .before .before .before .before .if1 .left)) in let f : c .counts-after .result ≡ countsAfter (a .s .section) (a .c) (value (l .row) 0) = c .counts-after .ensures in (rw f (one-taken (a .s .form) (a .s .section) (a .n) (a .table .now) (a .part .now) (a .at) (a .c) l (c .before .before .before .before .before .before .before .before .before .before .before .read-line .ensures ∙ ap (λ (o : ℕ). readItems (lettersAt (a .c .labels) (drop 1 (a .table .now))) (itemsAt o) blank (drop (a .at) (a .part .now))) (layout-line (a .s) (q .3))) (q .2) (not-false _ (c .before .before .before .before .before .before .before .before .before .if1 .left)) (q .0) w (c .before .before .before .before .before .before .put-row .last .0) (put-grown _ _ _ _ _ _ (q .0) w (c .before .before .before .before .before .before .put-row .ensures)) (c .before .before .admitted .result) (c .before .before .admitted .ensures) (c .before .if2 .left)), λ z. rw f (record { room = one-room (a .s .form) (a .s .section) (a .n) (a .table .now) (a .part .now) (a .at) (a .c) l (c .before .before .before .before .before .before .before .before .before .before .before .read-line .ensures ∙ ap (λ (o : ℕ). readItems (lettersAt (a .c .labels) (drop 1 (a .table .now))) (itemsAt o) blank (drop (a .at) (a .part .now))) (layout-line (a .s) (q .3))) (q .2) (not-false _ (c .before .before .before .before .before .before .before .before .before .if1 .left)) (q .0) w (c .before .before .before .before .before .before .put-row .last .0) (put-grown _ _ _ _ _ _ (q .0) w (c .before .before .before .before .before .before .put-row .ensures)) (c .before .before .admitted .result) (c .before .before .admitted .ensures) (c .before .if2 .left); longer = refl; more = refl; placed = placed-after (a .s .section) (a .n) (a .c) (value (l .row) 0) (q .2) }))
 
 pub read-row-spec : {M : Type 1} → statement M
 read-row-spec =
     tie.close
     (tie.spec
-    row-place-requires
     read-line-requires
     same-length
     returns
@@ -76,6 +72,6 @@ read-row-spec =
     returns-2
     array-read-counts-after
     counts-after-requires
-    add-t17
+    add-t25
     same-length-3
     returns-3)

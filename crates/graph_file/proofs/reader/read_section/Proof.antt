@@ -10,19 +10,20 @@ use Rattle.graph_file.specs.Reader.{partOutcome, refusedOr}
 use Rattle.graph_file.proofs.SectionLaws.{placed-fresh, names-refused, section-refused, section-few, section-done}
 use Rattle.graph_file.proofs.RoomLaws.{room-later}
 use borrow.Author.Needs.{needs}
+use Rattle.graph_file.proofs.ColumnLaws.{layout-form, layout-section, layout-known}
 use Rattle.graph_file.proofs.reader.read_section.Statement.{statement}
 use Rattle.graph_file.proofs.reader.read_section.Tie as tie
 use Rattle.graph_file.proofs.reader.read_section.Reads as reads
 use Rattle.graph_file.proofs.reader.read_section.Lts as lts
 use Rattle.graph_file.proofs.format.least.Reads as least-reads
-use Rattle.graph_file.proofs.format.most.Reads as most-reads
+use Rattle.graph_file.proofs.format.layout_of.Reads as layout-of-reads
 use Rattle.graph_file.proofs.format.names_place.Reads as names-place-reads
 use Rattle.graph_file.proofs.line.read_line.Reads as read-line-reads
 use Rattle.graph_file.proofs.reader.clipped.Reads as clipped-reads
 use Rattle.graph_file.proofs.reader.read_rows.Reads as read-rows-reads
 
-most-requires : tie.Need-most-requires
-most-requires c κs = search needs
+layout-of-requires : tie.Need-layout-of-requires
+layout-of-requires c κs = search needs
 
 names-place-requires : tie.Need-names-place-requires
 names-place-requires c κs = search needs
@@ -38,13 +39,13 @@ unfolding partOutcome refusedOr
 returns c = let a = c .before .before .before .before .before .before .before .before .before .args in (names-refused (a .form) (a .k) (a .n) (a .table .now) (a .part .now) (a .c) (c .before .before .read-line .result) (c .before .before .read-line .ensures ∙ ap (λ (o : ℕ). readItems (lettersAt 0 (drop 1 (a .table .now))) (itemsAt o) blank (drop 0 (a .part .now))) (c .before .before .before .names-place .ensures)) (not-true _ (c .if1 .taken)), λ z. absurd (omega arith))
 
 read-rows-requires : tie.Need-read-rows-requires
-read-rows-requires c κs = let q = c .before .before .before .before .before .before .before .before .before .before .pre .1 in let a = c .before .before .before .before .before .before .before .before .before .before .args in (c .before .before .before .before .before .before .before .before .before .before .pre .0, (room-later (a .k) (a .n) (length (a .table .now)) (a .part .now) (c .before .before .before .read-line .result .next) (q .0), q .1, placed-fresh (a .k) (a .n) (a .c) (q .2), refl, c .before .before .before .before .before .before .most .ensures))
+read-rows-requires c κs = let q = c .before .before .before .before .before .before .before .before .before .before .pre .1 in let a = c .before .before .before .before .before .before .before .before .before .before .args in let is = layout-section (a .form) (a .k) _ (c .before .before .before .before .before .before .layout-of .ensures) in (c .before .before .before .before .before .before .before .before .before .before .pre .0, (rw is (room-later (a .k) (a .n) (length (a .table .now)) (a .part .now) (c .before .before .before .read-line .result .next) (q .0)), rw is (q .1), rw is (placed-fresh (a .k) (a .n) (a .c) (q .2)), refl, layout-known (a .form) (a .k) _ (c .before .before .before .before .before .before .layout-of .ensures)))
 
 same-length-2 : tie.Need-same-length-2
 same-length-2 c = search needs
 
 returns-2 : tie.Need-returns-2
-returns-2 c = let a = c .before .before .before .before .before .before .before .before .before .before .before .before .before .before .before .args in (section-refused (a .form) (a .k) (a .n) (a .table .now) (a .part .now) (a .c) (c .before .before .before .before .before .before .before .before .read-line .result) (c .before .before .before .before .before .before .before .before .read-line .ensures ∙ ap (λ (o : ℕ). readItems (lettersAt 0 (drop 1 (a .table .now))) (itemsAt o) blank (drop 0 (a .part .now))) (c .before .before .before .before .before .before .before .before .before .names-place .ensures)) (not-false _ (c .before .before .before .before .before .before .if1 .left)) (c .before .before .before .before .read-rows .result) (c .before .before .before .before .read-rows .last .1 .1 .1 .1 .1 .1 .0) (c .before .before .before .before .read-rows .ensures .0) (c .if2 .taken), λ z. absurd (c .if2 .taken z))
+returns-2 c = let a = c .before .before .before .before .before .before .before .before .before .before .before .before .before .before .before .args in let is = layout-section (a .form) (a .k) _ (c .before .before .before .before .before .before .before .before .before .before .before .layout-of .ensures) in let file = layout-form (a .form) (a .k) _ (c .before .before .before .before .before .before .before .before .before .before .before .layout-of .ensures) in (section-refused (a .form) (a .k) (a .n) (a .table .now) (a .part .now) (a .c) (c .before .before .before .before .before .before .before .before .read-line .result) (c .before .before .before .before .before .before .before .before .read-line .ensures ∙ ap (λ (o : ℕ). readItems (lettersAt 0 (drop 1 (a .table .now))) (itemsAt o) blank (drop 0 (a .part .now))) (c .before .before .before .before .before .before .before .before .before .names-place .ensures)) (not-false _ (c .before .before .before .before .before .before .if1 .left)) (c .before .before .before .before .read-rows .result) (c .before .before .before .before .read-rows .last .1 .1 .1 .1 .0) (rw (is, file) at (c .before .before .before .before .read-rows .ensures .0)) (c .if2 .taken), λ z. absurd (c .if2 .taken z))
 
 cast-if3 : tie.Need-cast-if3
 cast-if3 c = search needs
@@ -57,7 +58,7 @@ same-length-3 c = search needs
 
 returns-3 : tie.Need-returns-3
 unfolding partOutcome refusedOr
-returns-3 c = let a = c .before .before .before .before .before .before .before .before .before .before .before .before .before .before .before .before .before .before .before .args in (section-few (a .form) (a .k) (a .n) (a .table .now) (a .part .now) (a .c) (c .before .before .before .before .before .before .before .before .before .before .before .before .read-line .result) (c .before .before .before .before .before .before .before .before .before .before .before .before .read-line .ensures ∙ ap (λ (o : ℕ). readItems (lettersAt 0 (drop 1 (a .table .now))) (itemsAt o) blank (drop 0 (a .part .now))) (c .before .before .before .before .before .before .before .before .before .before .before .before .before .names-place .ensures)) (not-false _ (c .before .before .before .before .before .before .before .before .before .before .if1 .left)) (c .before .before .before .before .before .before .before .before .read-rows .result) (c .before .before .before .before .before .before .before .before .read-rows .last .1 .1 .1 .1 .1 .1 .0) (c .before .before .before .before .before .before .before .before .read-rows .ensures .0) (c .before .before .before .before .if2 .left) (omega (arith, c .if3 .taken, c .before .least .ensures)), λ z. absurd (omega arith))
+returns-3 c = let a = c .before .before .before .before .before .before .before .before .before .before .before .before .before .before .before .before .before .before .before .args in let is = layout-section (a .form) (a .k) _ (c .before .before .before .before .before .before .before .before .before .before .before .before .before .before .before .layout-of .ensures) in let file = layout-form (a .form) (a .k) _ (c .before .before .before .before .before .before .before .before .before .before .before .before .before .before .before .layout-of .ensures) in (section-few (a .form) (a .k) (a .n) (a .table .now) (a .part .now) (a .c) (c .before .before .before .before .before .before .before .before .before .before .before .before .read-line .result) (c .before .before .before .before .before .before .before .before .before .before .before .before .read-line .ensures ∙ ap (λ (o : ℕ). readItems (lettersAt 0 (drop 1 (a .table .now))) (itemsAt o) blank (drop 0 (a .part .now))) (c .before .before .before .before .before .before .before .before .before .before .before .before .before .names-place .ensures)) (not-false _ (c .before .before .before .before .before .before .before .before .before .before .if1 .left)) (c .before .before .before .before .before .before .before .before .read-rows .result) (c .before .before .before .before .before .before .before .before .read-rows .last .1 .1 .1 .1 .0) (rw (is, file) at (c .before .before .before .before .before .before .before .before .read-rows .ensures .0)) (c .before .before .before .before .if2 .left) (omega (arith, c .if3 .taken, c .before .least .ensures)), λ z. absurd (omega arith))
 
 clipped-requires : tie.Need-clipped-requires
 clipped-requires c κs = search needs
@@ -67,13 +68,13 @@ same-length-4 c = search needs
 
 returns-4 : tie.Need-returns-4
 unfolding partOutcome refusedOr
-returns-4 c = let a = c .before .before .before .before .before .before .before .before .before .before .before .before .before .before .before .before .before .before .before .before .args in (rw (c .clipped .ensures .0) (section-done (a .form) (a .k) (a .n) (a .table .now) (a .part .now) (a .c) (c .before .before .before .before .before .before .before .before .before .before .before .before .before .read-line .result) (c .before .before .before .before .before .before .before .before .before .before .before .before .before .read-line .ensures ∙ ap (λ (o : ℕ). readItems (lettersAt 0 (drop 1 (a .table .now))) (itemsAt o) blank (drop 0 (a .part .now))) (c .before .before .before .before .before .before .before .before .before .before .before .before .before .before .names-place .ensures)) (not-false _ (c .before .before .before .before .before .before .before .before .before .before .before .if1 .left)) (c .before .before .before .before .before .before .before .before .before .read-rows .result) (c .before .before .before .before .before .before .before .before .before .read-rows .last .1 .1 .1 .1 .1 .1 .0) (c .before .before .before .before .before .before .before .before .before .read-rows .ensures .0) (c .before .before .before .before .before .if2 .left) (omega (arith, c .before .if3 .left, c .before .before .least .ensures))), λ z. record { rows = c .before .before .before .before .before .before .before .before .before .read-rows .ensures .1 (c .before .before .before .before .before .if2 .left); inside = c .clipped .ensures .1 })
+returns-4 c = let a = c .before .before .before .before .before .before .before .before .before .before .before .before .before .before .before .before .before .before .before .before .args in let is = layout-section (a .form) (a .k) _ (c .before .before .before .before .before .before .before .before .before .before .before .before .before .before .before .before .layout-of .ensures) in let file = layout-form (a .form) (a .k) _ (c .before .before .before .before .before .before .before .before .before .before .before .before .before .before .before .before .layout-of .ensures) in (rw (c .clipped .ensures .0) (section-done (a .form) (a .k) (a .n) (a .table .now) (a .part .now) (a .c) (c .before .before .before .before .before .before .before .before .before .before .before .before .before .read-line .result) (c .before .before .before .before .before .before .before .before .before .before .before .before .before .read-line .ensures ∙ ap (λ (o : ℕ). readItems (lettersAt 0 (drop 1 (a .table .now))) (itemsAt o) blank (drop 0 (a .part .now))) (c .before .before .before .before .before .before .before .before .before .before .before .before .before .before .names-place .ensures)) (not-false _ (c .before .before .before .before .before .before .before .before .before .before .before .if1 .left)) (c .before .before .before .before .before .before .before .before .before .read-rows .result) (c .before .before .before .before .before .before .before .before .before .read-rows .last .1 .1 .1 .1 .0) (rw (is, file) at (c .before .before .before .before .before .before .before .before .before .read-rows .ensures .0)) (c .before .before .before .before .before .if2 .left) (omega (arith, c .before .if3 .left, c .before .before .least .ensures))), λ z. record { rows = rw is at (c .before .before .before .before .before .before .before .before .before .read-rows .ensures .1 (c .before .before .before .before .before .if2 .left)); inside = c .clipped .ensures .1 })
 
 pub read-section-spec : {M : Type 1} → statement M
 read-section-spec =
     tie.close
     (tie.spec
-    most-requires
+    layout-of-requires
     names-place-requires
     read-line-requires
     same-length

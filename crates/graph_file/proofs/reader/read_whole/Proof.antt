@@ -2,8 +2,8 @@ use mathlib.Core.Path.{refl, sym, _∙_}
 use native.Mathlib.Omega.{arith}
 use Rattle.graph_file.specs.Reader.{partOutcome, refusedOr}
 use Rattle.graph_file.proofs.SectionLaws.{whole-long, whole-refused, whole-fault, whole-done}
-use Rattle.graph_file.specs.Format.{labels, pairs, transitions, accepts, scopeCount, edges, declarations, openPairs, queries, pastLast, sections, hasKinds, declarationShape, queryShape, shapesOf}
-use Rattle.graph_file.specs.Table.{contentNumber, code, shapeBytes, hasRange, keptRanged, ranged, layout, layouts, formatBytes}
+use Rattle.graph_file.specs.Format.{labels, pairs, transitions, accepts, scopeCount, edges, declarations, openPairs, queries, pastLast, sections, hasKinds, hasTurns, edgeShape, declarationShape, queryShape, shapesOf}
+use Rattle.graph_file.specs.Table.{contentNumber, code, shapeBytes, hasRange, keptRanged, ranged, rangeBytes, layout, layouts, formatBytes}
 use borrow.Author.Needs.{needs}
 use Rattle.graph_file.proofs.reader.read_whole.Statement.{statement}
 use Rattle.graph_file.proofs.reader.read_whole.Tie as tie
@@ -20,7 +20,7 @@ slice-aggregate-read-sections : tie.Need-slice-aggregate-read-sections
 slice-aggregate-read-sections c = search needs
 
 read-sections-requires : tie.Need-read-sections-requires
-unfolding labels pairs transitions accepts scopeCount edges declarations openPairs queries pastLast sections hasKinds declarationShape queryShape shapesOf contentNumber code shapeBytes hasRange keptRanged ranged layout layouts formatBytes
+unfolding labels pairs transitions accepts scopeCount edges declarations openPairs queries pastLast sections hasKinds hasTurns edgeShape declarationShape queryShape shapesOf contentNumber code shapeBytes hasRange keptRanged ranged rangeBytes layout layouts formatBytes
 read-sections-requires c κs = (refl, c .before .before .before .before .before .pre)
 
 same-length : tie.Need-same-length

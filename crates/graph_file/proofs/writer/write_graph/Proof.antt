@@ -1,8 +1,8 @@
 use Rattle.graph_file.proofs.WriteStages.{graph-refused, graph-fault, graph-done, in-form}
 use Rattle.graph_file.specs.Writer.{partWritten, refusedOrPoured}
 use mathlib.Core.Path.{sym, _∙_, refl}
-use Rattle.graph_file.specs.Format.{labels, pairs, transitions, accepts, scopeCount, edges, declarations, openPairs, queries, pastLast, sections, hasKinds, declarationShape, queryShape, shapesOf}
-use Rattle.graph_file.specs.Table.{contentNumber, code, shapeBytes, hasRange, keptRanged, ranged, layout, layouts, formatBytes}
+use Rattle.graph_file.specs.Format.{labels, pairs, transitions, accepts, scopeCount, edges, declarations, openPairs, queries, pastLast, sections, hasKinds, hasTurns, edgeShape, declarationShape, queryShape, shapesOf}
+use Rattle.graph_file.specs.Table.{contentNumber, code, shapeBytes, hasRange, keptRanged, ranged, rangeBytes, layout, layouts, formatBytes}
 use borrow.Author.Needs.{needs}
 use Rattle.graph_file.proofs.writer.write_graph.Statement.{statement}
 use Rattle.graph_file.proofs.writer.write_graph.Tie as tie
@@ -19,7 +19,7 @@ slice-aggregate-write-sections : tie.Need-slice-aggregate-write-sections
 slice-aggregate-write-sections c = search needs
 
 write-sections-requires : tie.Need-write-sections-requires
-unfolding labels pairs transitions accepts scopeCount edges declarations openPairs queries pastLast sections hasKinds declarationShape queryShape shapesOf contentNumber code shapeBytes hasRange keptRanged ranged layout layouts formatBytes
+unfolding labels pairs transitions accepts scopeCount edges declarations openPairs queries pastLast sections hasKinds hasTurns edgeShape declarationShape queryShape shapesOf contentNumber code shapeBytes hasRange keptRanged ranged rangeBytes layout layouts formatBytes
 write-sections-requires c κs = refl
 
 same-length : tie.Need-same-length

@@ -5,6 +5,7 @@ use lib.ListN.{drop}
 use Rattle.graph_file.specs.Admission.{Row, value, rowOf}
 use Rattle.graph_file.specs.Reader.{countsAfter}
 use Rattle.graph_file.specs.Writer.{partWritten, refusedOrPoured}
+use Rattle.graph_file.proofs.ColumnLaws.{layout-line}
 use Rattle.graph_file.proofs.ReadLaws.{placed-after}
 use Rattle.graph_file.proofs.WriteStages.{row-short, row-long, row-unformed, row-refused, row-taken, room-of, rows-after}
 use Rattle.graph_file.specs.Format.{shapeAt}
@@ -16,7 +17,6 @@ use Rattle.graph_file.proofs.writer.write_row.Tie as tie
 use Rattle.graph_file.proofs.writer.write_row.Reads as reads
 use Rattle.graph_file.proofs.writer.write_row.Lts as lts
 use Rattle.graph_file.proofs.admission.admitted.Reads as admitted-reads
-use Rattle.graph_file.proofs.format.row_place.Reads as row-place-reads
 use Rattle.graph_file.proofs.formed.is_formed.Reads as is-formed-reads
 use Rattle.graph_file.proofs.line_text.put_line.Reads as put-line-reads
 use Rattle.graph_file.proofs.rows.counts_after.Reads as counts-after-reads
@@ -27,7 +27,7 @@ add-if1 c = search needs
 
 returns : tie.Need-returns
 unfolding partWritten refusedOrPoured
-returns c = let a = c .before .before .before .before .args in (row-unformed (a .form) (a .k) (a .table .now) (a .p) (a .c) (a .out .now, a .n) (sym (row-short (rowPlace (a .form) (a .k)) (a .table .now) (a .p) (c .if1 .taken))), λ z. absurd (omega arith))
+returns c = let a = c .before .before .before .before .args in (row-unformed (a .s .form) (a .s .section) (a .table .now) (a .p) (a .c) (a .out .now, a .n) (sym (row-short (rowPlace (a .s .form) (a .s .section)) (a .table .now) (a .p) (c .if1 .taken))), λ z. absurd (omega arith))
 
 row-at-requires : tie.Need-row-at-requires
 row-at-requires c κs = search needs
@@ -40,17 +40,14 @@ is-formed-requires c κs = search needs
 
 returns-2 : tie.Need-returns-2
 unfolding partWritten refusedOrPoured
-returns-2 c = let a = c .before .before .before .before .before .before .before .before .args in (row-unformed (a .form) (a .k) (a .table .now) (a .p) (a .c) (a .out .now, a .n) (sym (row-long (a .form) (a .k) (a .table .now) (a .p) (c .before .before .before .before .if1 .left) _ (c .before .is-formed .ensures ∙ ap (formed (shapeAt (a .form) (a .k) .row)) (c .before .before .before .row-at .ensures))) ∙ not-true _ (c .if2 .taken)), λ z. absurd (omega arith))
+returns-2 c = let a = c .before .before .before .before .before .before .before .before .args in (row-unformed (a .s .form) (a .s .section) (a .table .now) (a .p) (a .c) (a .out .now, a .n) (sym (row-long (a .s .form) (a .s .section) (a .table .now) (a .p) (c .before .before .before .before .if1 .left) _ (c .before .is-formed .ensures ∙ ap (formed (shapeAt (a .s .form) (a .s .section) .row)) (c .before .before .before .row-at .ensures))) ∙ not-true _ (c .if2 .taken)), λ z. absurd (omega arith))
 
 admitted-requires : tie.Need-admitted-requires
 admitted-requires c κs = search needs
 
 returns-3 : tie.Need-returns-3
 unfolding partWritten
-returns-3 c = let a = c .before .before .before .before .before .before .before .before .before .before .args in (row-refused (a .form) (a .k) (a .table .now) (a .p) (a .c) (a .out .now, a .n) (sym (row-long (a .form) (a .k) (a .table .now) (a .p) (c .before .before .before .before .before .before .if1 .left) _ (c .before .before .before .is-formed .ensures ∙ ap (formed (shapeAt (a .form) (a .k) .row)) (c .before .before .before .before .before .row-at .ensures))) ∙ not-false _ (c .before .before .if2 .left)) (c .before .admitted .result) (c .before .admitted .ensures (a .form)) _ (c .if3 .taken), λ z. absurd (c .if3 .taken z))
-
-row-place-requires : tie.Need-row-place-requires
-row-place-requires c κs = search needs
+returns-3 c = let a = c .before .before .before .before .before .before .before .before .before .before .args in (row-refused (a .s .form) (a .s .section) (a .table .now) (a .p) (a .c) (a .out .now, a .n) (sym (row-long (a .s .form) (a .s .section) (a .table .now) (a .p) (c .before .before .before .before .before .before .if1 .left) _ (c .before .before .before .is-formed .ensures ∙ ap (formed (shapeAt (a .s .form) (a .s .section) .row)) (c .before .before .before .before .before .row-at .ensures))) ∙ not-false _ (c .before .before .if2 .left)) (c .before .admitted .result) (c .before .admitted .ensures) _ (c .if3 .taken), λ z. absurd (c .if3 .taken z))
 
 slice-aggregate-put-line : tie.Need-slice-aggregate-put-line
 slice-aggregate-put-line c = search needs
@@ -64,15 +61,15 @@ array-read-counts-after c = search needs
 counts-after-requires : tie.Need-counts-after-requires
 counts-after-requires c κs = search needs
 
-add-t15 : tie.Need-add-t15
-add-t15 c = omega (arith, c .before .before .before .before .before .before .before .before .before .before .before .before .before .before .before .before .before .pre .1 .0)
+add-t12 : tie.Need-add-t12
+add-t12 c = search needs
 
 same-length : tie.Need-same-length
 same-length c = search needs
 
 returns-4 : tie.Need-returns-4
 unfolding partWritten refusedOrPoured
-returns-4 c = let a = c .before .before .before .before .before .before .before .before .before .before .before .before .before .before .before .before .before .args in let f : c .counts-after .result ≡ countsAfter (a .k) (a .c) (value (rowOf (drop (a .p) (a .table .now))) 0) = c .counts-after .ensures ∙ ap (λ (row : Row). countsAfter (a .k) (a .c) (value row 0)) (c .before .before .before .before .before .before .before .before .before .before .before .before .row-at .ensures) in (rw f (row-taken (a .form) (a .k) (a .table .now) (a .p) (a .c) (a .out .now, a .n) (sym (row-long (a .form) (a .k) (a .table .now) (a .p) (c .before .before .before .before .before .before .before .before .before .before .before .before .before .if1 .left) _ (c .before .before .before .before .before .before .before .before .before .before .is-formed .ensures ∙ ap (formed (shapeAt (a .form) (a .k) .row)) (c .before .before .before .before .before .before .before .before .before .before .before .before .row-at .ensures))) ∙ not-false _ (c .before .before .before .before .before .before .before .before .before .if2 .left)) (c .before .before .before .before .before .before .before .before .admitted .result) (c .before .before .before .before .before .before .before .before .admitted .ensures (a .form)) (c .before .before .before .before .before .before .before .before .before .before .before .before .before .before .before .before .before .pre .1 .1) (c .before .before .before .before .before .before .before .if3 .left) _ _ (c .before .before .before .put-line .ensures ∙ rw (c .before .before .before .before .before .before .row-place .ensures, c .before .before .before .before .before .before .before .before .before .before .before .before .row-at .ensures))), λ z. rw f (record { room = room-of (a .form) (a .k) (a .table .now) (a .p) (a .c) (sym (c .before .before .before .before .before .before .before .before .admitted .ensures (a .form)) ∙ c .before .before .before .before .before .before .before .if3 .left); longer = refl; more = rows-after (a .k) (a .c) _; placed = placed-after (a .k) (a .p) (a .c) (value (rowOf (drop (a .p) (a .table .now))) 0) (c .before .before .before .before .before .before .before .before .before .before .before .before .before .before .before .before .before .pre .1 .1) }))
+returns-4 c = let a = c .before .before .before .before .before .before .before .before .before .before .before .before .before .before .before .before .args in let f : c .counts-after .result ≡ countsAfter (a .s .section) (a .c) (value (rowOf (drop (a .p) (a .table .now))) 0) = c .counts-after .ensures ∙ ap (λ (row : Row). countsAfter (a .s .section) (a .c) (value row 0)) (c .before .before .before .before .before .before .before .before .before .before .before .row-at .ensures) in (rw f (row-taken (a .s .form) (a .s .section) (a .table .now) (a .p) (a .c) (a .out .now, a .n) (sym (row-long (a .s .form) (a .s .section) (a .table .now) (a .p) (c .before .before .before .before .before .before .before .before .before .before .before .before .if1 .left) _ (c .before .before .before .before .before .before .before .before .before .is-formed .ensures ∙ ap (formed (shapeAt (a .s .form) (a .s .section) .row)) (c .before .before .before .before .before .before .before .before .before .before .before .row-at .ensures))) ∙ not-false _ (c .before .before .before .before .before .before .before .before .if2 .left)) (c .before .before .before .before .before .before .before .admitted .result) (c .before .before .before .before .before .before .before .admitted .ensures) (c .before .before .before .before .before .before .before .before .before .before .before .before .before .before .before .before .pre .1 .1) (c .before .before .before .before .before .before .if3 .left) _ _ (c .before .before .before .put-line .ensures ∙ rw (layout-line (a .s) (c .before .before .before .before .before .before .before .before .before .before .before .before .before .before .before .before .pre .1 .2), c .before .before .before .before .before .before .before .before .before .before .before .row-at .ensures))), λ z. rw f (record { room = room-of (a .s .form) (a .s .section) (a .table .now) (a .p) (a .c) (sym (c .before .before .before .before .before .before .before .admitted .ensures) ∙ c .before .before .before .before .before .before .if3 .left); longer = refl; more = rows-after (a .s .section) (a .c) _; placed = placed-after (a .s .section) (a .p) (a .c) (value (rowOf (drop (a .p) (a .table .now))) 0) (c .before .before .before .before .before .before .before .before .before .before .before .before .before .before .before .before .pre .1 .1) }))
 
 pub write-row-spec : {M : Type 1} → statement M
 write-row-spec =
@@ -86,11 +83,10 @@ write-row-spec =
     returns-2
     admitted-requires
     returns-3
-    row-place-requires
     slice-aggregate-put-line
     put-line-requires
     array-read-counts-after
     counts-after-requires
-    add-t15
+    add-t12
     same-length
     returns-4)

@@ -4,19 +4,20 @@ use Rattle.graph_file.specs.Format.{sectionAt}
 use native.Mathlib.Omega.{arith}
 use Prim.Native.Nat.{_<_, _≤_}
 use borrow.Author.Needs.{needs}
+use Rattle.graph_file.proofs.ColumnLaws.{layout-form, layout-section, layout-known}
 use Rattle.graph_file.proofs.writer.write_section.Statement.{statement}
 use Rattle.graph_file.proofs.writer.write_section.Tie as tie
 use Rattle.graph_file.proofs.writer.write_section.Reads as reads
 use Rattle.graph_file.proofs.writer.write_section.Lts as lts
 use Rattle.graph_file.proofs.format.least.Reads as least-reads
-use Rattle.graph_file.proofs.format.most.Reads as most-reads
+use Rattle.graph_file.proofs.format.layout_of.Reads as layout-of-reads
 use Rattle.graph_file.proofs.format.names_place.Reads as names-place-reads
 use Rattle.graph_file.proofs.line_text.put_line.Reads as put-line-reads
 use Rattle.graph_file.proofs.writer.counts_begun.Reads as counts-begun-reads
 use Rattle.graph_file.proofs.writer.write_rows.Reads as write-rows-reads
 
-most-requires : tie.Need-most-requires
-most-requires c κs = search needs
+layout-of-requires : tie.Need-layout-of-requires
+layout-of-requires c κs = search needs
 
 names-place-requires : tie.Need-names-place-requires
 names-place-requires c κs = search needs
@@ -31,13 +32,13 @@ counts-begun-requires : tie.Need-counts-begun-requires
 counts-begun-requires c κs = search needs
 
 write-rows-requires : tie.Need-write-rows-requires
-write-rows-requires c κs = let a = c .before .before .before .before .before .before .before .before .before .before .before .before .args in let q = c .before .before .before .before .before .before .before .before .before .before .before .before .pre .1 in (c .before .before .before .before .before .before .before .before .before .before .before .before .pre .0, (q .0, rw (c .before .counts-begun .ensures) (placed-begun (a .k) (a .p) (a .c) (q .1)), rw (c .before .counts-begun .ensures) (rows-begun (a .c)), c .before .before .before .before .before .before .before .before .most .ensures))
+write-rows-requires c κs = let a = c .before .before .before .before .before .before .before .before .before .before .before .before .args in let q = c .before .before .before .before .before .before .before .before .before .before .before .before .pre .1 in let is = layout-section (a .form) (a .k) _ (c .before .before .before .before .before .before .before .before .layout-of .ensures) in (c .before .before .before .before .before .before .before .before .before .before .before .before .pre .0, (rw is (q .0), rw (is, c .before .counts-begun .ensures) (placed-begun (a .k) (a .p) (a .c) (q .1)), rw (c .before .counts-begun .ensures) (rows-begun (a .c)), layout-known (a .form) (a .k) _ (c .before .before .before .before .before .before .before .before .layout-of .ensures)))
 
 same-length : tie.Need-same-length
 same-length c = search needs
 
 returns : tie.Need-returns
-returns c = let a = c .before .before .before .before .before .before .before .before .before .before .before .before .before .before .before .before .before .args in (section-refused (a .form) (a .k) (a .table .now) (a .p) (a .c) _ (a .out .now, a .n) _ (c .before .before .before .before .before .before .counts-begun .ensures) (names-put (a .form) (a .k) _ _ _ _ _ (c .before .before .before .before .before .before .before .before .before .put-line .ensures) (c .before .before .before .before .before .before .before .before .before .before .before .before .names-place .ensures)) (c .before .before .before .before .write-rows .result) _ (c .before .before .before .before .write-rows .ensures .0) (c .if1 .taken), λ z. absurd (c .if1 .taken z))
+returns c = let a = c .before .before .before .before .before .before .before .before .before .before .before .before .before .before .before .before .before .args in let is = layout-section (a .form) (a .k) _ (c .before .before .before .before .before .before .before .before .before .before .before .before .before .layout-of .ensures) in let file = layout-form (a .form) (a .k) _ (c .before .before .before .before .before .before .before .before .before .before .before .before .before .layout-of .ensures) in (section-refused (a .form) (a .k) (a .table .now) (a .p) (a .c) _ (a .out .now, a .n) _ (c .before .before .before .before .before .before .counts-begun .ensures) (names-put (a .form) (a .k) _ _ _ _ _ (c .before .before .before .before .before .before .before .before .before .put-line .ensures) (c .before .before .before .before .before .before .before .before .before .before .before .before .names-place .ensures)) (c .before .before .before .before .write-rows .result) _ (rw (is, file) at (c .before .before .before .before .write-rows .ensures .0)) (c .if1 .taken), λ z. absurd (c .if1 .taken z))
 
 cast-rows : tie.Need-cast-rows
 cast-rows c = search needs
@@ -50,19 +51,19 @@ same-length-2 c = search needs
 
 returns-2 : tie.Need-returns-2
 unfolding partWritten refusedOrPoured
-returns-2 c = let a = c .before .before .before .before .before .before .before .before .before .before .before .before .before .before .before .before .before .before .before .before .args in let l : c .before .before .before .before .before .before .before .write-rows .result .counts .rows < sectionAt (a .k) .least = omega (arith, c .if2 .taken, c .before .least .ensures) in (section-few (a .form) (a .k) (a .table .now) (a .p) (a .c) _ (a .out .now, a .n) _ (c .before .before .before .before .before .before .before .before .before .counts-begun .ensures) (names-put (a .form) (a .k) _ _ _ _ _ (c .before .before .before .before .before .before .before .before .before .before .before .before .put-line .ensures) (c .before .before .before .before .before .before .before .before .before .before .before .before .before .before .before .names-place .ensures)) (c .before .before .before .before .before .before .before .write-rows .result) _ (c .before .before .before .before .before .before .before .write-rows .ensures .0) (c .before .before .before .if1 .left) l, λ z. absurd (omega arith))
+returns-2 c = let a = c .before .before .before .before .before .before .before .before .before .before .before .before .before .before .before .before .before .before .before .before .args in let is = layout-section (a .form) (a .k) _ (c .before .before .before .before .before .before .before .before .before .before .before .before .before .before .before .before .layout-of .ensures) in let file = layout-form (a .form) (a .k) _ (c .before .before .before .before .before .before .before .before .before .before .before .before .before .before .before .before .layout-of .ensures) in let l : c .before .before .before .before .before .before .before .write-rows .result .counts .rows < sectionAt (a .k) .least = omega (arith, c .if2 .taken, c .before .least .ensures) in (section-few (a .form) (a .k) (a .table .now) (a .p) (a .c) _ (a .out .now, a .n) _ (c .before .before .before .before .before .before .before .before .before .counts-begun .ensures) (names-put (a .form) (a .k) _ _ _ _ _ (c .before .before .before .before .before .before .before .before .before .before .before .before .put-line .ensures) (c .before .before .before .before .before .before .before .before .before .before .before .before .before .before .before .names-place .ensures)) (c .before .before .before .before .before .before .before .write-rows .result) _ (rw (is, file) at (c .before .before .before .before .before .before .before .write-rows .ensures .0)) (c .before .before .before .if1 .left) l, λ z. absurd (omega arith))
 
 same-length-3 : tie.Need-same-length-3
 same-length-3 c = search needs
 
 returns-3 : tie.Need-returns-3
-returns-3 c = let a = c .before .before .before .before .before .before .before .before .before .before .before .before .before .before .before .before .before .before .before .before .args in let l : sectionAt (a .k) .least ≤ c .before .before .before .before .before .before .before .write-rows .result .counts .rows = omega (arith, c .if2 .left, c .before .least .ensures) in (section-done (a .form) (a .k) (a .table .now) (a .p) (a .c) _ (a .out .now, a .n) _ (c .before .before .before .before .before .before .before .before .before .counts-begun .ensures) (names-put (a .form) (a .k) _ _ _ _ _ (c .before .before .before .before .before .before .before .before .before .before .before .before .put-line .ensures) (c .before .before .before .before .before .before .before .before .before .before .before .before .before .before .before .names-place .ensures)) (c .before .before .before .before .before .before .before .write-rows .result) _ (c .before .before .before .before .before .before .before .write-rows .ensures .0) (c .before .before .before .if1 .left) l, c .before .before .before .before .before .before .before .write-rows .ensures .1)
+returns-3 c = let a = c .before .before .before .before .before .before .before .before .before .before .before .before .before .before .before .before .before .before .before .before .args in let is = layout-section (a .form) (a .k) _ (c .before .before .before .before .before .before .before .before .before .before .before .before .before .before .before .before .layout-of .ensures) in let file = layout-form (a .form) (a .k) _ (c .before .before .before .before .before .before .before .before .before .before .before .before .before .before .before .before .layout-of .ensures) in let l : sectionAt (a .k) .least ≤ c .before .before .before .before .before .before .before .write-rows .result .counts .rows = omega (arith, c .if2 .left, c .before .least .ensures) in (section-done (a .form) (a .k) (a .table .now) (a .p) (a .c) _ (a .out .now, a .n) _ (c .before .before .before .before .before .before .before .before .before .counts-begun .ensures) (names-put (a .form) (a .k) _ _ _ _ _ (c .before .before .before .before .before .before .before .before .before .before .before .before .put-line .ensures) (c .before .before .before .before .before .before .before .before .before .before .before .before .before .before .before .names-place .ensures)) (c .before .before .before .before .before .before .before .write-rows .result) _ (rw (is, file) at (c .before .before .before .before .before .before .before .write-rows .ensures .0)) (c .before .before .before .if1 .left) l, λ z. rw is at (c .before .before .before .before .before .before .before .write-rows .ensures .1 z))
 
 pub write-section-spec : {M : Type 1} → statement M
 write-section-spec =
     tie.close
     (tie.spec
-    most-requires
+    layout-of-requires
     names-place-requires
     slice-aggregate-put-line
     put-line-requires

@@ -11,7 +11,7 @@ use Rattle.judge.proofs.cut.is_cut.Statement.{statement}
 use Rattle.judge.proofs.cut.is_cut.Tie as tie
 
 abbrev Inv-loop : tie.InvT-loop
-Inv-loop block goal live row at left₀ i₀ n₀ left i n = (rowCut block goal n (stepHops block row left i) ≡ rowCut block goal n₀ (stepHops block row 63 at)) × Ready block goal live n
+Inv-loop block goal live row at left₀ i₀ n₀ left i n = (rowCut block goal n (stepHops block row left i (n .scope)) ≡ rowCut block goal n₀ (stepHops block row 63 at (n₀ .scope))) × Ready block goal live n
 
 abbrev μ-loop : tie.MeasureT-loop
 μ-loop block goal live row at left₀ i₀ n₀ left i n = left
@@ -40,20 +40,20 @@ cast-to c = search needs
 label-number-requires : tie.Need-label-number-requires Inv-loop μ-loop
 label-number-requires c κs = c .before .before .before .before .before .loop .inv .1 .size
 
-label-cut-requires : tie.Need-label-cut-requires Inv-loop μ-loop
-label-cut-requires c κs = c .before .before .before .before .before .before .loop .inv .1
+step-cut-requires : tie.Need-step-cut-requires Inv-loop μ-loop
+step-cut-requires c κs = c .before .before .before .before .before .before .loop .inv .1
 
 returns-2 : tie.Need-returns-2 Inv-loop μ-loop
-returns-2 c = let a = c .before .before .before .before .before .before .before .before .before .before .before .before .args in let l = c .before .before .before .before .before .before .before .before .loop in sym (sym (l .inv .0) ∙ cuts-here (a .block .now) (a .goal) (l .n) (a .row .now) (l .i) (l .left) (c .before .before .before .before .before .before .next-step .result) (c .before .before .before .before .before .before .next-step .ensures) (c .before .before .before .before .x .given .0 .0) (c .before .before .before .before .x .given .0 .1 .0) (c .before .before .before .before .x .given .0 .1 .1 .0) (c .before .before .before .before .x .given .1) (c .before .before .before .before .before .before .before .loop-test .taken) (c .before .before .label-number .result) (c .before .before .label-number .ensures) (c .before .label-cut .result) (c .before .label-cut .ensures) (c .if1 .taken))
+returns-2 c = let a = c .before .before .before .before .before .before .before .before .before .before .before .before .args in let l = c .before .before .before .before .before .before .before .before .loop in sym (sym (l .inv .0) ∙ cuts-here (a .block .now) (a .goal) (l .n) (a .row .now) (l .i) (l .left) (c .before .before .before .before .before .before .next-step .result) (c .before .before .before .before .before .before .next-step .ensures) (c .before .before .before .before .x .given .0 .0) (c .before .before .before .before .x .given .0 .1 .0) (c .before .before .before .before .x .given .0 .1 .1 .0) (c .before .before .before .before .x .given .1) (c .before .before .before .before .before .before .before .loop-test .taken) (c .before .before .label-number .result) (c .before .before .label-number .ensures) (c .before .step-cut .result) (c .before .step-cut .ensures) (c .if1 .taken))
 
 state-on-requires : tie.Need-state-on-requires Inv-loop μ-loop
 state-on-requires c κs = let y = c .before .before .before .before .before .before .before .before .loop .inv .1 in (y .size, y .inside)
 
 returns-3 : tie.Need-returns-3 Inv-loop μ-loop
-returns-3 c = let a = c .before .before .before .before .before .before .before .before .before .before .before .before .before .before .args in let l = c .before .before .before .before .before .before .before .before .before .before .loop in sym (sym (l .inv .0) ∙ cuts-no (a .block .now) (a .goal) (l .n) (a .row .now) (l .i) (l .left) (c .before .before .before .before .before .before .before .before .next-step .result) (c .before .before .before .before .before .before .before .before .next-step .ensures) (c .before .before .before .before .before .before .x .given .0 .0) (c .before .before .before .before .before .before .x .given .0 .1 .0) (c .before .before .before .before .before .before .x .given .0 .1 .1 .0) (c .before .before .before .before .before .before .x .given .1) (c .before .before .before .before .before .before .before .before .before .loop-test .taken) (c .before .before .before .before .label-number .result) (c .before .before .before .before .label-number .ensures) (c .before .before .before .label-cut .result) (c .before .before .before .label-cut .ensures) (c .before .before .if1 .left) (c .before .state-on .result) (c .before .state-on .ensures) (c .if2 .taken))
+returns-3 c = let a = c .before .before .before .before .before .before .before .before .before .before .before .before .before .before .args in let l = c .before .before .before .before .before .before .before .before .before .before .loop in sym (sym (l .inv .0) ∙ cuts-no (a .block .now) (a .goal) (l .n) (a .row .now) (l .i) (l .left) (c .before .before .before .before .before .before .before .before .next-step .result) (c .before .before .before .before .before .before .before .before .next-step .ensures) (c .before .before .before .before .before .before .x .given .0 .0) (c .before .before .before .before .before .before .x .given .0 .1 .0) (c .before .before .before .before .before .before .x .given .0 .1 .1 .0) (c .before .before .before .before .before .before .x .given .1) (c .before .before .before .before .before .before .before .before .before .loop-test .taken) (c .before .before .before .before .label-number .result) (c .before .before .before .before .label-number .ensures) (c .before .before .before .step-cut .result) (c .before .before .before .step-cut .ensures) (c .before .before .if1 .left) (c .before .state-on .result) (c .before .state-on .ensures) (c .if2 .taken))
 
 returns-4 : tie.Need-returns-4 Inv-loop μ-loop
-returns-4 c = let a = c .before .before .before .before .before .before .before .before .before .before .before .before .before .before .before .before .args in let l = c .before .before .before .before .before .before .before .before .before .before .before .before .loop in sym (sym (l .inv .0) ∙ cuts-last (a .block .now) (a .goal) (l .n) (a .row .now) (l .i) (l .left) (c .before .before .before .before .before .before .before .before .before .before .next-step .result) (c .before .before .before .before .before .before .before .before .before .before .next-step .ensures) (c .before .before .before .before .before .before .before .before .x .given .0 .0) (c .before .before .before .before .before .before .before .before .x .given .0 .1 .0) (c .before .before .before .before .before .before .before .before .x .given .0 .1 .1 .0) (c .before .before .before .before .before .before .before .before .x .given .1) (c .before .before .before .before .before .before .before .before .before .before .before .loop-test .taken) (c .before .before .before .before .before .before .label-number .result) (c .before .before .before .before .before .before .label-number .ensures) (c .before .before .before .before .before .label-cut .result) (c .before .before .before .before .before .label-cut .ensures) (c .before .before .before .before .if1 .left) (c .before .before .before .state-on .result) (c .before .before .before .state-on .ensures) (c .before .before .if2 .left) (c .if3 .taken))
+returns-4 c = let a = c .before .before .before .before .before .before .before .before .before .before .before .before .before .before .before .before .args in let l = c .before .before .before .before .before .before .before .before .before .before .before .before .loop in sym (sym (l .inv .0) ∙ cuts-last (a .block .now) (a .goal) (l .n) (a .row .now) (l .i) (l .left) (c .before .before .before .before .before .before .before .before .before .before .next-step .result) (c .before .before .before .before .before .before .before .before .before .before .next-step .ensures) (c .before .before .before .before .before .before .before .before .x .given .0 .0) (c .before .before .before .before .before .before .before .before .x .given .0 .1 .0) (c .before .before .before .before .before .before .before .before .x .given .0 .1 .1 .0) (c .before .before .before .before .before .before .before .before .x .given .1) (c .before .before .before .before .before .before .before .before .before .before .before .loop-test .taken) (c .before .before .before .before .before .before .label-number .result) (c .before .before .before .before .before .before .label-number .ensures) (c .before .before .before .before .before .step-cut .result) (c .before .before .before .before .before .step-cut .ensures) (c .before .before .before .before .if1 .left) (c .before .before .before .state-on .result) (c .before .before .before .state-on .ensures) (c .before .before .if2 .left) (c .if3 .taken))
 
 sub-behind : tie.Need-sub-behind Inv-loop μ-loop
 sub-behind c = omega (arith, c .before .if3 .left)
@@ -68,7 +68,7 @@ loop-less : tie.Need-loop-less Inv-loop μ-loop
 loop-less c = omega arith
 
 loop-again : tie.Need-loop-again Inv-loop μ-loop
-loop-again c = let a = c .before .before .before .before .before .before .before .before .before .before .before .before .before .before .before .before .before .before .args in let l = c .before .before .before .before .before .before .before .before .before .before .before .before .before .before .loop in (sym (cuts-on (a .block .now) (a .goal) (l .n) (a .row .now) (l .i) (l .left) (c .before .before .before .before .before .before .before .before .before .before .before .before .next-step .result) (c .before .before .before .before .before .before .before .before .before .before .before .before .next-step .ensures) (c .before .before .before .before .before .before .before .before .before .before .x .given .0 .0) (c .before .before .before .before .before .before .before .before .before .before .x .given .0 .1 .0) (c .before .before .before .before .before .before .before .before .before .before .x .given .0 .1 .1 .0) (c .before .before .before .before .before .before .before .before .before .before .x .given .1) (c .before .before .before .before .before .before .before .before .before .before .before .before .before .loop-test .taken) (c .before .before .before .before .before .before .before .before .label-number .result) (c .before .before .before .before .before .before .before .before .label-number .ensures) (c .before .before .before .before .before .before .before .label-cut .result) (c .before .before .before .before .before .before .before .label-cut .ensures) (c .before .before .before .before .before .before .if1 .left) (c .before .before .before .before .before .state-on .result) (c .before .before .before .before .before .state-on .ensures) (c .before .before .before .before .if2 .left) (c .before .before .if3 .left) (c .behind .result) (c .behind .ensures)) ∙ l .inv .0, behind-ready (l .n) (c .behind .result) (c .before .before .before .before .before .before .before .before .before .before .x .given .0 .1 .0) (c .before .before .before .before .before .state-on .result) (l .n .left - 1) (c .behind .ensures) (a .block .now) (a .goal) (a .live .now) (l .inv .1) (on-small (a .block .now) (l .n) (c .before .before .before .before .before .before .before .before .label-number .result) (c .before .before .before .before .before .before .before .before .before .before .x .given .0 .1 .0) (c .before .before .before .before .before .state-on .result) (c .before .before .before .before .before .state-on .ensures) (c .before .before .before .before .if2 .left)) (c .before .before .before .before .if2 .left))
+loop-again c = let a = c .before .before .before .before .before .before .before .before .before .before .before .before .before .before .before .before .before .before .args in let l = c .before .before .before .before .before .before .before .before .before .before .before .before .before .before .loop in (sym (cuts-on (a .block .now) (a .goal) (l .n) (a .row .now) (l .i) (l .left) (c .before .before .before .before .before .before .before .before .before .before .before .before .next-step .result) (c .before .before .before .before .before .before .before .before .before .before .before .before .next-step .ensures) (c .before .before .before .before .before .before .before .before .before .before .x .given .0 .0) (c .before .before .before .before .before .before .before .before .before .before .x .given .0 .1 .0) (c .before .before .before .before .before .before .before .before .before .before .x .given .0 .1 .1 .0) (c .before .before .before .before .before .before .before .before .before .before .x .given .1) (c .before .before .before .before .before .before .before .before .before .before .before .before .before .loop-test .taken) (c .before .before .before .before .before .before .before .before .label-number .result) (c .before .before .before .before .before .before .before .before .label-number .ensures) (c .before .before .before .before .before .before .before .step-cut .result) (c .before .before .before .before .before .before .before .step-cut .ensures) (c .before .before .before .before .before .before .if1 .left) (c .before .before .before .before .before .state-on .result) (c .before .before .before .before .before .state-on .ensures) (c .before .before .before .before .if2 .left) (c .before .before .if3 .left) (c .behind .result) (c .behind .ensures)) ∙ l .inv .0, behind-ready (l .n) (c .behind .result) (c .before .before .before .before .before .before .before .before .before .before .x .given .0 .1 .0) (c .before .before .before .before .before .state-on .result) (l .n .left - 1) (c .behind .ensures) (a .block .now) (a .goal) (a .live .now) (l .inv .1) (on-small (a .block .now) (l .n) (c .before .before .before .before .before .before .before .before .label-number .result) (c .before .before .before .before .before .before .before .before .before .before .x .given .0 .1 .0) (c .before .before .before .before .before .state-on .result) (c .before .before .before .before .before .state-on .ensures) (c .before .before .before .before .if2 .left)) (c .before .before .before .before .if2 .left))
 
 end-cut-requires-2 : tie.Need-end-cut-requires-2 Inv-loop μ-loop
 end-cut-requires-2 c κs = c .before .loop .inv .1
@@ -90,7 +90,7 @@ is-cut-spec =
     returns
     cast-to
     label-number-requires
-    label-cut-requires
+    step-cut-requires
     returns-2
     state-on-requires
     returns-3

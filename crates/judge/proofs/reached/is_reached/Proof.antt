@@ -10,7 +10,7 @@ use Rattle.judge.proofs.reached.is_reached.Statement.{statement}
 use Rattle.judge.proofs.reached.is_reached.Tie as tie
 
 abbrev Inv-loop : tie.InvT-loop
-Inv-loop block decls goal sought mark row at left₀ i₀ n₀ left i n = (rowReached block decls goal sought mark n (stepHops block row left i) ≡ rowReached block decls goal sought mark n₀ (stepHops block row 63 at)) × Inside n
+Inv-loop block decls goal sought mark row at left₀ i₀ n₀ left i n = (rowReached block decls goal sought mark n (stepHops block row left i (n .scope)) ≡ rowReached block decls goal sought mark n₀ (stepHops block row 63 at (n₀ .scope))) × Inside n
 
 abbrev μ-loop : tie.MeasureT-loop
 μ-loop block decls goal sought mark row at left₀ i₀ n₀ left i n = left

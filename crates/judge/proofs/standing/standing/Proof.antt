@@ -1,5 +1,5 @@
--- `standing` meets its contract: by its start, by whether it is reached, by whether it is cut. Assumes
--- nothing.
+-- `standing` meets its contract: by its start, by whether it is reached, by whether it is cut.
+-- Assumes nothing.
 use native.Mathlib.Omega.{arith}
 use borrow.Author.Tests.{not-true, not-false}
 use Rattle.path_row.proofs.RowReads.{steps-first}
@@ -31,13 +31,13 @@ returns-2 : tie.Need-returns-2
 returns-2 c = let a = c .before .before .before .before .before .before .before .before .before .before .args in let p = c .before .before .before .before .before .before .before .before .before .before .pre in not-reached (a .table .now) (a .sought) (a .mark) (a .from) (a .row .now) (p .0) (c .before .before .before .before .before .before .if1 .left) (a .block .now) (p .1) _ (c .before .before .before .before .before .part .ensures) _ (c .before .before .before .before .declaring .ensures) _ (c .before .before .before .begin .ensures) (c .before .before .first-step .result) (steps-first _ _ (c .before .before .first-step .ensures)) _ (c .before .is-reached .ensures) (not-true _ (c .if2 .taken))
 
 goal-table-requires : tie.Need-goal-table-requires
-goal-table-requires c κs = let a = c .before .before .before .before .before .before .before .before .before .before .args in let p = c .before .before .before .before .before .before .before .before .before .before .pre in (p .1 .size, (p .1 .still, start-small (a .table .now) (a .sought) (a .mark) (a .from) (a .row .now) (p .0)))
+goal-table-requires c κs = let a = c .before .before .before .before .before .before .before .before .before .before .args in let p = c .before .before .before .before .before .before .before .before .before .before .pre in (p .1 .size, (p .1 .bounds, start-small (a .table .now) (a .sought) (a .mark) (a .from) (a .row .now) (p .0)))
 
 slice-aggregate-is-cut : tie.Need-slice-aggregate-is-cut
 slice-aggregate-is-cut c = search needs
 
 is-cut-requires : tie.Need-is-cut-requires
-is-cut-requires c κs = let a = c .before .before .before .before .before .before .before .before .before .before .before .before .args in let p = c .before .before .before .before .before .before .before .before .before .before .before .before .pre in let n = slice-aggregate-is-cut c in record { size = p .1 .size; still = p .1 .still; table = omega arith; inside = begins-inside (a .block .now) (a .sought .start) _ (c .before .before .before .before .before .begin .ensures) (start-small (a .table .now) (a .sought) (a .mark) (a .from) (a .row .now) (p .0)); closed = c .before .goal-table .ensures }
+is-cut-requires c κs = let a = c .before .before .before .before .before .before .before .before .before .before .before .before .args in let p = c .before .before .before .before .before .before .before .before .before .before .before .before .pre in let n = slice-aggregate-is-cut c in record { size = p .1 .size; bounds = p .1 .bounds; table = omega arith; inside = begins-inside (a .block .now) (a .sought .start) _ (c .before .before .before .before .before .begin .ensures) (start-small (a .table .now) (a .sought) (a .mark) (a .from) (a .row .now) (p .0)); closed = c .before .goal-table .ensures }
 
 returns-3 : tie.Need-returns-3
 returns-3 c = let a = c .before .before .before .before .before .before .before .before .before .before .before .before .before .before .args in let p = c .before .before .before .before .before .before .before .before .before .before .before .before .before .before .pre in is-cut (a .table .now) (a .sought) (a .mark) (a .from) (a .row .now) (p .0) (c .before .before .before .before .before .before .before .before .before .before .if1 .left) (a .block .now) (p .1) _ (c .before .before .before .before .before .before .before .before .before .part .ensures) _ (c .before .before .before .before .before .before .before .before .declaring .ensures) _ (c .before .before .before .before .before .before .before .begin .ensures) (c .before .before .before .before .before .before .first-step .result) (steps-first _ _ (c .before .before .before .before .before .before .first-step .ensures)) _ (c .before .before .before .before .before .is-reached .ensures) (not-false _ (c .before .before .before .before .if2 .left)) _ (c .before .is-cut .ensures) (c .if3 .taken)

@@ -22,7 +22,7 @@ taken-requires c κs = asked-small (c .before .before .before .before .before .a
 goal-table-requires : tie.Need-goal-table-requires
 goal-table-requires c κs =
     let p = c .before .before .before .before .before .before .pre in
-    (p .0 .size, (p .0 .still, asked-small (c .before .before .before .before .before .before .args .table .now) _ (p .1)))
+    (p .0 .size, (p .0 .bounds, asked-small (c .before .before .before .before .before .before .args .table .now) _ (p .1)))
 
 with-room-requires : tie.Need-with-room-requires
 with-room-requires c κs = search needs

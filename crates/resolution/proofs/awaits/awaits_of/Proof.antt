@@ -19,7 +19,7 @@ returns : tie.Need-returns
 returns c = let a = c .before .before .before .before .before .before .before .args in let p = c .before .before .before .before .before .before .before .pre in awaits-none (a .table .now) (a .block .now) (a .ask .now) p _ (c .before .before .before .part .ensures) (c .if1 .taken)
 
 away-from-requires : tie.Need-away-from-requires
-away-from-requires c κs = let a = c .before .before .before .before .before .before .before .args in let p = c .before .before .before .before .before .before .before .pre in (p .made .size, (p .made .still, rw (c .before .ask-start .ensures) (start-small (a .table .now) (a .block .now) (a .ask .now) p)))
+away-from-requires c κs = let a = c .before .before .before .before .before .before .before .args in let p = c .before .before .before .before .before .before .before .pre in (p .made .size, (p .made .bounds, rw (c .before .ask-start .ensures) (start-small (a .table .now) (a .block .now) (a .ask .now) p)))
 
 slice-aggregate-first-followed : tie.Need-slice-aggregate-first-followed
 slice-aggregate-first-followed c = search needs

@@ -1,5 +1,5 @@
--- `pair_followed` meets its contract: a pair whose places are all barred is not followed, and else the walk
--- tells. Assumes nothing.
+-- `pair_followed` meets its contract: a pair whose places are all barred is not followed, and else
+-- the walk tells. Assumes nothing.
 use native.Mathlib.Omega.{arith}
 use Rattle.resolution.proofs.Asks.{start-small}
 use Rattle.resolution.proofs.Unfollowed.{no-scope, no-end, none-left, all-barred, by-walk}
@@ -29,7 +29,7 @@ usable-set-requires : tie.Need-usable-set-requires
 usable-set-requires c κs = (c .before .before .before .before .before .before .before .before .before .before .pre .0 .made .size, omega arith)
 
 is-followed-requires : tie.Need-is-followed-requires
-is-followed-requires c κs = let a = c .before .before .before .before .before .before .before .before .before .before .before .args in let p = c .before .before .before .before .before .before .before .before .before .before .before .pre in (p .0 .made .size, (p .0 .made .still, (p .0 .size, (start-small (a .table .now) (a .block .now) (a .ask .now) (p .0), p .0 .live))))
+is-followed-requires c κs = let a = c .before .before .before .before .before .before .before .before .before .before .before .args in let p = c .before .before .before .before .before .before .before .before .before .before .before .pre in (p .0 .made .size, (p .0 .made .bounds, (p .0 .size, (start-small (a .table .now) (a .block .now) (a .ask .now) (p .0), p .0 .live))))
 
 returns-4 : tie.Need-returns-4
 returns-4 c = let a = c .before .before .before .before .before .before .before .before .before .before .before .before .args in by-walk (a .block .now) (a .table .now) (a .ask .now) (a .at) (a .end) (a .away .now) (omega arith) (omega arith) _ (c .before .before .single .ensures) _ (c .before .usable-set .ensures) _ (c .is-followed .ensures)

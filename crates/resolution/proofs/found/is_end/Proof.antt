@@ -24,7 +24,7 @@ usable-set-requires : tie.Need-usable-set-requires
 usable-set-requires c κs = search needs
 
 is-followed-requires : tie.Need-is-followed-requires
-is-followed-requires c κs = let a = c .before .before .before .before .before .before .before .before .args in let p = c .before .before .before .before .before .before .before .before .pre in (p .0 .made .size, (p .0 .made .still, (p .0 .size, (start-small (a .table .now) (a .block .now) (a .ask .now) (p .0), p .0 .live))))
+is-followed-requires c κs = let a = c .before .before .before .before .before .before .before .before .args in let p = c .before .before .before .before .before .before .before .before .pre in (p .0 .made .size, (p .0 .made .bounds, (p .0 .size, (start-small (a .table .now) (a .block .now) (a .ask .now) (p .0), p .0 .live))))
 
 returns-2 : tie.Need-returns-2
 returns-2 c = let a = c .before .before .before .before .before .before .before .before .before .args in let p = c .before .before .before .before .before .before .before .before .before .pre in end-walked (a .table .now) (a .block .now) (a .ask .now) (p .0) (a .s) _ (c .before .before .before .before .before .ask-goal .ensures) _ (c .before .before .before .before .has .ensures) (p .1) (not-false _ (c .before .before .before .if1 .left)) _ (c .before .before .single .ensures) _ (c .before .usable-set .ensures) _ (c .is-followed .ensures)

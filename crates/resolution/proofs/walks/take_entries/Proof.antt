@@ -14,7 +14,7 @@ accept-set-requires : tie.Need-accept-set-requires
 accept-set-requires c κs = search needs
 
 walk-requires : tie.Need-walk-requires
-walk-requires c κs = let a = c .before .before .before .before .before .before .before .args in let p = c .before .before .before .before .before .before .before .pre in (p .made .size, (p .made .still, (p .size, (start-small (a .table .now) (a .block .now) (a .ask .now) p, (p .live, (omega (arith, p .size), (rw (c .before .before .ask-goal .ensures, c .before .accept-set .ensures) (entries-worth (a .table .now) (a .block .now) (a .ask .now) p), λ e. not-place e)))))))
+walk-requires c κs = let a = c .before .before .before .before .before .before .before .args in let p = c .before .before .before .before .before .before .before .pre in (p .made .size, (p .made .bounds, (p .size, (start-small (a .table .now) (a .block .now) (a .ask .now) p, (p .live, (omega (arith, p .size), (rw (c .before .before .ask-goal .ensures, c .before .accept-set .ensures) (entries-worth (a .table .now) (a .block .now) (a .ask .now) p), λ e. not-place e)))))))
 
 same-length : tie.Need-same-length
 same-length c = search needs

@@ -21,13 +21,13 @@ accept-set-requires : tie.Need-accept-set-requires
 accept-set-requires c κs = search needs
 
 returns : tie.Need-returns
-returns c = λ q h. way-cut _ _ _ q _ (sym (c .before .before .before .before .has .ensures) ∙ c .before .before .before .if1 .taken) (sym (c .before .before .pair .ensures) ∙ c .before .if2 .taken) (rw (c .accept-set .ensures) at h)
+returns c = λ q t is h. way-cut _ _ _ q t (sym (c .before .before .before .before .has .ensures) ∙ c .before .before .before .if1 .taken) (rw is (sym (c .before .before .pair .ensures) ∙ c .before .if2 .taken)) (rw (c .accept-set .ensures) at h)
 
 returns-2 : tie.Need-returns-2
-returns-2 c = λ q h. absurd (false≢true (sym (states-none q) ∙ h))
+returns-2 c = λ q t is h. absurd (false≢true (sym (states-none q) ∙ h))
 
 returns-3 : tie.Need-returns-3
-returns-3 c = λ q h. absurd (false≢true (sym (states-none q) ∙ h))
+returns-3 c = λ q t is h. absurd (false≢true (sym (states-none q) ∙ h))
 
 pub barred-spec : {M : Type 1} → statement M
 barred-spec =

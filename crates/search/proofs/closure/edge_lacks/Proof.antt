@@ -1,6 +1,6 @@
 -- `edge_lacks` meets its contract: no place leads on to an empty set, and else the states that
 -- matter are tested. Assumes nothing.
-use mathlib.Core.Path.{sym, _∙_}
+use mathlib.Core.Path.{refl, sym, _∙_}
 use mathlib.Core.Bool.{true≢false}
 use borrow.Author.Needs.{needs}
 use borrow.Author.Tests.{not-true}
@@ -42,7 +42,7 @@ leads-into-requires c κs = search needs
 
 returns-3 : tie.Need-returns-3
 unfolding hopOf
-returns-3 c = λ e. hop-closed _ _ _ (hasScope (c .before .before .before .before .before .before .before .before .before .args .free)) _ (c .before .before .before .before .before .before .before .before .before .pre .1 .0) _ (c .before .before .before .before .before .before .before .before .before .pre .1 .1 .1) (hopOf (c .before .before .before .before .before .before .before .before .before .args .x)) (c .before .barred .result) (hop-to (c .before .before .before .before .before .before .before .before .before .args .x)) (c .before .barred .ensures) (c .leads-into .ensures e)
+returns-3 c = λ e. hop-closed _ _ _ (hasScope (c .before .before .before .before .before .before .before .before .before .args .free)) _ (c .before .before .before .before .before .before .before .before .before .pre .1 .0) _ (c .before .before .before .before .before .before .before .before .before .pre .1 .1 .1) (hopOf (c .before .before .before .before .before .before .before .before .before .args .x)) (c .before .barred .result) (hop-to (c .before .before .before .before .before .before .before .before .before .args .x)) (λ q b. c .before .barred .ensures q (hopOf (c .before .before .before .before .before .before .before .before .before .args .x) .step) refl b) (c .leads-into .ensures e)
 
 pub edge-lacks-spec : {M : Type 1} → statement M
 edge-lacks-spec =

@@ -5,7 +5,7 @@ use native.Mathlib.Omega.{arith}
 use borrow.Author.Needs.{needs}
 use Rattle.block.specs.Block.{firstEdge}
 use Rattle.search.specs.Steps.{HopAt}
-use Rattle.search.proofs.HopLaws.{hop-of-scope}
+use Rattle.block.proofs.EdgeLaws.{hop-of-scope}
 use Rattle.search.proofs.straight.nearest.Statement.{statement}
 use Rattle.search.proofs.straight.nearest.Tie as tie
 

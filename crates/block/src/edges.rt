@@ -1,0 +1,67 @@
+// Edges by their turns (document 02, K12): looked up, and compared. The edge x's label is
+// `x / 64 % 8`, the scope that it leads to `x % 64`.
+use crate::TURN;
+use crate::edge_at;
+use crate::edges_end;
+use crate::edges_from;
+ghost use mathlib.Core.Path.{_≡_};
+ghost use mathlib.Core.Bool.{_&&_};
+ghost use Prim.Native.Nat.{_<_};
+ghost use lib.Dec.{eqb};
+ghost use Rattle.scope_graph.specs.Language.{by};
+ghost use Rattle.scope_graph.specs.Turns.{laterStep};
+ghost use Rattle.block.specs.Layout.{IsBlock};
+ghost use Rattle.block.specs.Block.{turnCell, turnOf, hopOf, EdgeTo};
+
+// No edge's turn is above this one.
+pub fn most_turn(block: &[u64]) -> u64
+    requires block { ⌜ IsBlock (now block) ⌝ }
+    ensures answer { λ r. ⌜ r ≡ turnCell (now (block .entry)) ⌝ }
+{
+    block[TURN]
+}
+
+// The edge's turn.
+pub fn turn_of(x: u64) -> u64
+    ensures answer { λ r. ⌜ r ≡ turnOf x ⌝ }
+{
+    x / 512 % 128
+}
+
+// Have the two edges one label, and the first the higher turn?
+pub fn is_later(x: u64, y: u64) -> bool
+    ensures answer { λ r. ⌜ r ≡ laterStep (by (hopOf x .step)) (by (hopOf y .step)) ⌝ }
+{
+    if x / 64 % 8 != y / 64 % 8 {
+        return false;
+    }
+    turn_of(y) < turn_of(x)
+}
+
+// Does the edge go by the label to the scope?
+fn is_edge(x: u64, label: u64, to: u64) -> bool
+    ensures answer { λ r. ⌜ r ≡ (eqb (hopOf x .step .label) label && eqb (hopOf x .to) to) ⌝ }
+{
+    if x / 64 % 8 != label {
+        return false;
+    }
+    x % 64 == to
+}
+
+// The number of the first edge that leaves scope s by the label to the scope; past the scope's
+// edges where there is none.
+pub fn edge_to(block: &[u64], s: u64, label: u64, to: u64) -> u64
+    requires block { ⌜ IsBlock (now block) ⌝ }
+    requires scope { ⌜ s < 64 ⌝ }
+    ensures answer { λ r. ⌜ EdgeTo (now (block .entry)) s label to r ⌝ }
+{
+    let end = edges_end(block, s);
+    let mut p = edges_from(block, s);
+    while p < end {
+        if is_edge(edge_at(block, p), label, to) {
+            return p;
+        }
+        p += 1;
+    }
+    end
+}
