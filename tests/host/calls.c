@@ -221,7 +221,7 @@ int main(int argc, char **argv)
     EXPECT(converts(tewhoranu_to_old, zeros, old));
     EXPECT(tewhoranu_to_old(bytes(turns), strlen(turns), out, 0) == TEWHORANU_NO_OLD_FORM);
 
-    /* one file in both forms: each way, as it is, a byte less; and kinds that the old form cannot say */
+    /* one file in the two forms without turns: each way, as it is, a byte less; and kinds that the old form cannot say */
     EXPECT(converts(tewhoranu_to_old, usual, old) && converts(tewhoranu_to_old, old, old));
     EXPECT(converts(tewhoranu_to_new, old, usual) && converts(tewhoranu_to_new, usual, usual));
     EXPECT(converts(tewhoranu_to_new, kinds, kinds));

@@ -43,7 +43,7 @@ fn put_old<'s, 'o>(text: &'s [u8], out: &'o mut [u8]) -> usize
     put_answer(out, a)
 }
 
-// The file in the form with kinds, or its refusal.
+// The file in a form with kinds, one with turns as it is, or its refusal.
 fn put_new<'s, 'o>(text: &'s [u8], out: &'o mut [u8]) -> usize
     requires room { ⌜ length (now out) ≡ replyRoom ⌝ }
     ensures written { λ r. ⌜ Replied (now (out .entry)) (now (out .exit)) r (inPlace replyRoom (newOf (now (text .entry)))) ⌝ }

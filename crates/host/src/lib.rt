@@ -132,7 +132,7 @@ pub extern "C" fn tewhoranu_to_old(text: &[u8], out: &mut [u8]) -> u64
     written_number(to_old(text, out))
 }
 
-// A gym file's text in the form with kinds, written into the lent buffer.
+// A gym file's text in a form with kinds, one with turns as it is, written into the lent buffer.
 #[no_mangle]
 pub extern "C" fn tewhoranu_to_new(text: &[u8], out: &mut [u8]) -> u64
     ensures answer { λ r. ⌜ r ≡ written (answer (newOf (now (text .entry))) (length (now (out .entry)))) ⌝ }
