@@ -35,7 +35,7 @@ extern "C" {
 #endif
 
 /* Refusals. The sender of a file causes 1 to 6 (the host, where a table of its own is written), the writer of a path row
- * 8, the host 7, 9 and 14. */
+ * 8, the writer of an expression 12 and 13, the host 7, 9 and 14. */
 #define TEWHORANU_TOO_LONG 1      /* the file is longer than 32,768 bytes */
 #define TEWHORANU_MALFORMED 2     /* a line, or a row of a graph table, not of its section's form; a missing section */
 #define TEWHORANU_OUT_OF_RANGE 3  /* a value that the file has no room for, or a label that it does not list */
@@ -45,6 +45,8 @@ extern "C" {
 #define TEWHORANU_NO_QUERY 7      /* the file has no query of this number */
 #define TEWHORANU_NO_PATH_ROW 8   /* a path row not of its form */
 #define TEWHORANU_NO_ROOM 9       /* an output longer than the memory lent for it, or more steps than records */
+#define TEWHORANU_NO_EXPRESSION 12 /* no expression of labels, | and * and brackets, too long, or of a label not listed */
+#define TEWHORANU_TOO_MANY_STATES 13 /* an expression whose smallest table has more than 16 states */
 #define TEWHORANU_NO_OLD_FORM 14  /* a kind other than `v` or a turn other than 0, which the old form cannot say */
 
 /* An answer of this and more is no refusal. Cases are as far apart. */
@@ -121,6 +123,10 @@ static inline const char *tewhoranu_refusal_text(uint64_t answer)
         return "a path row is not of its form";
     case TEWHORANU_NO_ROOM:
         return "the memory lent is too short for the output or the steps";
+    case TEWHORANU_NO_EXPRESSION:
+        return "not an expression over the file's labels, or past 64 bytes or ten letters";
+    case TEWHORANU_TOO_MANY_STATES:
+        return "the smallest table for the expression has more than 16 states";
     case TEWHORANU_NO_OLD_FORM:
         return "the old form has no kinds and no turns, and a kind is not v or a turn is not 0";
     default:
@@ -190,6 +196,15 @@ uint64_t tewhoranu_to_old(const uint8_t *text, size_t text_length, uint8_t *out,
  * Answers 64 and the number of bytes, at most TEWHORANU_TEXT; bytes behind them stay as they were.
  * Refuses by 1 to 6 as tewhoranu_read does, then 9. */
 uint64_t tewhoranu_to_new(const uint8_t *text, size_t text_length, uint8_t *out, size_t out_length);
+
+/* Writes the file with the path rules of an expression in the place of its own: transitions and accepting states that
+ * lead to acceptance on just the words of the expression's language, by the fewest states; all else of the file, its
+ * form too, stays. An expression has labels of the file, `|`, `*` and round brackets, at most ten letters and 64 bytes.
+ * Answers 64 and the number of bytes, at most TEWHORANU_TEXT; bytes behind them stay as they were.
+ * Refuses by 1 to 6 as tewhoranu_read does, then 12 where it is no such expression, then 13 where it needs more than
+ * 16 states, then 9. */
+uint64_t tewhoranu_rules(const uint8_t *text, size_t text_length, const uint8_t *expression, size_t expression_length,
+                         uint8_t *out, size_t out_length);
 
 #ifdef __cplusplus
 }

@@ -56,6 +56,7 @@ static int refused_with(size_t length, const char *old, const char *new, uint64_
         && tewhoranu_summary(changed, length, out, TEWHORANU_SUMMARY) == number
         && tewhoranu_to_old(changed, length, out, sizeof out) == number
         && tewhoranu_to_new(changed, length, out, sizeof out) == number
+        && tewhoranu_rules(changed, length, bytes("P)"), 2, out, sizeof out) == number
         && tewhoranu_compare(changed, length, bytes("1 2"), 3, bytes("1 2"), 3, steps, 1, others, 1) == number
         && tewhoranu_name_sought(changed, length, 0, &place) == 0 && place == 7 && out[0] == 'x';
 }
@@ -72,6 +73,12 @@ static int converts(conversion *convert, const char *from, const char *to)
         return 0;
     return convert(bytes(from), strlen(from), out, length) == TEWHORANU_DONE + length && memcmp(out, to, length) == 0
         && out[length] == 'x';
+}
+
+/* The example with the path rules of an expression, in a buffer of so many bytes. */
+static uint64_t ruled(size_t length, const char *expression, size_t room)
+{
+    return tewhoranu_rules(text, length, bytes(expression), strlen(expression), out, room);
 }
 
 /* Each refusal that the header has words for. */
@@ -100,8 +107,11 @@ int main(int argc, char **argv)
                                 "0 I 1 2\n0 I 2 1\nat kind name mark\n1 v x 1\n2 v x 2\nat open\n0 I\nstart kind seek\n0 v x\n";
     static const char zeros[] = "label\nless more\nstate label next\naccept\n0\nscopes\n1\nfrom label turn to\n"
                                 "at kind name mark\n0 v x 1\nat open\n0 $\nstart kind seek\n0 v x\n";
+    static const char twice[] = "label\nI\nless more\nstate label next\n0 I 1\n1 I 2\naccept\n2\nscopes\n3\nfrom label turn to\n"
+                                "0 I 1 2\n0 I 2 1\nat kind name mark\n1 v x 1\n2 v x 2\nat open\n0 I\nstart kind seek\n0 v x\n";
     static const char later[] = "start kind seek found awaits\n0 v x one 0I\nmark path\n1 0I1\n";
     static const char limit[] = "start kind seek found awaits\n0 v x one 0$\nmark path\n2 0\n";
+    static const char one_state[] = "state label next\n0 I 0\n0 P 0\naccept\n0\nscopes\n";
     static const char visible[] = "21 2", shadowed[] = "10 2P1", unreached[] = "5 2P1P0";
     FILE *file = argc == 2 ? fopen(argv[1], "rb") : NULL;
     size_t length, cells;
@@ -169,6 +179,20 @@ int main(int argc, char **argv)
                                others, 0);
     EXPECT(is_case(answer, TEWHORANU_NEITHER));
 
+    /* the example's own path rules as an expression; others; what is none, and what needs too many states */
+    memset(out, 'x', length + 1);
+    EXPECT(ruled(length, "P*I*", length - 1) == TEWHORANU_NO_ROOM && out[0] == 'x');
+    EXPECT(ruled(length, "P*I*", length) == TEWHORANU_DONE + length && memcmp(out, text, length) == 0 && out[length] == 'x');
+    answer = ruled(length, "(P|I)*", sizeof out);
+    EXPECT(answer == TEWHORANU_DONE + length - 8 && memcmp(strstr((char *)out, "state"), one_state, strlen(one_state)) == 0);
+    EXPECT(!tewhoranu_refused(ruled(length, "(P|I)*P(P|I)(P|I)(P|I)", sizeof out)));
+    out[0] = 'x';
+    EXPECT(ruled(length, "(P|I)*P(P|I)(P|I)(P|I)P", 0) == TEWHORANU_TOO_MANY_STATES);
+    EXPECT(ruled(length, "", 0) == TEWHORANU_NO_EXPRESSION && ruled(length, "P|", sizeof out) == TEWHORANU_NO_EXPRESSION);
+    EXPECT(ruled(length, "Z", sizeof out) == TEWHORANU_NO_EXPRESSION);
+    EXPECT(ruled(length - 1, "", 0) == TEWHORANU_MALFORMED && ruled(TEWHORANU_TEXT + 1, "", 0) == TEWHORANU_TOO_LONG);
+    EXPECT(out[0] == 'x');
+
     /* a file with kinds: its cells, its text, its listing, its name sought */
     length = strlen(kinds);
     answer = tewhoranu_read(bytes(kinds), length, table, TEWHORANU_CELLS);
@@ -220,11 +244,14 @@ int main(int argc, char **argv)
     EXPECT(converts(tewhoranu_to_new, turns, turns) && converts(tewhoranu_to_new, zeros, zeros));
     EXPECT(converts(tewhoranu_to_old, zeros, old));
     EXPECT(tewhoranu_to_old(bytes(turns), strlen(turns), out, 0) == TEWHORANU_NO_OLD_FORM);
+    answer = tewhoranu_rules(bytes(turns), strlen(turns), bytes("II"), 2, out, sizeof out);
+    EXPECT(answer == TEWHORANU_DONE + strlen(twice) && memcmp(out, twice, strlen(twice)) == 0);
 
-    /* one file in both forms: each way, as it is, a byte less; and kinds that the old form cannot say */
+    /* one file in the two forms without turns: each way, as it is, a byte less; and kinds that the old form cannot say */
     EXPECT(converts(tewhoranu_to_old, usual, old) && converts(tewhoranu_to_old, old, old));
     EXPECT(converts(tewhoranu_to_new, old, usual) && converts(tewhoranu_to_new, usual, usual));
     EXPECT(converts(tewhoranu_to_new, kinds, kinds));
+    EXPECT(tewhoranu_rules(bytes(kinds), length, bytes("P"), 1, out, sizeof out) == TEWHORANU_NO_EXPRESSION);
     out[0] = 'x';
     EXPECT(tewhoranu_to_old(bytes(kinds), length, out, sizeof out) == TEWHORANU_NO_OLD_FORM);
     EXPECT(tewhoranu_to_old(bytes(kinds), length, out, 0) == TEWHORANU_NO_OLD_FORM);

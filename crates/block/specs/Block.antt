@@ -79,9 +79,9 @@ hopsOn block s p = hopsFrom block p (firstEdge block (suc s) - p)
 unfoldable pub blockHops : List ℕ → ℕ → List (HopOf Turned)
 blockHops block s = elim (ltb s 64) [ true ↦ hopsOn block s (firstEdge block s) | false ↦ [] ]
 
--- Edge number r is the first that leaves the scope by the label to the scope `to`, so its turn is
--- the one that comparing looks up (02, K12); or a number past the scope's edges where there is
--- none.
+-- Edge number r leaves the scope by the label to the scope `to`, and has the turn that comparing
+-- looks up (02, K12), which is the first such edge's; or it is a number past the scope's edges
+-- where there is none.
 pub record EdgeTo (block : List ℕ) (s label to r : ℕ) : Type 0 where
   pub leaves : r < firstEdge block (suc s) → hopOf (edgeCell block r) ∈ blockHops block s
   pub is : r < firstEdge block (suc s)

@@ -49,7 +49,7 @@ DECL = 743
 abbrev pub STATES : ℕ
 STATES = 808
 
--- a turn that no edge's is above (02, K12); 0 where all turns are 0
+-- a turn that no edge's is above (02, K12): only time depends on which one
 abbrev pub TURN : ℕ
 TURN = 809
 

@@ -74,8 +74,8 @@ fn put_scope(rows: &[u64], s: u64, p: usize, n: usize, top: u64, block: &mut [u6
     }
 }
 
-// Fills the parts of the block for edges, and gives a turn that no edge's is above: 0 where all are
-// 0. In rows that ascend each is looked at once.
+// Fills the parts of the block for edges, and gives a turn that no edge's is above. In rows that
+// ascend each is looked at once.
 pub fn put_edges(rows: &[u64], block: &mut [u64]) -> u64
     requires block { ⌜ IsBlock (now block) ⌝ }
     ensures put { λ r. ⌜ EdgesPut (now (rows .entry)) (now (block .entry)) (now (block .exit)) r ⌝ }

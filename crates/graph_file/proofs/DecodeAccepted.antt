@@ -25,7 +25,7 @@ use Rattle.graph_file.proofs.DecodeWay.{AdmittedTable}
 use Rattle.graph_file.proofs.DecodeWritten.{read-admitted, written-admitted}
 use Rattle.graph_file.proofs.DecodeRows.{item-in, Ascends, KeyBefore}
 use Rattle.graph_file.proofs.DecodeTable.{table-limit, table-count, table-in-range, table-ascends, table-order, table-letters}
-use Rattle.graph_file.proofs.DecodeEdges.{edge-key, turn-in, one-turn}
+use Rattle.graph_file.proofs.DecodeEdges.{edge-key, old-turns, turn-in, one-turn}
 use Rattle.graph_file.proofs.DecodePlaces.{table-rows, table-length, table-most}
 use Rattle.graph_file.proofs.DecodeOrder.{endOf-before, endOf-listed, order-passes}
 
@@ -217,6 +217,8 @@ module _ (cells : List ℕ) (t : AdmittedTable cells) where
     accepts = each (λ (row : Row). value row 0) (λ s. s < 16) (rowsIn acceptSection cells) (state-in acceptSection (omega arith) 0 here);
     turns = each asEdge (λ (e : Edge L). (n : ℕ) → e .step .turn ≡ some n → n < turnCount) (rowsIn edgeSection cells)
         (λ row m n e. let same : value row 3 ≡ n = cc in subst (λ v. v < turnCount) same (turn-in cells t row m));
+    old-line = λ n. each asEdge (λ (e : Edge L). e .step .turn ≡ some 0) (rowsIn edgeSection cells)
+        (λ row m. ap (λ (v : ℕ). some v) (old-turns cells t n row m));
     marks = each asDeclaration (λ (d : Declaration L). d .mark < 65536) (rowsIn declarationSection cells)
         (mark-in declarationSection (omega arith) 4 declared-mark);
     open-at = each asOpenPair (λ (o : OpenPair L). o .at < scopesOf cells) (rowsIn openSection cells) (scope-in openSection (omega arith) 0 here);

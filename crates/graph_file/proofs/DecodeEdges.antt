@@ -18,6 +18,7 @@ use Rattle.scope_graph.proofs.Lists.{Two, here, there, and-left, and-right, and
 use Rattle.graph_file.specs.Format.{turn, field, everyItem, valuesOf, hasTurns, edgeShape, edges, sections, sectionAt, shapesOf, shapeAt, edgeSection, turnCount}
 use Rattle.graph_file.specs.Admission.{Row, value, sameSource, sameEdge, contentInRange, itemInRange, inRange}
 use Rattle.graph_file.specs.Line.{itemFormed, sparesPlace, idleZero, idleZeros, formed}
+use Rattle.graph_file.specs.File.{formIn}
 use Rattle.graph_file.specs.Decode.{rowsIn, lettersOf, scopesOf, edgeOf}
 use Rattle.graph_file.proofs.DecodeWay.{AdmittedTable}
 use Rattle.graph_file.proofs.DecodeRows.{item-in, KeyBefore}
@@ -78,6 +79,10 @@ module _ (cells : List ℕ) (t : AdmittedTable cells) where
       let told : formed items row ≡ true = subst (λ (b : Bool). formed (edgeShape b .row) row ≡ true) n (table-formed cells t edgeSection (omega arith) row m) in
       let idle : idleZeros items row ≡ true = and-right (everyItem (itemFormed row) items) (idleZeros items row) told in
       eqb-true (value row 3) 0 (and-left (eqb (value row 3) 0) (eqb (value row 4) 0) idle)
+
+  pub old-turns : hasTurns (formIn cells) ≡ false → (row : Row) → row ∈ rowsIn edgeSection cells → value row 3 ≡ 0
+  unfolding formIn
+  old-turns n row m = unturned (subst (λ (c : List ℕ). hasTurns (formIn c) ≡ false) (t .cells-are) n) row m
 
   -- a line with turns has it in its range
   turned : hasTurns (t .form) ≡ true → (row : Row) → row ∈ rowsIn edgeSection cells → value row 3 < turnCount

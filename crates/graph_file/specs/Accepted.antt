@@ -4,6 +4,7 @@
 use Prim.Native.Nat.{ℕ, _≤_, _<_}
 use mathlib.Core.Path.{_≡_}
 use mathlib.Core.Logic.{_⊎_}
+use mathlib.Core.Bool.{false}
 use mathlib.Core.Option.{some}
 use mathlib.Core.List.{List}
 use lib.ListN.{length, drop}
@@ -12,9 +13,9 @@ use Rattle.scope_graph.specs.Rows.{OrderPair, Transition, RulesPass, language}
 use Rattle.scope_graph.specs.Graph.{Edge, Declaration, Query, OpenPair}
 use Rattle.scope_graph.specs.Path.{Distinct}
 use Rattle.scope_graph.specs.Listing.{Pairwise, Accepted}
-use Rattle.graph_file.specs.Format.{sectionAt, stateCount, markCount, turnCount, mostScopes, tableCells}
+use Rattle.graph_file.specs.Format.{hasTurns, sectionAt, stateCount, markCount, turnCount, mostScopes, tableCells}
 use Rattle.text_field.specs.Outcome.{done}
-use Rattle.graph_file.specs.File.{readCells, writeText}
+use Rattle.graph_file.specs.File.{readCells, formIn, writeText}
 use Rattle.graph_file.specs.Table.{rowsAt}
 use Rattle.graph_file.specs.Decode.{rowsIn, lettersOf, rulesOf, scopesOf, graphOf, opensOf, queriesOf, sectionPlace}
 
@@ -49,6 +50,8 @@ pub record AcceptedTable (cells : List ℕ) : Type 0 where
   pub states : (t : Transition) → t ∈ rulesOf cells .transitions → t .state < stateCount
   pub accepts : (s : ℕ) → s ∈ rulesOf cells .accept → s < stateCount
   pub turns : (e : Edge (language (rulesOf cells))) → e ∈ graphOf cells .edges → (n : ℕ) → e .step .turn ≡ some n → n < turnCount
+  -- where the edge line is the old one every turn is 0 (02, K12)
+  pub old-line : hasTurns (formIn cells) ≡ false → (e : Edge (language (rulesOf cells))) → e ∈ graphOf cells .edges → e .step .turn ≡ some 0
   pub marks : (d : Declaration (language (rulesOf cells))) → d ∈ graphOf cells .declarations → d .mark < markCount
   pub open-at : (o : OpenPair (language (rulesOf cells))) → o ∈ opensOf cells → o .at < scopesOf cells
   pub open-end : (o : OpenPair (language (rulesOf cells))) → o ∈ opensOf cells

@@ -14,13 +14,18 @@ use Rattle.text_field.specs.Number.{numberHere}
 use Rattle.text_field.specs.Outcome.{Outcome, refused, done, andThen, refuseIf}
 use Rattle.text_field.proofs.NumberLaws.{number-found}
 use Rattle.graph_file.specs.File.{readCells, madeOf}
+use Rattle.graph_file.specs.Decode.{lettersOf}
 use Rattle.graph_file.proofs.SectionLaws.{whole-long}
+use Rattle.path_rules.specs.Rules.{rulesOf}
+use Rattle.path_rules.specs.declared.Rules.{Rules}
+use Rattle.path_rules.proofs.Ends.{rules-long}
 use Rattle.path_row.specs.Form.{PathRow, rowHere}
 use Rattle.comparison.specs.Compare.{compareRows, compareAnswer}
 use Rattle.judge.specs.Judge.{judgeOf, judgeAnswer}
 use Rattle.conversion.specs.Conversion.{textOf, oldOf, newOf}
+use Rattle.ruled.specs.Ruled.{ruledText, textBy, ruledOf}
 use Rattle.printing.specs.Printed.{programText, outcomeText}
-use Rattle.gym.specs.Words.{Asked, list, old, new, judge, compare, usage, Word, alone, withTwo, queryAsked, judgeAsked, listWord, oldWord, newWord, judgeWord, compareWord, words, sameBytes, askedOf, asked}
+use Rattle.gym.specs.Words.{Asked, list, old, new, judge, compare, rules, usage, Word, alone, withOne, withTwo, queryAsked, judgeAsked, listWord, oldWord, newWord, judgeWord, compareWord, rulesWord, laterWords, words, sameBytes, askedOf, asked}
 use Rattle.gym.specs.Said.{Said, judgeLine, compareLine, answered, said}
 use Rattle.gym.specs.Handed.{arguments, handed}
 use Rattle.gym.specs.Promises.{wordBytes, inputBytes, wordsRead, ReadEnough}
@@ -51,12 +56,13 @@ module _ (input : List ℕ) where
       by (cut h e) = long (take inputBytes input) (omega arith) ∙ sym (long input (omega arith))
 
   pub input-enough : (x : Asked) → answered x (take inputBytes input) ≡ answered x input
-  unfolding answered programText oldOf newOf textOf judgeLine judgeAnswer compareLine compareAnswer
+  unfolding answered programText oldOf newOf textOf judgeLine judgeAnswer compareLine compareAnswer ruledOf
   input-enough list = rw input-read
   input-enough old = rw input-read
   input-enough new = rw input-read
   input-enough (judge i row) = rw input-read
   input-enough (compare a b) = rw input-read
+  input-enough (rules expression) = rw input-read
   input-enough usage = refl
 
 -- a row: past 256 bytes it is refused by 8
@@ -71,6 +77,23 @@ module _ (row : List ℕ) where
       by : Cut wordBytes row → rowHere (take wordBytes row) ≡ rowHere row
       by (whole e) = ap rowHere e
       by (cut h e) = row-long (take wordBytes row) (omega arith) ∙ sym (row-long row (omega arith))
+
+-- an expression: past 64 bytes it is refused by 12
+module _ (expression : List ℕ) where
+  expression-read : (labels : List ℕ) → rulesOf labels (take wordBytes expression) ≡ rulesOf labels expression
+  expression-read labels = by (cut-or-whole wordBytes expression)
+    where
+      by : Cut wordBytes expression → rulesOf labels (take wordBytes expression) ≡ rulesOf labels expression
+      by (whole e) = ap (rulesOf labels) e
+      by (cut h e) = sym (rules-long labels (take wordBytes expression) (omega arith)) ∙ rules-long labels expression (omega arith)
+
+  rules-read : (input : List ℕ) → ruledOf (take wordBytes expression) input ≡ ruledOf expression input
+  unfolding ruledOf textBy andThen
+  rules-read input = by (readCells input)
+    where
+      by : (o : Outcome (List ℕ)) → andThen o (textBy (take wordBytes expression)) ≡ andThen o (textBy expression)
+      by (refused n) = refl
+      by (done cells) = ap (λ (r : Rules). ruledText r cells) (expression-read (lettersOf cells))
 
 -- a query's number has five bytes at most
 query-long : (q row : List ℕ) → 5 < length q → queryAsked (numberHere q) q row ≡ usage
@@ -103,6 +126,10 @@ module _ (input : List ℕ) where
   unfolding answered compareLine compareAnswer compareRows
   compare-rows a b = rw (row-read a, row-read b)
 
+  rules-expression : (expression : List ℕ) → saying (rules (take wordBytes expression)) ≡ saying (rules expression)
+  unfolding answered
+  rules-expression expression = rw (rules-read expression input)
+
   query-row : (x : NumberRead) (q row : List ℕ) → saying (queryAsked x q (take wordBytes row)) ≡ saying (queryAsked x q row)
   unfolding queryAsked
   query-row NoNumber q row = refl
@@ -130,6 +157,13 @@ module _ (input : List ℕ) where
   alone-read x [] = refl
   alone-read x (a ∷ more) = refl
 
+  one-read : (x : List ℕ → Asked) → ((a : List ℕ) → saying (x (take wordBytes a)) ≡ saying (x a))
+      → (more : List (List ℕ)) → saying (withOne x (read more)) ≡ saying (withOne x more)
+  unfolding withOne arguments
+  one-read x e [] = refl
+  one-read x e (a ∷ []) = e a
+  one-read x e (a ∷ b ∷ more) = refl
+
   two-read : (x : List ℕ → List ℕ → Asked) → ((a b : List ℕ) → saying (x (take wordBytes a) (take wordBytes b)) ≡ saying (x a b))
       → (more : List (List ℕ)) → saying (withTwo x (read more)) ≡ saying (withTwo x more)
   unfolding withTwo arguments
@@ -154,13 +188,14 @@ module _ (input : List ℕ) where
         by false = rest
 
     words-enough : Enough words
-    unfolding words listWord oldWord newWord judgeWord compareWord askedOf
+    unfolding words listWord oldWord newWord judgeWord compareWord rulesWord laterWords askedOf
     words-enough =
-        one-more listWord (oldWord ∷ newWord ∷ judgeWord ∷ compareWord ∷ []) (omega arith) (alone-read list more)
-        (one-more oldWord (newWord ∷ judgeWord ∷ compareWord ∷ []) (omega arith) (alone-read old more)
-        (one-more newWord (judgeWord ∷ compareWord ∷ []) (omega arith) (alone-read new more)
-        (one-more judgeWord (compareWord ∷ []) (omega arith) (two-read judgeAsked query-read more)
-        (one-more compareWord [] (omega arith) (two-read compare compare-rows more) refl))))
+        one-more listWord (oldWord ∷ newWord ∷ judgeWord ∷ compareWord ∷ laterWords) (omega arith) (alone-read list more)
+        (one-more oldWord (newWord ∷ judgeWord ∷ compareWord ∷ laterWords) (omega arith) (alone-read old more)
+        (one-more newWord (judgeWord ∷ compareWord ∷ laterWords) (omega arith) (alone-read new more)
+        (one-more judgeWord (compareWord ∷ laterWords) (omega arith) (two-read judgeAsked query-read more)
+        (one-more compareWord laterWords (omega arith) (two-read compare compare-rows more)
+        (one-more rulesWord [] (omega arith) (one-read rules rules-expression more) refl)))))
 
   words-read : (given : List (List ℕ)) → saying (asked (wordsRead given)) ≡ saying (asked given)
   unfolding asked wordsRead handed

@@ -29,7 +29,7 @@ use Rattle.judge.specs.Judge.{judgeAnswer}
 use Rattle.gym.specs.declared.words.Reply.{Reply}
 use Rattle.gym.specs.declared.words.Command.{Command}
 use Rattle.gym.specs.declared.replies.Stream.{Stream}
-use Rattle.gym.specs.Words.{Asked, listWord, oldWord, newWord, judgeWord, compareWord, words, asked}
+use Rattle.gym.specs.Words.{Asked, listWord, oldWord, newWord, judgeWord, compareWord, rulesWord, laterWords, words, asked}
 use Rattle.gym.specs.Said.{Said, spoken, replyRoom, lineOf, standingName, comparisonName, judgeLine, compareLine, usageHead, usageLine, usageText, answered, said}
 use Rattle.gym.specs.Handed.{Replied, replyMeaning, meaning}
 
@@ -86,7 +86,7 @@ comparison-short second = omega arith
 comparison-short neither = omega arith
 
 pub usage-replied : (lent left : List ℕ) (size : ℕ) → _≡_ {A = Buf} (left, size) (puts (lent, 0) usageText) → Replied lent left size usageText
-unfolding usageText usageHead flatMap words usageLine listWord oldWord newWord judgeWord compareWord
+unfolding usageText usageHead flatMap words usageLine listWord oldWord newWord judgeWord compareWord rulesWord laterWords
 usage-replied lent left size h = record { written = h; fits = omega arith }
 
 -- a reply by what was computed for it

@@ -11,7 +11,7 @@ use Rattle.text_field.specs.declared.NumberRead.{NumberRead}
 use Rattle.text_field.specs.declared.NumberRead.the-variants.{Number, NoNumber}
 use Rattle.text_field.specs.Number.{numberHere, numberPlaced}
 use Rattle.text_field.proofs.Steps.{drop-next, drop-end}
-use Rattle.gym.specs.Words.{Asked, list, old, new, judge, compare, usage, Word, alone, withTwo, queryAsked, judgeAsked, listWord, oldWord, newWord, judgeWord, compareWord, words, sameBytes, askedOf, asked}
+use Rattle.gym.specs.Words.{Asked, list, old, new, judge, compare, rules, usage, Word, alone, withOne, withTwo, queryAsked, judgeAsked, listWord, oldWord, newWord, judgeWord, compareWord, rulesWord, laterWords, words, sameBytes, askedOf, asked}
 use Rattle.gym.specs.Handed.{arguments, handed}
 
 -- two texts byte by byte, from place i on
@@ -48,6 +48,10 @@ module _ (count : ℕ) (a b : List ℕ) where
   unfolding alone arguments
   alone-none x e = rw e
 
+  pub one-one : (x : List ℕ → Asked) → count ≡ 1 → x a ≡ withOne x (arguments count a b)
+  unfolding withOne arguments
+  one-one x e = rw e
+
   pub two-two : (x : List ℕ → List ℕ → Asked) → count ≡ 2 → x a b ≡ withTwo x (arguments count a b)
   unfolding withTwo arguments
   two-two x e = rw e
@@ -56,6 +60,12 @@ pub alone-some : (count : ℕ) (a b : List ℕ) (x : Asked) → (count ≡ 0 →
 unfolding alone arguments
 alone-some zero a b x e = absurd (e refl)
 alone-some (suc n) a b x e = refl
+
+pub one-not : (count : ℕ) (a b : List ℕ) (x : List ℕ → Asked) → (count ≡ 1 → ⊥) → usage ≡ withOne x (arguments count a b)
+unfolding withOne arguments
+one-not zero a b x e = refl
+one-not (suc zero) a b x e = absurd (e refl)
+one-not (suc (suc n)) a b x e = refl
 
 pub two-not : (count : ℕ) (a b : List ℕ) (x : List ℕ → List ℕ → Asked) → (count ≡ 2 → ⊥) → usage ≡ withTwo x (arguments count a b)
 unfolding withTwo arguments
@@ -135,7 +145,7 @@ module _ (count : ℕ) (name a b : List ℕ) where
     as-list e = begun ∙ named listWord _ name more e
 
     module _ (f : false ≡ sameBytes name (listWord .name)) where
-      past-list : asked all ≡ askedOf (oldWord ∷ newWord ∷ judgeWord ∷ compareWord ∷ []) name more
+      past-list : asked all ≡ askedOf (oldWord ∷ newWord ∷ judgeWord ∷ compareWord ∷ laterWords) name more
       unfolding words
       past-list = begun ∙ passed listWord _ name more f
 
@@ -144,7 +154,7 @@ module _ (count : ℕ) (name a b : List ℕ) where
       as-old e = past-list ∙ named oldWord _ name more e
 
       module _ (g : false ≡ sameBytes name (oldWord .name)) where
-        past-old : asked all ≡ askedOf (newWord ∷ judgeWord ∷ compareWord ∷ []) name more
+        past-old : asked all ≡ askedOf (newWord ∷ judgeWord ∷ compareWord ∷ laterWords) name more
         past-old = past-list ∙ passed oldWord _ name more g
 
         pub as-new : true ≡ sameBytes name (newWord .name) → asked all ≡ alone new more
@@ -152,7 +162,7 @@ module _ (count : ℕ) (name a b : List ℕ) where
         as-new e = past-old ∙ named newWord _ name more e
 
         module _ (h : false ≡ sameBytes name (newWord .name)) where
-          past-new : asked all ≡ askedOf (judgeWord ∷ compareWord ∷ []) name more
+          past-new : asked all ≡ askedOf (judgeWord ∷ compareWord ∷ laterWords) name more
           past-new = past-old ∙ passed newWord _ name more h
 
           pub as-judge : true ≡ sameBytes name (judgeWord .name) → asked all ≡ withTwo judgeAsked more
@@ -160,13 +170,22 @@ module _ (count : ℕ) (name a b : List ℕ) where
           as-judge e = past-new ∙ named judgeWord _ name more e
 
           module _ (i : false ≡ sameBytes name (judgeWord .name)) where
-            past-judge : asked all ≡ askedOf (compareWord ∷ []) name more
+            past-judge : asked all ≡ askedOf (compareWord ∷ laterWords) name more
             past-judge = past-new ∙ passed judgeWord _ name more i
 
             pub as-compare : true ≡ sameBytes name (compareWord .name) → asked all ≡ withTwo compare more
             unfolding compareWord
             as-compare e = past-judge ∙ named compareWord _ name more e
 
-            pub as-unknown : false ≡ sameBytes name (compareWord .name) → asked all ≡ usage
-            unfolding askedOf
-            as-unknown j = past-judge ∙ passed compareWord [] name more j
+            pub as-later : false ≡ sameBytes name (compareWord .name) → asked all ≡ askedOf laterWords name more
+            as-later j = past-judge ∙ passed compareWord laterWords name more j
+
+-- the later words
+module _ (name : List ℕ) (more : List (List ℕ)) where
+  pub as-rules : true ≡ sameBytes name (rulesWord .name) → askedOf laterWords name more ≡ withOne rules more
+  unfolding laterWords rulesWord
+  as-rules e = named rulesWord [] name more e
+
+  pub as-unknown : false ≡ sameBytes name (rulesWord .name) → askedOf laterWords name more ≡ usage
+  unfolding laterWords askedOf
+  as-unknown e = passed rulesWord [] name more e

@@ -9,10 +9,10 @@ use Rattle.text_field.specs.Buffer.{Buf, puts}
 use Rattle.gym.specs.declared.replies.Stream.{Stream}
 use Rattle.gym.specs.declared.replies.Stream.the-variants.{Out, Err}
 use Rattle.gym.specs.declared.words.Reply.{Reply}
-use Rattle.gym.specs.declared.words.Reply.the-variants.{Old, New, Judge, Compare, Usage}
+use Rattle.gym.specs.declared.words.Reply.the-variants.{Old, New, Judge, Compare, Rules, Usage}
 use Rattle.gym.specs.declared.words.Command.{Command}
 use Rattle.gym.specs.declared.words.Command.the-variants.{Listings, One}
-use Rattle.gym.specs.Words.{Asked, list, old, new, judge, compare, usage}
+use Rattle.gym.specs.Words.{Asked, list, old, new, judge, compare, rules, usage}
 use Rattle.gym.specs.Said.{replyRoom}
 
 -- so many arguments, the first two given. No word has more, so of three or more only their number
@@ -31,6 +31,7 @@ replyMeaning Old a b = old
 replyMeaning New a b = new
 replyMeaning (Judge i) a b = judge i b
 replyMeaning Compare a b = compare a b
+replyMeaning Rules a b = rules a
 replyMeaning Usage a b = usage
 
 unfoldable pub meaning : Command → List ℕ → List ℕ → Asked

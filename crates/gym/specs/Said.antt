@@ -8,10 +8,11 @@ use Rattle.path_row.specs.Form.{mostSteps}
 use Rattle.comparison.specs.Compare.{Comparison, first, second, neither, compareAnswer}
 use Rattle.judge.specs.Judge.{judgeAnswer}
 use Rattle.conversion.specs.Conversion.{oldOf, newOf}
+use Rattle.ruled.specs.Ruled.{ruledOf}
 use Rattle.printing.specs.Printed.{inPlace, programText}
 use Rattle.gym.specs.declared.replies.Stream.{Stream}
 use Rattle.gym.specs.declared.replies.Stream.the-variants.{Out, Err}
-use Rattle.gym.specs.Words.{Asked, list, old, new, judge, compare, usage, Word, words, asked}
+use Rattle.gym.specs.Words.{Asked, list, old, new, judge, compare, rules, usage, Word, words, asked}
 
 -- the text, and the stream that gets it; the other one gets nothing
 pub record Said : Type 0 where
@@ -74,6 +75,7 @@ answered old text = replied (oldOf text)
 answered new text = replied (newOf text)
 answered (judge i row) text = replied (judgeLine text i row)
 answered (compare a b) text = replied (compareLine text a b)
+answered (rules expression) text = replied (ruledOf expression text)
 answered usage text = spoken Err usageText
 
 -- What the program says for a list of words, its own name left off, and an input.

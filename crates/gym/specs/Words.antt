@@ -15,12 +15,19 @@ pub data Asked : Type 0 where
   new : Asked
   judge : ℕ → List ℕ → Asked
   compare : List ℕ → List ℕ → Asked
+  rules : List ℕ → Asked
   usage : Asked
 
 -- a word without arguments
 unfoldable pub alone : Asked → List (List ℕ) → Asked
 alone x [] = x
 alone x (a ∷ more) = usage
+
+-- a word with one argument
+unfoldable pub withOne : (List ℕ → Asked) → List (List ℕ) → Asked
+withOne x [] = usage
+withOne x (a ∷ []) = x a
+withOne x (a ∷ b ∷ more) = usage
 
 -- a word with two arguments
 unfoldable pub withTwo : (List ℕ → List ℕ → Asked) → List (List ℕ) → Asked
@@ -64,9 +71,21 @@ unfoldable pub compareWord : Word
 compareWord =
     record { name = 99 ∷ 111 ∷ 109 ∷ 112 ∷ 97 ∷ 114 ∷ 101 ∷ []; shown = 32 ∷ 82 ∷ 79 ∷ 87 ∷ 32 ∷ 82 ∷ 79 ∷ 87 ∷ []; asks = withTwo compare }
 
--- all words; a new one is added here
+-- `rules`, ` EXPRESSION`: the file with other path rules (02, K6)
+unfoldable pub rulesWord : Word
+rulesWord =
+    record {
+      name = 114 ∷ 117 ∷ 108 ∷ 101 ∷ 115 ∷ [];
+      shown = 32 ∷ 69 ∷ 88 ∷ 80 ∷ 82 ∷ 69 ∷ 83 ∷ 83 ∷ 73 ∷ 79 ∷ 78 ∷ [];
+      asks = withOne rules;
+    }
+
+-- all words; a new one is added to the later ones
+unfoldable pub laterWords : List Word
+laterWords = rulesWord ∷ []
+
 unfoldable pub words : List Word
-words = listWord ∷ oldWord ∷ newWord ∷ judgeWord ∷ compareWord ∷ []
+words = listWord ∷ oldWord ∷ newWord ∷ judgeWord ∷ compareWord ∷ laterWords
 
 -- are two texts the same?
 unfoldable pub sameBytes : List ℕ → List ℕ → Bool

@@ -24,7 +24,7 @@ ghost use Rattle.gym.specs.Said.{spoken, answered, said};
 ghost use Rattle.gym.specs.Handed.{handed, replyMeaning, descriptor as descriptorOf};
 
 // What is read of a word: one byte more than a path row may have. What is longer is no word, no
-// number and no row.
+// number, no row and no expression.
 const WORD: usize = 257;
 
 // The descriptor of a stream.

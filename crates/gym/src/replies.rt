@@ -9,12 +9,14 @@ use judge::judge_text;
 use path_row::form::MOST_STEPS;
 use printing::put_answer;
 use printing::put_refused;
+use ruled::rules;
 use text_field::put_bytes;
 ghost use mathlib.Core.Path.{_≡_};
 ghost use lib.ListN.{length};
 ghost use Rattle.comparison.specs.Compare.{meaning as compared};
 ghost use Rattle.judge.specs.Judge.{meaning as judged};
 ghost use Rattle.conversion.specs.Conversion.{oldOf, newOf};
+ghost use Rattle.ruled.specs.Ruled.{ruledOf};
 ghost use Rattle.printing.specs.Printed.{inPlace};
 ghost use Rattle.gym.specs.Said.{replyRoom, lineOf, standingName, comparisonName, judgeLine, compareLine, usageText, answered};
 ghost use Rattle.gym.specs.Handed.{replyMeaning, Replied};
@@ -43,7 +45,7 @@ fn put_old<'s, 'o>(text: &'s [u8], out: &'o mut [u8]) -> usize
     put_answer(out, a)
 }
 
-// The file in the form with kinds, or its refusal.
+// The file in a form with kinds, one with turns as it is, or its refusal.
 fn put_new<'s, 'o>(text: &'s [u8], out: &'o mut [u8]) -> usize
     requires room { ⌜ length (now out) ≡ replyRoom ⌝ }
     ensures written { λ r. ⌜ Replied (now (out .entry)) (now (out .exit)) r (inPlace replyRoom (newOf (now (text .entry)))) ⌝ }
@@ -92,6 +94,15 @@ fn put_compared<'s, 'o>(text: &'s [u8], a: &'s [u8], b: &'s [u8], out: &'o mut [
     put_comparison(out, c)
 }
 
+// The file with the path rules of an expression, or its refusal.
+fn put_rules<'s, 'o>(text: &'s [u8], expression: &'s [u8], out: &'o mut [u8]) -> usize
+    requires room { ⌜ length (now out) ≡ replyRoom ⌝ }
+    ensures written { λ r. ⌜ Replied (now (out .entry)) (now (out .exit)) r (inPlace replyRoom (ruledOf (now (expression .entry)) (now (text .entry)))) ⌝ }
+{
+    let a = rules(text, expression, out);
+    put_answer(out, a)
+}
+
 // The usage text: its first line, and one for each word.
 fn put_usage(out: &mut [u8]) -> usize
     ensures written { λ r. ⌜ Replied (now (out .entry)) (now (out .exit)) r usageText ⌝ }
@@ -99,7 +110,7 @@ fn put_usage(out: &mut [u8]) -> usize
     put_bytes(
         out,
         0,
-        b"usage: gym WORD [ARGUMENT..] < FILE\n  list\n  old\n  new\n  judge QUERY ROW\n  compare ROW ROW\n",
+        b"usage: gym WORD [ARGUMENT..] < FILE\n  list\n  old\n  new\n  judge QUERY ROW\n  compare ROW ROW\n  rules EXPRESSION\n",
     )
 }
 
@@ -140,6 +151,13 @@ pub fn put_reply<'s, 'o>(
         }
         Reply::Compare => {
             let size = put_compared(text, first, second, out);
+            Put {
+                on: Stream::Out,
+                size,
+            }
+        }
+        Reply::Rules => {
+            let size = put_rules(text, first, out);
             Put {
                 on: Stream::Out,
                 size,

@@ -4,16 +4,17 @@ use text_field::read_number;
 ghost use mathlib.Core.Path.{_≡_};
 ghost use mathlib.Core.List.{List};
 ghost use Prim.Native.Nat.{ℕ};
-ghost use Rattle.gym.specs.Words.{alone as aloneAsked, withTwo, judgeAsked, sameBytes, asked};
+ghost use Rattle.gym.specs.Words.{alone as aloneAsked, withOne, withTwo, judgeAsked, laterWords, sameBytes, askedOf, asked};
 ghost use Rattle.gym.specs.Handed.{arguments, handed, meaning};
 
-// What is answered by one text. `Judge` holds the query's number; rows stay where they are, the
-// judged one in the second argument.
+// What is answered by one text. `Judge` holds the query's number; rows and the expression stay
+// where they are, the judged row in the second argument.
 pub enum Reply {
     Old,
     New,
     Judge(usize),
     Compare,
+    Rules,
     Usage,
 }
 
@@ -49,6 +50,16 @@ fn alone(count: usize, c: Command) -> Command
     c
 }
 
+// A word with one argument, given so many.
+fn with_one(count: usize, c: Command) -> Command
+    ensures answer { λ r. ⌜ ((a b : List ℕ) → meaning r a b ≡ withOne (λ x. meaning c x b) (arguments count a b)) ⌝ }
+{
+    if count != 1 {
+        return Command::One(Reply::Usage);
+    }
+    c
+}
+
 // A word with two arguments, given so many.
 fn with_two(count: usize, c: Command) -> Command
     ensures answer { λ r. ⌜ ((a b : List ℕ) → meaning r a b ≡ withTwo (meaning c) (arguments count a b)) ⌝ }
@@ -72,8 +83,17 @@ fn judge_asked(first: &[u8]) -> Command
     Command::One(Reply::Judge(i as usize))
 }
 
-// What so many words ask for, of which the name and the first argument are given. A new word gets
-// its line here.
+// What a word behind `compare` asks for, given so many arguments. A new word gets its line here.
+fn later_command(count: usize, name: &[u8]) -> Command
+    ensures answer { λ r. ⌜ ((a b : List ℕ) → meaning r a b ≡ askedOf laterWords (now (name .entry)) (arguments count a b)) ⌝ }
+{
+    if is_same(name, b"rules") {
+        return with_one(count, Command::One(Reply::Rules));
+    }
+    Command::One(Reply::Usage)
+}
+
+// What so many words ask for, of which the name and the first argument are given.
 pub fn command_of(count: usize, name: &[u8], first: &[u8]) -> Command
     ensures answer { λ r. ⌜ ((b : List ℕ) → meaning r (now (first .entry)) b ≡ asked (handed count (now (name .entry)) (now (first .entry)) b)) ⌝ }
 {
@@ -95,5 +115,5 @@ pub fn command_of(count: usize, name: &[u8], first: &[u8]) -> Command
     if is_same(name, b"compare") {
         return with_two(count - 1, Command::One(Reply::Compare));
     }
-    Command::One(Reply::Usage)
+    later_command(count - 1, name)
 }

@@ -1,14 +1,17 @@
--- Every refusal of every call has a number of document 01's list or is the call's own, so it is
+-- Every refusal of every call has a number of document 01's list or one of the call's own, so it is
 -- below 64 and the number of an answer tells it. Assumes nothing.
 use Prim.Native.Nat.{ℕ, zero, suc, _+_, _-_, _*_, _/_, _%_, _≤_, _<_}
-use mathlib.Core.Path.{_≡_, refl, sym, ap, _∙_}
-use mathlib.Core.List.{List, [], _∷_, map}
+use mathlib.Core.Path.{_≡_, refl, sym, ap, subst, _∙_}
+use mathlib.Core.Logic.{⊎-elim}
+use mathlib.Core.List.{List, [], _∷_, map, List·Memᴰ·cases-cons, List·Memᴰ·eq-of-singleton}
 use mathlib.Core.Bool.{Bool, true, false, not}
 use native.Mathlib.Omega.{arith}
 use borrow.Author.Tests.{lt-ltb, le-ltb}
 use lib.Dec.{eqb, ltb, leb}
 use lib.ListN.{length, drop}
 use lib.Seq.{sets}
+use Rattle.scope_graph.specs.Language.{_∈_}
+use Rattle.scope_graph.proofs.Lists.{here, there}
 use Rattle.text_field.specs.declared.NumberRead.{NumberRead}
 use Rattle.text_field.specs.declared.NumberRead.the-variants.{Number, NoNumber}
 use Rattle.text_field.specs.declared.NameRead.{NameRead}
@@ -29,6 +32,8 @@ use Rattle.comparison.specs.Compare.{Comparison, compareRows, compareAnswer}
 use Rattle.resolution.specs.Listing.{listingOf, listingFor, summaryFor}
 use Rattle.judge.specs.Judge.{judgeOf, judgeAnswer}
 use Rattle.conversion.specs.Conversion.{unshown, oldText, newText, textIn, textOf, oldOf, newOf}
+use Rattle.ruled.specs.Ruled.{ruledOf}
+use Rattle.ruled.proofs.Refusing.{refusals}
 use Rattle.host.specs.Numbers.{told, amountNumber, caseNumber, noSteps, written, comparisonCase, compared, standingCase, judged}
 use Rattle.host.specs.Listed.{lastRefusal, Listed, listed, carried, ListedWith, its-own, as-others, heard, amountIn, caseIn, numbered, Output, OutputWith, Cases, Numbers}
 
@@ -204,14 +209,37 @@ new-listed : (text : List ℕ) → Listed (newOf text)
 unfolding newOf textOf textIn newText
 new-listed text = then-listed (readCells text) _ (read-listed text) (λ cells. write-listed _)
 
-old-listed : (o : Outcome (List ℕ)) (room : ℕ) → Listed o → ListedWith 14 (answer (andThen o oldText) room)
+old-listed : (o : Outcome (List ℕ)) (room : ℕ) → Listed o → ListedWith (14 ∷ []) (answer (andThen o oldText) room)
 unfolding andThen oldText refuseIf answer
 old-listed _ room (listed n low high) = as-others _ (listed n low high)
 old-listed _ room (carried cells) = by-test (unshown cells)
   where
-    by-test : (b : Bool) → ListedWith 14 (answer (refuseIf b 14 (writeText (inForm oldForm cells))) room)
-    by-test true = its-own
+    by-test : (b : Bool) → ListedWith (14 ∷ []) (answer (refuseIf b 14 (writeText (inForm oldForm cells))) room)
+    by-test true = its-own 14 here
     by-test false = as-others _ (answer-listed (writeText (inForm oldForm cells)) room (write-listed (inForm oldForm cells)))
+
+-- a file with the rules of an expression
+module _ (text expression : List ℕ) (room : ℕ) where
+  abbrev Own : Outcome ℕ → Type 0
+  Own o = ListedWith (12 ∷ 13 ∷ []) o
+
+  answered : (cells : List ℕ) → readCells text ≡ done cells → (o : Outcome ℕ) → answer (ruledOf expression text) room ≡ o → Own o
+  answered cells read (done n) e = as-others (done n) (carried n)
+  answered cells read (refused n) e =
+      ⊎-elim (λ (y : n ≡ 12). its-own n (subst (λ m. m ∈ (12 ∷ 13 ∷ [])) (sym y) here))
+      (λ more.
+      ⊎-elim (λ (y : n ≡ 13). its-own n (subst (λ m. m ∈ (12 ∷ 13 ∷ [])) (sym y) (there here)))
+      (λ nine. let y : n ≡ 9 = nine .0 in as-others (refused n) (listed n (omega arith) (omega arith)))
+      more)
+      (refusals .others expression text cells read room n e)
+
+  rules-listed : Own (answer (ruledOf expression text) room)
+  unfolding answer andThen
+  rules-listed = by (readCells text) refl (read-listed text)
+    where
+      by : (o : Outcome (List ℕ)) → readCells text ≡ o → Listed o → Own (answer (ruledOf expression text) room)
+      by _ read (listed n low high) = rw (refusals .reading expression text n read) (as-others (refused n) (listed n low high))
+      by _ read (carried cells) = answered cells read (answer (ruledOf expression text) room) refl
 
 -- path rows
 start-listed : (m before : ℕ) (r : NumberRead) → Listed (startBy m before r)
@@ -275,10 +303,18 @@ unfolding told written amountNumber
 output _ (listed n low high) = (listed n low high, heard-low amountIn n high)
 output _ (carried a) = (carried a, heard-high amountIn (amountNumber a) (omega arith) ∙ ap done (amount-in a))
 
-output-with : (own : ℕ) (o : Outcome ℕ) → own < 64 → ListedWith own o → OutputWith own o
+output-with : (own : List ℕ) (o : Outcome ℕ) → ((n : ℕ) → n ∈ own → n < 64) → ListedWith own o → OutputWith own o
 unfolding told written heard
-output-with own _ h its-own = (its-own, rw (lt-ltb own 64 h, heard))
-output-with own o h (as-others _ l) = (as-others o l, output o l .1)
+output-with own _ low (its-own n m) = (its-own n m, rw (lt-ltb n 64 (low n m), heard))
+output-with own o low (as-others _ l) = (as-others o l, output o l .1)
+
+-- K6's and K9's numbers are below 64
+fourteen-low : (n : ℕ) → n ∈ (14 ∷ []) → n < 64
+fourteen-low n m = let y : n ≡ 14 = List·Memᴰ·eq-of-singleton m in omega arith
+
+rules-low : (n : ℕ) → n ∈ (12 ∷ 13 ∷ []) → n < 64
+rules-low n m =
+    ⊎-elim (λ (y : n ≡ 12). omega arith) (λ k. let y : n ≡ 13 = List·Memᴰ·eq-of-singleton k in omega arith) (List·Memᴰ·cases-cons m)
 
 cases : {A : Type 0} (case : A → ℕ) (o : Outcome A) → Listed o → Cases case (told (λ a. caseNumber (case a) noSteps)) o
 unfolding told numbered caseNumber noSteps
@@ -295,6 +331,7 @@ numbers = record {
   summary = λ text room. output (answer (summaryFor text) room) (answer-listed (summaryFor text) room (summary-listed text));
   judge = λ text query row room. cases standingCase (judgeAnswer text query row room) (judge-listed text query row room);
   compare = λ text a b n m. cases comparisonCase (compareAnswer text a b n m) (compare-listed text a b n m);
-  toOld = λ text room. output-with 14 (answer (oldOf text) room) (omega arith) (old-listed (readCells text) room (read-listed text));
+  toOld = λ text room. output-with (14 ∷ []) (answer (oldOf text) room) fourteen-low (old-listed (readCells text) room (read-listed text));
   toNew = λ text room. output (answer (newOf text) room) (answer-listed (newOf text) room (new-listed text));
+  rules = λ text expression room. output-with (12 ∷ 13 ∷ []) (answer (ruledOf expression text) room) rules-low (rules-listed text expression room);
 }

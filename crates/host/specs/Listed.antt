@@ -1,11 +1,12 @@
--- That the number of an answer tells it: every refusal is one of document 01's numbers, or the one
+-- That the number of an answer tells it: every refusal is one of document 01's numbers, or one
 -- that document 02 gives the call; these are below 64, so no other answer has the same one. The
 -- value is in proofs/Listed.antt. Assumes nothing: these are statements.
 use Prim.Native.Nat.{ℕ, _≤_, _-_, _/_, _%_}
 use mathlib.Core.Path.{_≡_}
-use mathlib.Core.List.{List}
+use mathlib.Core.List.{List, [], _∷_}
 use mathlib.Core.Bool.{Bool, true, false}
 use lib.Dec.{ltb}
+use Rattle.scope_graph.specs.Language.{_∈_}
 use Rattle.text_field.specs.Outcome.{Outcome, refused, done}
 use Rattle.graph_file.specs.File.{readCells, writeText}
 use Rattle.text_field.specs.Answer.{answer}
@@ -13,6 +14,7 @@ use Rattle.comparison.specs.Compare.{Comparison, compareAnswer}
 use Rattle.resolution.specs.Listing.{listingFor, summaryFor}
 use Rattle.judge.specs.Judge.{judgeAnswer}
 use Rattle.conversion.specs.Conversion.{oldOf, newOf}
+use Rattle.ruled.specs.Ruled.{ruledOf}
 use Rattle.host.specs.Numbers.{noSteps, written, comparisonCase, compared, standingCase, judged}
 
 -- the greatest number of document 01's list ("Who can cause a refusal")
@@ -24,9 +26,9 @@ pub data Listed {A : Type 0} : Outcome A → Type 0 where
   listed : (n : ℕ) → 1 ≤ n → n ≤ lastRefusal → Listed (refused n)
   carried : (a : A) → Listed (done a)
 
--- the same of a call that has one refusal of its own
-pub data ListedWith {A : Type 0} (own : ℕ) : Outcome A → Type 0 where
-  its-own : ListedWith own (refused own)
+-- the same of a call that has refusals of its own
+pub data ListedWith {A : Type 0} (own : List ℕ) : Outcome A → Type 0 where
+  its-own : (n : ℕ) → n ∈ own → ListedWith own (refused n)
   as-others : (o : Outcome A) → Listed o → ListedWith own o
 
 -- What a number tells: below 64 a refusal, else what is taken out of it.
@@ -50,15 +52,16 @@ numbered case (done a) = done (case a, noSteps)
 abbrev pub Output : Outcome ℕ → Type 0
 Output o = Listed o × (heard amountIn (written o) ≡ o)
 
--- an output of the list, or refused by the call's own number, whose number tells it
-abbrev pub OutputWith : ℕ → Outcome ℕ → Type 0
+-- an output of the list, or refused by one of the call's own numbers, whose number tells it
+abbrev pub OutputWith : List ℕ → Outcome ℕ → Type 0
 OutputWith own o = ListedWith own o × (heard amountIn (written o) ≡ o)
 
 -- an answer by cases, of the list, whose number tells it
 abbrev pub Cases : {A : Type 0} → (A → ℕ) → (Outcome A → ℕ) → Outcome A → Type 0
 Cases case number o = Listed o × (heard caseIn (number o) ≡ numbered case o)
 
--- every call, with any input and any room; 14 is what K9 gives the way to the old form
+-- Every call, with any input and any room. 14 is what K9 gives the way to the old form; 12 and 13
+-- are K6's.
 pub record Numbers : Type 0 where
   pub read : (text : List ℕ) (room : ℕ) → Output (answer (readCells text) room)
   pub write : (cells : List ℕ) (room : ℕ) → Output (answer (writeText cells) room)
@@ -66,5 +69,6 @@ pub record Numbers : Type 0 where
   pub summary : (text : List ℕ) (room : ℕ) → Output (answer (summaryFor text) room)
   pub judge : (text : List ℕ) (query : ℕ) (row : List ℕ) (room : ℕ) → Cases standingCase judged (judgeAnswer text query row room)
   pub compare : (text a b : List ℕ) (n m : ℕ) → Cases comparisonCase compared (compareAnswer text a b n m)
-  pub toOld : (text : List ℕ) (room : ℕ) → OutputWith 14 (answer (oldOf text) room)
+  pub toOld : (text : List ℕ) (room : ℕ) → OutputWith (14 ∷ []) (answer (oldOf text) room)
   pub toNew : (text : List ℕ) (room : ℕ) → Output (answer (newOf text) room)
+  pub rules : (text expression : List ℕ) (room : ℕ) → OutputWith (12 ∷ 13 ∷ []) (answer (ruledOf expression text) room)

@@ -15,6 +15,7 @@ use judge::judge;
 use path_row::form::Step;
 use resolution::listing;
 use resolution::summary;
+use ruled::rules;
 ghost use mathlib.Core.Path.{_≡_};
 ghost use lib.ListN.{length};
 ghost use Rattle.graph_file.specs.File.{readCells, writeText};
@@ -25,6 +26,7 @@ ghost use Rattle.comparison.specs.Compare.{compareAnswer};
 ghost use Rattle.resolution.specs.Listing.{listingFor, summaryFor};
 ghost use Rattle.judge.specs.Judge.{judgeAnswer};
 ghost use Rattle.conversion.specs.Conversion.{oldOf, newOf};
+ghost use Rattle.ruled.specs.Ruled.{ruledOf};
 ghost use Rattle.host.specs.Numbers.{written, compared, judged, placeLeft};
 
 // A gym file's text read into the lent table.
@@ -132,11 +134,20 @@ pub extern "C" fn tewhoranu_to_old(text: &[u8], out: &mut [u8]) -> u64
     written_number(to_old(text, out))
 }
 
-// A gym file's text in the form with kinds, written into the lent buffer.
+// A gym file's text in a form with kinds, one with turns as it is, written into the lent buffer.
 #[no_mangle]
 pub extern "C" fn tewhoranu_to_new(text: &[u8], out: &mut [u8]) -> u64
     ensures answer { λ r. ⌜ r ≡ written (answer (newOf (now (text .entry))) (length (now (out .entry)))) ⌝ }
     ensures memory { λ _. ⌜ now (out .exit) ≡ leaves (newOf (now (text .entry))) (now (out .entry)) ⌝ }
 {
     written_number(to_new(text, out))
+}
+
+// A gym file's text with the path rules of an expression in place of its own, written into the lent buffer.
+#[no_mangle]
+pub extern "C" fn tewhoranu_rules(text: &[u8], expression: &[u8], out: &mut [u8]) -> u64
+    ensures answer { λ r. ⌜ r ≡ written (answer (ruledOf (now (expression .entry)) (now (text .entry))) (length (now (out .entry)))) ⌝ }
+    ensures memory { λ _. ⌜ now (out .exit) ≡ leaves (ruledOf (now (expression .entry)) (now (text .entry))) (now (out .entry)) ⌝ }
+{
+    written_number(rules(text, expression, out))
 }

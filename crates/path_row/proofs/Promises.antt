@@ -2,7 +2,8 @@
 use Prim.Native.Nat.{ℕ, _≤_, _<_}
 use mathlib.Core.Path.{_≡_, refl, ap, _∙_}
 use mathlib.Core.Bool.{false, or-false}
-use mathlib.Core.Option.{none}
+use mathlib.Core.Logic.{_↔_}
+use mathlib.Core.Option.{some, none}
 use mathlib.Core.List.{List, [], _∷_}
 use native.Mathlib.Omega.{arith}
 use lib.ListN.{length}
@@ -10,23 +11,23 @@ use Rattle.graph_file.specs.Decode.{lettersOf, rulesOf, graphOf}
 use Rattle.graph_file.specs.Accepted.{AcceptedTable}
 use Rattle.graph_file.proofs.DecodeAccepted.{read-accepted}
 use Rattle.scope_graph.specs.Language.{_∈_, End, by, Language}
-use Rattle.scope_graph.specs.Graph.{InRange, Query}
+use Rattle.scope_graph.specs.Graph.{Edge, InRange, Query}
 use Rattle.scope_graph.specs.Turns.{Turned, labelEnd}
 use Rattle.scope_graph.specs.Rows.{language}
 use Rattle.scope_graph.specs.Computed.{hopsAt}
 use Rattle.scope_graph.proofs.Lists.{not-true}
 use Rattle.scope_graph.proofs.Rows.{preferredBy-row}
-use Rattle.scope_graph.proofs.Nodes.{hopsAt-elim}
+use Rattle.scope_graph.proofs.Nodes.{hopsAt-elim, hopsAt-intro}
 use Rattle.path_row.specs.declared.form.Step.{Step}
 use Rattle.path_row.specs.Form.{behindFront, firstStep}
 use Rattle.path_row.specs.Inverse.{lettersIn, scopesIn}
 use Rattle.path_row.specs.Numbering.{labelNumber, hopOf, hopIn, pathOf}
-use Rattle.path_row.specs.Promises.{FirstSteps, Numbers, LettersNumbered, TurnsLookedUp, FilledIs}
+use Rattle.path_row.specs.Promises.{FirstSteps, Numbers, LettersNumbered, TurnsLookedUp, TurnOfRow, FilledIs}
 use Rattle.path_row.proofs.FormLaws.{head-found}
 use Rattle.path_row.proofs.RowReads.{steps-first}
 use Rattle.path_row.proofs.LentLaws.{filled-part}
 use Rattle.path_row.proofs.NumberingLaws.{number-tells, number-beyond, number-within}
-use Rattle.path_row.proofs.TurnLaws.{turn-none, never-later, never-earlier}
+use Rattle.path_row.proofs.TurnLaws.{turn-none, turn-is, turn-found, never-later, never-earlier}
 
 pub first-step : FirstSteps
 unfolding firstStep behindFront
@@ -87,6 +88,19 @@ module _ (cells : List ℕ) (table : AcceptedTable cells) where
     apart = λ x y differ same. differ (number-tells (lettersOf cells) x y same);
   }
 
+  -- the edge row that a step goes along at a turn
+  module _ (s : ℕ) (t : Step) (n : ℕ) where
+    abbrev row : Edge L
+    row = record { from = s; step = record { label = labelNumber (lettersOf cells) (t .label); turn = some n }; to = t .scope }
+
+    of-row : (hopIn cells s t .step .turn ≡ some n) ↔ (row ∈ graphOf cells .edges)
+    unfolding hopOf
+    of-row = (
+      λ e. hopsAt-elim L (graphOf cells .edges) s (turn-found (hopsAt L (graphOf cells .edges) s) (row .step .label) (t .scope) n e),
+      λ m. turn-is (hopsAt L (graphOf cells .edges) s) (record { step = row .step; to = row .to }) (hopsAt-intro L {e = row} (graphOf cells .edges) m)
+          (λ k o label to. range .together _ row (hopsAt-elim L (graphOf cells .edges) s o) m refl to label),
+    )
+
 pub letters-numbered : LettersNumbered
 letters-numbered text cells e = numbers cells (read-accepted text cells e)
 
@@ -105,6 +119,9 @@ steps-parted (s ∷ ss) (t ∷ ts) e f =
 pub turns-looked-up : TurnsLookedUp
 unfolding pathOf
 turns-looked-up cells p q start letters scopes = rw (start, steps-parted (p .steps) (q .steps) letters scopes)
+
+pub turn-of-row : TurnOfRow
+turn-of-row text cells e = of-row cells (read-accepted text cells e)
 
 pub filled-is : FilledIs
 filled-is = filled-part

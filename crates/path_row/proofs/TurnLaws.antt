@@ -4,8 +4,9 @@ use mathlib.Core.Path.{_≡_, refl, sym, ap, _∙_}
 use mathlib.Core.Bool.{Bool, true, false, _&&_, and-false}
 use mathlib.Core.Option.{Option, some, none}
 use mathlib.Core.Logic.{_⊎_, inl, inr, ⊎-elim}
-use mathlib.Core.List.{List, [], _∷_, List·Memᴰ·not-nil, List·Memᴰ·cases-cons}
+use mathlib.Core.List.{List, [], _∷_, List·Memᴰ·head, List·Memᴰ·not-nil, List·Memᴰ·cases-cons}
 use Prim.Native.Nat.{ℕ}
+use native.Mathlib.Omega.{arith}
 use borrow.Author.Tests.{eqb-true, eq-eqb}
 use lib.Dec.{eqb}
 use Rattle.scope_graph.specs.Language.{_∈_, End, stop, by}
@@ -57,6 +58,21 @@ turn-is (k ∷ hs) h m same =
     (λ n. turn-is hs h n (λ x o. same x (there o)))
     (List·Memᴰ·cases-cons m))
     (Two (goesTo (h .step .label) (h .to) k))
+
+-- a turn that is found is that of a hop by the label to the scope
+pub turn-found : (hs : List (HopOf Turned)) (l t n : ℕ) → turnBy hs l t ≡ some n
+    → record { step = record { label = l; turn = some n }; to = t } ∈ hs
+unfolding turnBy
+turn-found [] l t n e = absurd (let z : _≡_ {A = ℕ} 0 1 = cc in omega arith)
+turn-found (h ∷ hs) l t n e =
+    ⊎-elim
+    (λ (g : goesTo l t h ≡ true).
+    let label = eqb-true (h .step .label) l (and-left _ _ g) in
+    let to = eqb-true (h .to) t (and-right (eqb (h .step .label) l) _ g) in
+    let turn = sym (turn-here l t h hs g) ∙ e in
+    List·Memᴰ·head (sym (λ i. record { step = record { label = label i; turn = turn i }; to = to i })))
+    (λ (g : goesTo l t h ≡ false). there (turn-found hs l t n (sym (turn-next l t h hs g) ∙ e)))
+    (Two (goesTo l t h))
 
 -- Two steps that leave one scope are the same hop exactly if they have one label and one scope:
 -- their turns are then the same.

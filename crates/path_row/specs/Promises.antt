@@ -4,13 +4,14 @@
 use Prim.Native.Nat.{ℕ, _+_, _≤_, _<_}
 use mathlib.Core.Path.{_≡_}
 use mathlib.Core.Bool.{false}
-use mathlib.Core.Option.{none}
+use mathlib.Core.Logic.{_↔_}
+use mathlib.Core.Option.{some, none}
 use mathlib.Core.List.{List, _++_}
 use lib.ListN.{length, getD, take, drop}
 use Rattle.text_field.specs.Number.{numberText}
 use Rattle.text_field.specs.Outcome.{refused, done}
 use Rattle.graph_file.specs.File.{readCells}
-use Rattle.graph_file.specs.Decode.{lettersOf, rulesOf}
+use Rattle.graph_file.specs.Decode.{lettersOf, rulesOf, graphOf}
 use Rattle.scope_graph.specs.Language.{_∈_, End, by}
 use Rattle.scope_graph.specs.Turns.{Turned}
 use Rattle.scope_graph.specs.Rows.{language}
@@ -53,6 +54,14 @@ LettersNumbered = (text cells : List ℕ) → readCells text ≡ done cells → 
 abbrev pub TurnsLookedUp : Type 0
 TurnsLookedUp = (cells : List ℕ) (p q : PathRow) → p .start ≡ q .start → lettersIn (p .steps) ≡ lettersIn (q .steps)
     → scopesIn (p .steps) ≡ scopesIn (q .steps) → pathIn cells p ≡ pathIn cells q
+
+-- What the turn that is looked up is (02, K12): a step has turn n exactly if an edge row goes from
+-- the scope that it leaves, by its label, to its scope, at turn n. So a step along no edge row has
+-- none, and one along an edge row has that row's.
+abbrev pub TurnOfRow : Type 0
+TurnOfRow = (text cells : List ℕ) → readCells text ≡ done cells → (s : ℕ) (t : Step) (n : ℕ)
+    → (hopIn cells s t .step .turn ≡ some n)
+    ↔ (record { from = s; step = record { label = labelNumber (lettersOf cells) (t .label); turn = some n }; to = t .scope } ∈ graphOf cells .edges)
 
 -- n records filled, where there are as many steps and as many records: the first n steps, and the
 -- records behind them as they were

@@ -48,7 +48,8 @@ module _ (cells : List ℕ) where
     pub printed : text ≡ shownText q found awaited rows
     pub entries : (r : PathRow L) → (r ∈ rows) ↔ Entry L (graphOf cells) q r
     pub in-order : Pairwise (RowBefore L) rows
-    -- no row is there twice
+    -- no row is there twice; nor is a line of the text, since by `in-order` two rows differ in a
+    -- label, a scope or a mark, and not in a turn alone
     pub once : Pairwise (λ r p. ¬ (r ≡ p)) rows
     pub found-is : FoundIs L (graphOf cells) q found
     pub awaits-is : Awaits L (graphOf cells) (opensOf cells) q awaited

@@ -19,7 +19,8 @@ EndBefore (by l) (by k) = l < k
 module _ (L : Language) where
   -- h has all of g's scopes and rows. A row of h that g lacks stands at a new scope, or at an old
   -- one where `Allowed` lets one come: it says so of a scope and an end. New scopes are numbered
-  -- after the old ones; there may be any number of them, with any rows, and any marks.
+  -- after the old ones; there may be any number of them, with any rows, any marks and any turns. A
+  -- from, label and to has one turn (`in-range`, its `together`: 02, K12, repeats none).
   pub record Extension (Allowed : ℕ → End (L .Step) → Type 0) (g h : Graph L) : Type 0 where
     pub scopes-kept : g .scopes ≤ h .scopes
     pub edges-kept : (e : Edge L) → e ∈ g .edges → e ∈ h .edges

@@ -6,7 +6,7 @@ use mathlib.Core.List.{List}
 use Rattle.scope_graph.specs.Language.{_∈_, End, stop, by, Language}
 
 module _ (L : Language) where
-  -- 01, "The gym file", the rows `from label to`
+  -- 01, "The gym file", the rows `from label to`; with a turn, 02, K12
   pub record Edge : Type 0 where
     pub from : ℕ
     pub step : L .Step

@@ -29,7 +29,8 @@ pub record Language : Type 1 where
   pub labels : ℕ
   pub Name : Type 0
   pub same-name : Name → Name → Bool
-  -- the order pairs, as a test of two ends: is the one preferred to the other?
+  -- the order pairs and, at one label, the turns (02, K12), as a test of two ends: is the one
+  -- preferred to the other?
   pub prefers : End Step → End Step → Bool
   -- the automaton: how many states there are, the next one from a state by a label, if any, and
   -- which accept. Paths begin in state 0.
@@ -44,8 +45,9 @@ pub record Language : Type 1 where
   -- may an edge carry the step? In document 01 always.
   pub Carried : Step → Type 0
 
--- What the theorems rely on. The tests of equality are right; the order is irreflexive and
--- transitive (01's refusal 6); transitions speak of listed labels and states (refusal 3);
+-- What the theorems rely on. The tests of equality are right; the preference is irreflexive and
+-- transitive (01's refusal 6; turns are numbers); transitions speak of listed labels and states
+-- (refusal 3);
 -- `strongest` is what its comment says, and an edge may carry it; an edge may stand beside itself.
 pub record Laws (L : Language) : Type 0 where
   pub step-same : (a b : L .Step) → L .same-step a b ≡ true → a ≡ b

@@ -8,7 +8,7 @@ use resolution::summary;
 use text_field::Answer;
 
 // What was answered, and what the lent bytes hold: a short text is printed whole.
-fn shown(verb: &[u8], a: Answer, lent: &[u8]) {
+pub fn shown(verb: &[u8], a: Answer, lent: &[u8]) {
     match a {
         Answer::Written(n) => {
             say::done(verb, n, lent::bytes_sum(bytes(lent, 0, n)));

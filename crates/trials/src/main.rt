@@ -9,6 +9,7 @@ mod judged;
 mod lent;
 mod listings;
 mod rows;
+mod ruled_files;
 mod say;
 
 use graph_table::Form;
@@ -39,6 +40,7 @@ fn case(h: Head, body: &[u8], given: &mut [u64], table: &mut [u64], out: &mut [u
         b's' => listings::summed(text, room, out),
         b'a' => listings::whole(text, number, room, out),
         b'e' => edges::finding(text, number, given),
+        b'x' => ruled_files::ruling(text, first, room, out),
         b'o' => converted::converting(Form::Old, text, room, out),
         b'k' => converted::converting(Form::Kinds, text, room, out),
         _ => say::unknown(),

@@ -48,11 +48,13 @@ pub enum Refusal {
     NoQuery = 7,
     NoPathRow = 8,
     NoRoom = 9,
+    NoExpression = 12,
+    TooManyStates = 13,
     NoOldForm = 14,
 }
 
 impl Refusal {
-    pub const ALL: [Refusal; 10] = [
+    pub const ALL: [Refusal; 12] = [
         Refusal::TooLong,
         Refusal::Malformed,
         Refusal::OutOfRange,
@@ -62,6 +64,8 @@ impl Refusal {
         Refusal::NoQuery,
         Refusal::NoPathRow,
         Refusal::NoRoom,
+        Refusal::NoExpression,
+        Refusal::TooManyStates,
         Refusal::NoOldForm,
     ];
 
@@ -90,6 +94,8 @@ impl fmt::Display for Refusal {
             Refusal::NoQuery => "there is no query of this number",
             Refusal::NoPathRow => "a path row is not of its form",
             Refusal::NoRoom => "the memory lent is too short for the output or the steps",
+            Refusal::NoExpression => "not an expression over the file's labels, or past 64 bytes or ten letters",
+            Refusal::TooManyStates => "the smallest table for the expression has more than 16 states",
             Refusal::NoOldForm => "the old form has no kinds and no turns, and a kind is not v or a turn is not 0",
         })
     }
@@ -147,6 +153,14 @@ mod library {
         pub fn tewhoranu_summary(text: *const u8, text_length: usize, out: *mut u8, out_length: usize) -> u64;
         pub fn tewhoranu_to_old(text: *const u8, text_length: usize, out: *mut u8, out_length: usize) -> u64;
         pub fn tewhoranu_to_new(text: *const u8, text_length: usize, out: *mut u8, out_length: usize) -> u64;
+        pub fn tewhoranu_rules(
+            text: *const u8,
+            text_length: usize,
+            expression: *const u8,
+            expression_length: usize,
+            out: *mut u8,
+            out_length: usize,
+        ) -> u64;
     }
 }
 
@@ -272,4 +286,21 @@ pub fn to_old(text: &[u8], out: &mut [u8]) -> Result<usize, Refusal> {
 pub fn to_new(text: &[u8], out: &mut [u8]) -> Result<usize, Refusal> {
     // SAFETY: as said above.
     written(unsafe { library::tewhoranu_to_new(text.as_ptr(), text.len(), out.as_mut_ptr(), out.len()) })
+}
+
+/// Writes the file with the path rules of an expression in the place of its own and answers how many
+/// bytes were written. What is no expression over the file's labels is refused, and what needs more
+/// than 16 states.
+pub fn rules(text: &[u8], expression: &[u8], out: &mut [u8]) -> Result<usize, Refusal> {
+    // SAFETY: as said above.
+    written(unsafe {
+        library::tewhoranu_rules(
+            text.as_ptr(),
+            text.len(),
+            expression.as_ptr(),
+            expression.len(),
+            out.as_mut_ptr(),
+            out.len(),
+        )
+    })
 }

@@ -3,7 +3,7 @@
 
 use crate::differ;
 use crate::files::{without_pairs, without_turns};
-use plain::random::{damaged_row, damaged_table, path_row, Rng};
+use plain::random::{damaged_row, damaged_table, expression, path_row, Rng};
 use std::collections::BTreeMap;
 use std::fmt::Debug;
 
@@ -122,6 +122,19 @@ impl Test {
         );
     }
 
+    fn rules(&mut self, text: &[u8], expression: &[u8]) {
+        let due = plain::answers::rules(text, expression, &mut vec![0; tewhoranu::TEXT]).unwrap_or(60);
+        let n = length(&mut self.rng, due, tewhoranu::TEXT);
+        let memory = lent(&mut self.rng, n, |i| i as u8);
+        self.same(
+            "rules",
+            text,
+            memory,
+            |m| tewhoranu::rules(text, expression, m).map_err(number),
+            |m| plain::answers::rules(text, expression, m),
+        );
+    }
+
     fn summary(&mut self, text: &[u8]) {
         let due = plain::answers::summary(text, &mut [0; tewhoranu::SUMMARY]).unwrap_or(40);
         let n = length(&mut self.rng, due, 100);
@@ -224,6 +237,10 @@ impl Test {
             Ok(gym) => (gym.queries.len(), gym.scopes as usize, gym.labels.clone()),
             Err(_) => (1, 5, b"AB".to_vec()),
         };
+        for _ in 0..2 {
+            let drawn = expression(&mut self.rng, &letters);
+            self.rules(text, &drawn);
+        }
         // without order pairs and turns a query sees all that it reaches: rows that are visible or
         // shadowed with them
         let unordered = without_turns(&without_pairs(text));

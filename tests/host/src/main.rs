@@ -26,7 +26,7 @@ fn differ(call: &str, text: &[u8], detail: String) -> ! {
 }
 
 /// What each call must have answered at least once; and accepted files of each form.
-const DUE: [(&str, &[&str]); 11] = [
+const DUE: [(&str, &[&str]); 12] = [
     ("form", &["0", "1", "2"]),
     ("read", &["written", "refused 1", "refused 2", "refused 3", "refused 4", "refused 5", "refused 6", "refused 9"]),
     ("write", &["written", "refused 2", "refused 3", "refused 4", "refused 5", "refused 6", "refused 9"]),
@@ -35,6 +35,7 @@ const DUE: [(&str, &[&str]); 11] = [
     ("judge", &["visible", "shadowed", "unreached", "refused 1", "refused 2", "refused 7", "refused 8", "refused 9"]),
     ("compare", &["first", "second", "neither", "refused 1", "refused 2", "refused 8", "refused 9"]),
     ("summary", &["written", "refused 1", "refused 2", "refused 3", "refused 4", "refused 5", "refused 6", "refused 9"]),
+    ("rules", &["written", "refused 1", "refused 2", "refused 3", "refused 4", "refused 5", "refused 6", "refused 12", "refused 13", "refused 9"]),
     ("to_old", &["written", "refused 1", "refused 2", "refused 3", "refused 4", "refused 5", "refused 6", "refused 14", "refused 9"]),
     ("to_new", &["written", "refused 1", "refused 2", "refused 3", "refused 4", "refused 5", "refused 6", "refused 9"]),
     ("converted", &["to_old as it was", "to_old and back", "to_old without a column of 0", "to_new as it was", "to_new and back"]),

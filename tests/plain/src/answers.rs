@@ -1,6 +1,8 @@
-//! Listing, judge and summary, and a file in the other form.
+//! Listing, judge and summary, a file in the other form, and one with the rules of an expression.
 
-use crate::gym::{in_form, push_end, push_name, push_number, Form, Gym, Query, Refusal};
+use crate::gym::{
+    in_form, push_end, push_name, push_number, with_rules, Form, Gym, Query, Refusal,
+};
 use crate::path_row::{fill, PathRow, Step};
 use crate::search::{Go, Rules, Search};
 
@@ -182,6 +184,12 @@ pub fn to_old(text: &[u8], out: &mut [u8]) -> Result<usize, Refusal> {
 /// Writes a text in the form with kinds, one with turns as it is; answers the bytes written.
 pub fn to_new(text: &[u8], out: &mut [u8]) -> Result<usize, Refusal> {
     put(&in_form(text, Form::Kinds)?, out)
+}
+
+/// Writes a text with the path rules of an expression in place of its own; answers the bytes
+/// written.
+pub fn rules(text: &[u8], expression: &[u8], out: &mut [u8]) -> Result<usize, Refusal> {
+    put(&with_rules(text, expression)?, out)
 }
 
 pub fn judge_row(gym: &Gym, rules: &Rules, query: Query, row: &PathRow) -> Standing {

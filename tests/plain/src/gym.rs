@@ -6,6 +6,8 @@
 //! are shown each is 0. In an admission an edge with a turn has its line's columns, `from label
 //! turn to`; everywhere else the turn is its last cell (`turn_last`).
 
+use crate::rules;
+
 pub type Refusal = u8;
 pub type Row = [u64; 5];
 
@@ -103,6 +105,8 @@ const TURNED: Section = Section {
 
 const LABELS: usize = 0;
 const ORDER: usize = 1;
+const TRANSITIONS: usize = 2;
+const ACCEPTS: usize = 3;
 const SCOPES: usize = 4;
 const EDGES: usize = 5;
 const DECLARATIONS: usize = 6;
@@ -698,6 +702,33 @@ pub fn in_form(text: &[u8], wanted: Form) -> Result<Vec<u8>, Refusal> {
         push_title(&mut out, wanted, section);
         for row in rows {
             push_line(&mut out, wanted, section, row, &labels);
+        }
+    }
+    Ok(out)
+}
+
+/// A text with the path rules of an expression in place of its own, in the form that it has.
+pub fn with_rules(text: &[u8], expression: &[u8]) -> Result<Vec<u8>, Refusal> {
+    let mut sections: [Vec<Row>; 9] = Default::default();
+    let form = read_rows(text, |section, row| sections[section].push(*row))?;
+    let labels: Vec<u8> = sections[LABELS].iter().map(|row| row[0] as u8).collect();
+    let table = rules::table(expression, &labels)?;
+    let small = |values: &[u8]| {
+        let mut row = [0; 5];
+        for (cell, &value) in row.iter_mut().zip(values) {
+            *cell = u64::from(value);
+        }
+        row
+    };
+    let transitions = table.transitions.iter();
+    sections[TRANSITIONS] = transitions.map(|&(q, l, r)| small(&[q, l, r])).collect();
+    sections[ACCEPTS] = table.accepts.iter().map(|&q| small(&[q])).collect();
+    let mut out = Vec::new();
+    for (section, rows) in sections.iter_mut().enumerate() {
+        push_title(&mut out, form, section);
+        for row in rows {
+            turn_last(form, section, row);
+            push_line(&mut out, form, section, row, &labels);
         }
     }
     Ok(out)

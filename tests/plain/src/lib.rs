@@ -6,4 +6,5 @@ pub mod enumerate;
 pub mod gym;
 pub mod path_row;
 pub mod random;
+pub mod rules;
 pub mod search;

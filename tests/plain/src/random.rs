@@ -1,4 +1,4 @@
-//! Random gyms in all forms of file, path rows, and damage to them. The same seed gives the same
+//! Random gyms in all forms of file, path rows, expressions, and damage to them. The same seed gives the same
 //! inputs everywhere.
 
 use crate::gym::Form;
@@ -457,4 +457,79 @@ pub fn damaged_table(rng: &mut Rng, cells: &[u64]) -> Vec<u64> {
         }
     }
     cells
+}
+
+/// A drawn expression (02, K6) over the letters, now and then with a fault.
+pub fn expression(rng: &mut Rng, letters: &[u8]) -> Vec<u8> {
+    let letters: &[u8] = if letters.is_empty() { b"P" } else { letters };
+    let depth = rng.below(4);
+    let mut text = if rng.below(8) == 0 {
+        remembering(rng, letters)
+    } else {
+        choice(rng, letters, depth)
+    };
+    let longest = if rng.below(10) == 0 { 12 } else { 10 };
+    while text.iter().filter(|b| b.is_ascii_uppercase()).count() > longest {
+        text = choice(rng, letters, 1);
+    }
+    if rng.below(5) == 0 {
+        let at = rng.below(text.len() + 1);
+        let byte = *rng.pick(b"()*|PZ \n$a");
+        match rng.below(3) {
+            0 if at < text.len() => text[at] = byte,
+            1 if at < text.len() => {
+                text.remove(at);
+            }
+            _ => text.insert(at, byte),
+        }
+    }
+    if rng.below(60) == 0 {
+        let times = 60 + rng.below(8);
+        text.resize(text.len().max(times), b'*');
+    }
+    text
+}
+
+/// What came some letters ago decides: such an expression needs many states.
+fn remembering(rng: &mut Rng, letters: &[u8]) -> Vec<u8> {
+    let at = rng.below(letters.len());
+    let (a, b) = (
+        letters[at] as char,
+        letters[(at + 1) % letters.len()] as char,
+    );
+    let both = format!("({a}|{b})");
+    let mut text = format!("{both}*{a}");
+    let parts = [
+        both.clone(),
+        both.clone(),
+        both,
+        a.to_string(),
+        format!("{b}*"),
+    ];
+    while text.bytes().filter(u8::is_ascii_uppercase).count() < 8 + rng.below(3) {
+        text += rng.pick::<String>(&parts);
+    }
+    text.into_bytes()
+}
+
+fn choice(rng: &mut Rng, letters: &[u8], depth: usize) -> Vec<u8> {
+    let sides: Vec<Vec<u8>> = (0..*rng.pick(&[1, 1, 1, 2, 2, 3]))
+        .map(|_| sequence(rng, letters, depth))
+        .collect();
+    sides.join(&b'|')
+}
+
+fn sequence(rng: &mut Rng, letters: &[u8], depth: usize) -> Vec<u8> {
+    let mut text = Vec::new();
+    for _ in 0..*rng.pick(&[1, 1, 2, 2, 3, 4]) {
+        if depth > 0 && rng.below(5) < 2 {
+            text.push(b'(');
+            text.extend(choice(rng, letters, depth - 1));
+            text.push(b')');
+        } else {
+            text.push(*rng.pick(letters));
+        }
+        text.extend(vec![b'*'; *rng.pick(&[0, 0, 0, 1, 1, 2])]);
+    }
+    text
 }

@@ -235,6 +235,7 @@ fn main() -> io::Result<()> {
             "s" => summary(),
             "o" => convert(text, room, answers::to_old, answers::to_new),
             "k" => convert(text, room, answers::to_new, answers::to_old),
+            "x" => shown("ruled", room, |out| answers::rules(text, first, out)),
             "a" => (0..number).map(listing).chain([summary()]).collect(),
             _ => "A KIND UNKNOWN HERE\n".to_string(),
         };

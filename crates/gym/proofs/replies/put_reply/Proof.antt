@@ -1,6 +1,6 @@
 -- `gym::replies::put_reply` puts each reply, for its stream. Assumes nothing.
 use borrow.Author.Needs.{needs}
-use Rattle.gym.specs.declared.words.Reply.the-variants.{Old, New, Judge, Compare, Usage}
+use Rattle.gym.specs.declared.words.Reply.the-variants.{Old, New, Judge, Compare, Rules, Usage}
 use Rattle.gym.specs.Said.{answered}
 use Rattle.gym.specs.Handed.{replyMeaning}
 use Rattle.gym.proofs.ReplyLaws.{reply-is}
@@ -33,6 +33,12 @@ put-compared-requires c κs = search needs
 
 enum-told-4 : tie.Need-enum-told-4
 enum-told-4 c = search needs
+
+put-rules-requires : tie.Need-put-rules-requires
+put-rules-requires c κs = search needs
+
+enum-told-5 : tie.Need-enum-told-5
+enum-told-5 c = search needs
 
 put-usage-requires : tie.Need-put-usage-requires
 put-usage-requires c κs = search needs
@@ -70,7 +76,14 @@ same-length-5 c = search needs
 
 returns-5 : tie.Need-returns-5
 unfolding answered replyMeaning
-returns-5 c = let a = c .before .before .before .before .before .before .before .before .before .before .args in reply-is _ _ _ (a .q) Usage (a .first .now) (a .second .now) (a .text .now) (c .before .before .before .before .enum-told4 .given .1) (c .before .before .put-usage .ensures)
+returns-5 c = let a = c .before .before .before .before .before .before .before .before .before .before .args in reply-is _ _ _ (a .q) Rules (a .first .now) (a .second .now) (a .text .now) (c .before .before .before .before .enum-told4 .given .1) (c .before .before .put-rules .ensures)
+
+same-length-6 : tie.Need-same-length-6
+same-length-6 c = search needs
+
+returns-6 : tie.Need-returns-6
+unfolding answered replyMeaning
+returns-6 c = let a = c .before .before .before .before .before .before .before .before .before .before .args in reply-is _ _ _ (a .q) Usage (a .first .now) (a .second .now) (a .text .now) (c .before .before .before .before .enum-told5 .given .1) (c .before .before .put-usage .ensures)
 
 pub put-reply-spec : {M : Type 1} → statement M
 put-reply-spec =
@@ -85,6 +98,8 @@ put-reply-spec =
     enum-told-3
     put-compared-requires
     enum-told-4
+    put-rules-requires
+    enum-told-5
     put-usage-requires
     same-length
     returns
@@ -95,4 +110,6 @@ put-reply-spec =
     same-length-4
     returns-4
     same-length-5
-    returns-5)
+    returns-5
+    same-length-6
+    returns-6)

@@ -6,7 +6,7 @@ use Rattle.gym.specs.declared.words.Reply.the-variants.{Compare}
 use Rattle.gym.specs.declared.words.Command.the-variants.{One}
 use Rattle.gym.specs.Words.{compare, judgeAsked, listWord, oldWord, newWord, judgeWord, compareWord}
 use Rattle.gym.specs.Handed.{meaning, replyMeaning}
-use Rattle.gym.proofs.WordLaws.{two-same, as-none, as-list, as-old, as-new, as-judge, as-compare, as-unknown}
+use Rattle.gym.proofs.WordLaws.{two-same, as-none, as-list, as-old, as-new, as-judge, as-compare, as-later}
 use Rattle.gym.proofs.words.command_of.Statement.{statement}
 use Rattle.gym.proofs.words.command_of.Tie as tie
 
@@ -97,9 +97,15 @@ returns-6 : tie.Need-returns-6
 unfolding meaning replyMeaning listWord oldWord newWord judgeWord compareWord
 returns-6 c b = let a = c .before .before .before .before .before .before .before .before .before .before .before .before .before .before .before .before .before .before .before .args in c .with-two2 .ensures (a .first .now) b ∙ two-same _ (a .first .now) b (meaning (One Compare)) compare refl ∙ sym (as-compare (a .count) (a .name .now) (a .first .now) b (λ z. omega arith) (sym (c .before .before .before .before .before .before .before .before .before .before .before .before .before .if2 .left) ∙ c .before .before .before .before .before .before .before .before .before .before .before .before .before .before .is-same .ensures) (sym (c .before .before .before .before .before .before .before .before .before .before .if3 .left) ∙ c .before .before .before .before .before .before .before .before .before .before .before .is-same2 .ensures) (sym (c .before .before .before .before .before .before .before .if4 .left) ∙ c .before .before .before .before .before .before .before .before .is-same3 .ensures) (sym (c .before .before .before .before .if5 .left) ∙ c .before .before .before .before .before .is-same4 .ensures) (sym (c .before .if6 .taken) ∙ c .before .before .is-same5 .ensures))
 
+sub-later-command : tie.Need-sub-later-command
+sub-later-command c = search needs
+
+later-command-requires : tie.Need-later-command-requires
+later-command-requires c κs = search needs
+
 returns-7 : tie.Need-returns-7
 unfolding meaning replyMeaning listWord oldWord newWord judgeWord compareWord
-returns-7 c b = let a = c .before .before .before .before .before .before .before .before .before .before .before .before .before .before .before .before .before .before .args in sym (as-unknown (a .count) (a .name .now) (a .first .now) b (λ z. omega arith) (sym (c .before .before .before .before .before .before .before .before .before .before .before .before .if2 .left) ∙ c .before .before .before .before .before .before .before .before .before .before .before .before .before .is-same .ensures) (sym (c .before .before .before .before .before .before .before .before .before .if3 .left) ∙ c .before .before .before .before .before .before .before .before .before .before .is-same2 .ensures) (sym (c .before .before .before .before .before .before .if4 .left) ∙ c .before .before .before .before .before .before .before .is-same3 .ensures) (sym (c .before .before .before .if5 .left) ∙ c .before .before .before .before .is-same4 .ensures) (sym (c .if6 .left) ∙ c .before .is-same5 .ensures))
+returns-7 c b = let a = c .before .before .before .before .before .before .before .before .before .before .before .before .before .before .before .before .before .before .before .args in c .later-command .ensures (a .first .now) b ∙ sym (as-later (a .count) (a .name .now) (a .first .now) b (λ z. omega arith) (sym (c .before .before .before .before .before .before .before .before .before .before .before .before .before .if2 .left) ∙ c .before .before .before .before .before .before .before .before .before .before .before .before .before .before .is-same .ensures) (sym (c .before .before .before .before .before .before .before .before .before .before .if3 .left) ∙ c .before .before .before .before .before .before .before .before .before .before .before .is-same2 .ensures) (sym (c .before .before .before .before .before .before .before .if4 .left) ∙ c .before .before .before .before .before .before .before .before .is-same3 .ensures) (sym (c .before .before .before .before .if5 .left) ∙ c .before .before .before .before .before .is-same4 .ensures) (sym (c .before .if6 .left) ∙ c .before .before .is-same5 .ensures))
 
 pub command-of-spec : {M : Type 1} → statement M
 command-of-spec =
@@ -132,4 +138,6 @@ command-of-spec =
     sub-with-two-2
     with-two-requires-2
     returns-6
+    sub-later-command
+    later-command-requires
     returns-7)

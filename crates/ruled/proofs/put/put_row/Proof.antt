@@ -1,0 +1,90 @@
+-- `put_row` meets its contract: six cells put one after the other. Assumes nothing.
+use mathlib.Core.Path.{refl}
+use mathlib.Core.List.{[], _∷_}
+use lib.ListN.{length-set}
+use native.Mathlib.Omega.{arith}
+use borrow.Author.Needs.{needs}
+use Rattle.graph_file.proofs.StageLaws.{six-set}
+use Rattle.ruled.proofs.put.put_row.Statement.{statement}
+use Rattle.ruled.proofs.put.put_row.Tie as tie
+
+mul-table : tie.Need-mul-table
+mul-table c = search needs
+
+slice-write-table : tie.Need-slice-write-table
+slice-write-table c = search needs
+
+add-table : tie.Need-add-table
+add-table c = search needs
+
+mul-table-2 : tie.Need-mul-table-2
+mul-table-2 c = search needs
+
+slice-write-table-2 : tie.Need-slice-write-table-2
+slice-write-table-2 c = simp length-set (omega (arith, c .pre))
+
+add-table-2 : tie.Need-add-table-2
+add-table-2 c = search needs
+
+mul-table-3 : tie.Need-mul-table-3
+mul-table-3 c = search needs
+
+slice-write-table-3 : tie.Need-slice-write-table-3
+slice-write-table-3 c = simp length-set (omega (arith, c .pre))
+
+add-table-3 : tie.Need-add-table-3
+add-table-3 c = search needs
+
+mul-table-4 : tie.Need-mul-table-4
+mul-table-4 c = search needs
+
+slice-write-table-4 : tie.Need-slice-write-table-4
+slice-write-table-4 c = simp length-set (omega (arith, c .pre))
+
+add-table-4 : tie.Need-add-table-4
+add-table-4 c = search needs
+
+mul-table-5 : tie.Need-mul-table-5
+mul-table-5 c = search needs
+
+slice-write-table-5 : tie.Need-slice-write-table-5
+slice-write-table-5 c = simp length-set (omega (arith, c .pre))
+
+add-table-5 : tie.Need-add-table-5
+add-table-5 c = search needs
+
+mul-table-6 : tie.Need-mul-table-6
+mul-table-6 c = search needs
+
+slice-write-table-6 : tie.Need-slice-write-table-6
+slice-write-table-6 c = simp length-set (omega (arith, c .pre))
+
+same-length : tie.Need-same-length
+same-length c = simp length-set
+
+returns : tie.Need-returns
+returns c = six-set (c .args .table .now) (c .args .n) (c .args .k) (c .args .a ∷ c .args .b ∷ c .args .c ∷ 0 ∷ 0 ∷ []) refl (c .pre)
+
+pub put-row-spec : {M : Type 1} → statement M
+put-row-spec =
+    tie.close
+    (tie.spec
+    mul-table
+    slice-write-table
+    add-table
+    mul-table-2
+    slice-write-table-2
+    add-table-2
+    mul-table-3
+    slice-write-table-3
+    add-table-3
+    mul-table-4
+    slice-write-table-4
+    add-table-4
+    mul-table-5
+    slice-write-table-5
+    add-table-5
+    mul-table-6
+    slice-write-table-6
+    same-length
+    returns)
