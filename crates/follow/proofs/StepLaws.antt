@@ -1,26 +1,25 @@
 -- Laws of the hops that the walk passes over on the way to the next that it follows. Assumes
 -- nothing.
-use mathlib.Core.Path.{_≡_, sym, ap, _∙_}
+use mathlib.Core.Path.{_≡_, refl, sym, ap, _∙_}
 use mathlib.Core.Bool.{Bool, true, false}
 use mathlib.Core.Logic.{_⊎_, inl, inr, ⊎-elim}
 use mathlib.Core.List.{List, _∷_, _++_, append-assoc, List·Memᴰ·cases-cons, List·Memᴰ·append-cases}
-use Prim.Native.Nat.{ℕ, suc, _+_, _≤_, _<_}
+use Prim.Native.Nat.{ℕ, suc, _+_, _/_, _%_, _≤_, _<_}
 use native.Mathlib.Omega.{arith}
 use native.Mathlib.Numerals.{add-one}
-use Rattle.scope_graph.specs.Language.{End, by}
+use Rattle.scope_graph.specs.Language.{by}
 use Rattle.scope_graph.specs.Order.{endOf}
 use Rattle.scope_graph.specs.Path.{HopOf}
 use Rattle.scope_graph.specs.Turns.{Turned}
 use Rattle.block.specs.Sets.{hasScope, ALL_LABELS}
-use Rattle.block.specs.Block.{firstEdge, edgeCell, hopOf, hopsOn}
+use Rattle.block.specs.Block.{Bounds, turnCell, firstEdge, edgeCell, hopOf, hopsOn}
 use Rattle.block.specs.Ask.{askGoal}
 use Rattle.search.specs.Board.{cutHere}
 use Rattle.search.specs.Tables.{plainEnd, tableOrder, tableBoard}
 use Rattle.search.specs.Steps.{worthState, NextHop}
 use Rattle.search.specs.declared.Node.{Node}
-use Rattle.follow.specs.declared.cuts.Question.{Question}
-use Rattle.follow.specs.declared.cuts.Question.the-variants.{Sought, Edge}
-use Rattle.follow.specs.Steps.{askedEnd, endCut, Skipped, NextFollowed}
+use Rattle.search.proofs.LaterLaws.{step-by-label, step-highest}
+use Rattle.follow.specs.Steps.{endCut, Skipped, NextFollowed}
 
 module _ (block ask onward : List ℕ) (n : Node) (p : ℕ) where
   -- hops that are worth nothing
@@ -57,24 +56,18 @@ module _ (block ask onward : List ℕ) (n : Node) (p : ℕ) where
     none = here .none;
   }
 
--- what was learnt of the end asked about, as the code asks: the one sought, or an edge's step
-module _ (block ask : List ℕ) (n : Node) (goal : ℕ) (question : Question) (x : ℕ) (cut : Bool) (goal-is : goal ≡ askGoal ask) where
-  abbrev cutBy : ℕ → End Turned → Bool
-  cutBy g e = cutHere (tableBoard block g) (tableOrder block) (n .left) (hasScope (n .free)) (n .scope) (n .state) e
-
-  asked-cut : (e : End Turned) → e ≡ askedEnd question → cut ≡ cutBy goal e → cut ≡ endCut block ask n (askedEnd question)
-  asked-cut e is says = says ∙ ap (λ (g : ℕ). cutBy g e) goal-is ∙ ap (cutBy (askGoal ask)) is
-
-  pub sought-cut : question ≡ Sought x → cut ≡ cutBy goal (plainEnd (endOf x)) → cut ≡ endCut block ask n (askedEnd question)
-  unfolding askedEnd
-  sought-cut is says = asked-cut (plainEnd (endOf x)) (ap askedEnd (sym is)) says
-
-  pub edge-cut : question ≡ Edge x → cut ≡ cutBy goal (by (hopOf x .step)) → cut ≡ endCut block ask n (askedEnd question)
-  unfolding askedEnd
-  edge-cut is says = asked-cut (by (hopOf x .step)) (ap askedEnd (sym is)) says
-
--- the step of edge number i, by its cell
-pub step-cut : (block ask : List ℕ) (n : Node) (i x : ℕ) (cut : Bool) → x ≡ edgeCell block i → cut ≡ endCut block ask n (askedEnd (Edge x))
+-- the step of edge number i, by its cell, as the code asks about it
+pub step-cut : (block ask : List ℕ) (n : Node) (i x goal : ℕ) (cut : Bool) → x ≡ edgeCell block i → goal ≡ askGoal ask
+    → cut ≡ cutHere (tableBoard block goal) (tableOrder block) (n .left) (hasScope (n .free)) (n .scope) (n .state) (by (hopOf x .step))
     → endCut block ask n (by (hopOf (edgeCell block i) .step)) ≡ cut
-unfolding askedEnd
-step-cut block ask n i x cut e says = sym (rw e at says)
+step-cut block ask n i x goal cut e g says = sym (rw (e, g) at says)
+
+-- the same where all turns are 0: it is cut as its label is
+pub label-cut : (block ask : List ℕ) (n : Node) (i x goal : ℕ) (cut : Bool) → Bounds block → turnCell block ≡ 0 → x ≡ edgeCell block i → goal ≡ askGoal ask
+    → cut ≡ cutHere (tableBoard block goal) (tableOrder block) (n .left) (hasScope (n .free)) (n .scope) (n .state) (plainEnd (endOf (x / 64 % 8 + 1)))
+    → endCut block ask n (by (hopOf (edgeCell block i) .step)) ≡ cut
+label-cut block ask n i x goal cut bounds none e g says = step-cut block ask n i x goal cut e g (by-cases cut refl)
+  where
+    by-cases : (b : Bool) → cut ≡ b → cut ≡ cutHere (tableBoard block goal) (tableOrder block) (n .left) (hasScope (n .free)) (n .scope) (n .state) (by (hopOf x .step))
+    by-cases true c = c ∙ sym (step-by-label block goal n x (sym says ∙ c))
+    by-cases false c = c ∙ sym (step-highest block goal n x bounds (omega (arith, none)) (sym says ∙ c))

@@ -20,8 +20,6 @@ use Rattle.search.specs.Steps.{worthState}
 use Rattle.search.specs.declared.Node.{Node}
 use Rattle.follow.specs.declared.Aim.{Aim}
 use Rattle.follow.specs.declared.Task.the-variants.{Place}
-use Rattle.follow.specs.declared.cuts.Question.{Question}
-use Rattle.follow.specs.declared.cuts.Question.the-variants.{Sought, Edge}
 use Rattle.follow.specs.Tally.{Taken}
 use Rattle.follow.specs.Walk.{placeRows, placesFrom}
 
@@ -54,11 +52,6 @@ module _ (block table ask : List ℕ) (aim : Aim) (hops : List (HopOf Turned)) (
       (hopHits (tableBoard block (askGoal ask)) (tableOrder block) (placesOf (aim .scopes) (aim .states)) (plainEnd (endOf (aim .end)))
       (λ t r. placesFrom block table ask (aim .scopes) (aim .states) (aim .end) (n .left) (without (hasScope (n .free)) t) t r)
       (n .left) (hasScope (n .free)) (n .scope) (n .state) h)
-
--- the end that is asked about: the one sought by its label alone, an edge's with its turn
-unfoldable pub askedEnd : Question → End Turned
-askedEnd (Sought e) = plainEnd (endOf e)
-askedEnd (Edge x) = by (hopOf x .step)
 
 -- an end is cut at a node
 abbrev pub endCut : List ℕ → List ℕ → Node → End Turned → Bool

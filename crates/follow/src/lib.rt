@@ -8,7 +8,7 @@ use search::Node;
 use search::live_table;
 
 mod count;
-mod cuts;
+mod next;
 mod nodes;
 mod rows;
 

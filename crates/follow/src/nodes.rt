@@ -5,13 +5,12 @@ use crate::Tally;
 use crate::Task;
 use crate::count::is_done;
 use crate::count::put_place;
-use crate::cuts::Question;
-use crate::cuts::cut_at;
+use crate::next::first_followed;
+use crate::next::next_followed;
 use crate::rows::put_entries;
 use block::ask_goal;
 use block::edge_at;
 use block::edges_end;
-use block::edges_from;
 use block::has;
 use block::has_state;
 use search::ALL_LABELS;
@@ -20,8 +19,8 @@ use search::NOTHING_KNOWN;
 use search::Node;
 use search::Table;
 use search::entered;
+use search::learn;
 use search::live_table;
-use search::next_hop;
 use search::worth;
 ghost use mathlib.Core.Path.{_≡_};
 ghost use mathlib.Core.Bool.{not, _||_};
@@ -37,7 +36,7 @@ ghost use Rattle.search.specs.Tables.{plainEnd};
 ghost use Rattle.search.specs.Conditions.{Inside, LiveAt, WorthAt, Known};
 ghost use Rattle.follow.specs.Tally.{State, takeRows};
 ghost use Rattle.follow.specs.Walk.{pathHops, rowsFrom};
-ghost use Rattle.follow.specs.Steps.{NoRoom, ownRows, hopRows, endCut, FollowedEdge, NextFollowed};
+ghost use Rattle.follow.specs.Steps.{NoRoom, ownRows, hopRows, endCut, FollowedEdge};
 
 // A hop as the path holds it: turn * 512 + label * 64 + scope, below 65536.
 fn narrow(x: u64) -> u16
@@ -90,7 +89,7 @@ fn own_end(block: &[u64], ask: &[u64], aim: Aim, n: Node) -> Learnt
             cut: true,
         };
     }
-    cut_at(block, ask, n, NOTHING_KNOWN, Question::Sought(aim.end))
+    learn(block, ask_goal(ask), ask, n, NOTHING_KNOWN, aim.end)
 }
 
 // The node's own rows, unless it is passed over: those of its entries, or one where places are
@@ -120,40 +119,6 @@ fn visit(
         Task::Entries => put_entries(block, table, ask, path, n.scope, aim.bounds, out, tally),
         Task::Place => put_place(aim.bounds, tally),
     }
-}
-
-// An edge, or one past the node's last, and what is known by then of the node's ends.
-struct Next {
-    at: u64,
-    known: u64,
-}
-
-// From edge p on, the node's next edge that is followed: its hop is worth entering, and its step is
-// not cut.
-fn next_followed(block: &[u64], ask: &[u64], onward: &[u64], n: Node, known: u64, p: u64) -> Next
-    requires block { ⌜ IsBlock (now block) ⌝ }
-    requires bounds { ⌜ Bounds (now block) ⌝ }
-    requires ask { ⌜ IsAsk (now ask) ⌝ }
-    requires live { ⌜ LiveAt (now block) (askGoal (now ask)) (hasScope (n .free)) (now ask) ⌝ }
-    requires table { ⌜ 64 ≤ length (now onward) ⌝ }
-    requires inside { ⌜ Inside n ⌝ }
-    requires known { ⌜ Known (now block) (askGoal (now ask)) n known ⌝ }
-    ensures known { λ r. ⌜ Known (now (block .entry)) (askGoal (now (ask .entry))) n (r .known) ⌝ }
-    ensures next { λ r. ⌜ NextFollowed (now (block .entry)) (now (ask .entry)) (now (onward .entry)) n p (r .at) ⌝ }
-{
-    let end = edges_end(block, n.scope);
-    let mut more = known;
-    let mut i = next_hop(block, onward, n, ALL_LABELS, p);
-    while i < end {
-        let x = edge_at(block, i);
-        let learnt = cut_at(block, ask, n, more, Question::Edge(x));
-        more = learnt.known;
-        if !learnt.cut {
-            return Next { at: i, known: more };
-        }
-        i = next_hop(block, onward, n, ALL_LABELS, i + 1);
-    }
-    Next { at: i, known: more }
 }
 
 // With fewer hops than this left, going through them takes less than a new table does.
@@ -204,14 +169,7 @@ pub fn follow_at(
     if is_done(aim.bounds, t) {
         return t;
     }
-    let next = next_followed(
-        block,
-        ask,
-        onward,
-        node,
-        known,
-        edges_from(block, node.scope),
-    );
+    let next = first_followed(block, ask, onward, node, known);
     let i = next.at;
     if edges_end(block, node.scope) <= i {
         return t;

@@ -26,10 +26,10 @@ use Rattle.follow.proofs.nodes.+follow_at+follow_from.Lts-follow_from a
 use Rattle.block.proofs.ask_goal.Reads as ask-goal-reads
 use Rattle.block.proofs.edge_at.Reads as edge-at-reads
 use Rattle.block.proofs.edges_end.Reads as edges-end-reads
-use Rattle.block.proofs.edges_from.Reads as edges-from-reads
 use Rattle.follow.proofs.count.is_done.Reads as is-done-reads
 use Rattle.follow.proofs.nodes.in_vain.Reads as in-vain-reads
-use Rattle.follow.proofs.nodes.next_followed.Reads as next-followed-reads
+use Rattle.follow.proofs.next.first_followed.Reads as first-followed-reads
+use Rattle.follow.proofs.next.next_followed.Reads as next-followed-reads
 use Rattle.follow.proofs.nodes.own_end.Reads as own-end-reads
 use Rattle.follow.proofs.nodes.pushed.Reads as pushed-reads
 use Rattle.follow.proofs.nodes.visit.Reads as visit-reads
@@ -62,7 +62,7 @@ follow-from-below t =
 
 -- what `follow-at` is given of the functions that it calls, below the measure t
 abbrev follow-at-calls : ℕ → follow-at-lts.Claims
-follow-at-calls t = (own-end-reads.Asked, own-end-reads.Learnt, visit-reads.Asked, visit-reads.Learnt, is-done-reads.Asked, is-done-reads.Learnt, edges-from-reads.Asked, edges-from-reads.Learnt, next-followed-reads.Asked, next-followed-reads.Learnt, edges-end-reads.Asked, edges-end-reads.Learnt, follow-from-below t, follow-from.Post)
+follow-at-calls t = (own-end-reads.Asked, own-end-reads.Learnt, visit-reads.Asked, visit-reads.Learnt, is-done-reads.Asked, is-done-reads.Learnt, first-followed-reads.Asked, first-followed-reads.Learnt, edges-end-reads.Asked, edges-end-reads.Learnt, follow-from-below t, follow-from.Post)
 
 -- what `follow-from` is given of the functions that it calls, below the measure t
 abbrev follow-from-calls : ℕ → follow-from-lts.Claims
@@ -106,31 +106,28 @@ follow-at-returns-2 t c =
     let a = s .args in
     rows-then _ _ _ _ _ _ _ (c .before .before .before .before .before .before .visit .ensures) (sym (rows-done _ _ _ _ (sym (c .before .is-done .ensures) ∙ c .if2 .taken))) (own-then t (c .before .before .before .before .before .before) (firstEdge (a .block .now) (a .node .scope)) refl)
 
-follow-at-edges-from-requires : (t : ℕ) → follow-at-lts.Need-edges-from-requires (follow-at-calls t) (follow-at-at t) follow-at.Post
-follow-at-edges-from-requires t c κs = let s = c .before .before .before .before .before .before .before .before .before .before .before .before .before .before in (s .pre .1 .0, s .pre .1 .1 .1 .1 .1 .1 .1 .0 .scope)
-
-follow-at-next-followed-requires : (t : ℕ) → follow-at-lts.Need-next-followed-requires (follow-at-calls t) (follow-at-at t) follow-at.Post
-follow-at-next-followed-requires t c κs = let s = c .before .before .before .before .before .before .before .before .before .before .before .before .before .before .before in (s .pre .1 .0, (s .pre .1 .1 .0, (s .pre .1 .1 .1 .0, (s .pre .1 .1 .1 .1 .0, (s .pre .1 .1 .1 .1 .1 .0, (s .pre .1 .1 .1 .1 .1 .1 .1 .0, c .before .before .before .before .before .before .before .before .before .own-end .ensures .0))))))
+follow-at-first-followed-requires : (t : ℕ) → follow-at-lts.Need-first-followed-requires (follow-at-calls t) (follow-at-at t) follow-at.Post
+follow-at-first-followed-requires t c κs = let s = c .before .before .before .before .before .before .before .before .before .before .before .before .before .before in (s .pre .1 .0, (s .pre .1 .1 .0, (s .pre .1 .1 .1 .0, (s .pre .1 .1 .1 .1 .0, (s .pre .1 .1 .1 .1 .1 .0, (s .pre .1 .1 .1 .1 .1 .1 .1 .0, c .before .before .before .before .before .before .before .before .own-end .ensures .0))))))
 
 follow-at-edges-end-requires : (t : ℕ) → follow-at-lts.Need-edges-end-requires (follow-at-calls t) (follow-at-at t) follow-at.Post
-follow-at-edges-end-requires t c κs = let s = c .before .before .before .before .before .before .before .before .before .before .before .before .before .before .before .before in (s .pre .1 .0, s .pre .1 .1 .1 .1 .1 .1 .1 .0 .scope)
+follow-at-edges-end-requires t c κs = let s = c .before .before .before .before .before .before .before .before .before .before .before .before .before .before .before in (s .pre .1 .0, s .pre .1 .1 .1 .1 .1 .1 .1 .0 .scope)
 
 follow-at-same-length-3 : (t : ℕ) → follow-at-lts.Need-same-length-3 (follow-at-calls t) (follow-at-at t) follow-at.Post
 follow-at-same-length-3 t c = search needs
 
 follow-at-returns-3 : (t : ℕ) → follow-at-lts.Need-returns-3 (follow-at-calls t) (follow-at-at t) follow-at.Post
 follow-at-returns-3 t c =
-    let s = c .before .before .before .before .before .before .before .before .before .before .before .before .before .before .before .before .before .before in
+    let s = c .before .before .before .before .before .before .before .before .before .before .before .before .before .before .before .before .before in
     let a = s .args in
-    rows-as _ _ _ _ _ (c .before .before .before .before .before .before .before .before .before .before .visit .ensures)
-    (rest-last (a .block .now) (a .table .now) (a .ask .now) (a .aim) (pathHops (a .path)) (a .node) (c .before .before .before .edges-from .result) _ _ (own-then t (c .before .before .before .before .before .before .before .before .before .before) (c .before .before .before .edges-from .result) (c .before .before .before .edges-from .ensures)) (a .onward .now) (s .pre .1 .1 .1 .1 .1 .1 .0) (c .before .before .next-followed .result .at) (c .before .before .next-followed .ensures .1) (omega (arith, c .before .edges-end .ensures, c .if3 .taken)))
+    rows-as _ _ _ _ _ (c .before .before .before .before .before .before .before .before .before .visit .ensures)
+    (rest-last (a .block .now) (a .table .now) (a .ask .now) (a .aim) (pathHops (a .path)) (a .node) (firstEdge (a .block .now) (a .node .scope)) _ _ (own-then t (c .before .before .before .before .before .before .before .before .before) (firstEdge (a .block .now) (a .node .scope)) refl) (a .onward .now) (s .pre .1 .1 .1 .1 .1 .1 .0) (c .before .before .first-followed .result .at) (c .before .before .first-followed .ensures .1) (omega (arith, c .before .edges-end .ensures, c .if3 .taken)))
 
 follow-at-follow-from-requires : (t : ℕ) → follow-at-lts.Need-follow-from-requires (follow-at-calls t) (follow-at-at t) follow-at.Post
 follow-at-follow-from-requires t c κs =
-    let s = c .before .before .before .before .before .before .before .before .before .before .before .before .before .before .before .before .before .before .before in
+    let s = c .before .before .before .before .before .before .before .before .before .before .before .before .before .before .before .before .before .before in
     let a = s .args in (
-      lexBy-fst (over (a .block .now)) (suc (a .node .left)) 0 (s .pre .0) (a .node .left) (firstEdge (a .block .now) (suc (a .node .scope)) - c .before .before .before .next-followed .result .at) (omega arith) (over-edges (a .block .now) (suc (a .node .scope)) (c .before .before .before .next-followed .result .at)),
-      (s .pre .1 .0, (s .pre .1 .1 .0, (s .pre .1 .1 .1 .0, (s .pre .1 .1 .1 .1 .0, (s .pre .1 .1 .1 .1 .1 .0, (s .pre .1 .1 .1 .1 .1 .1 .0, (s .pre .1 .1 .1 .1 .1 .1 .1 .0, (s .pre .1 .1 .1 .1 .1 .1 .1 .1 .0, (s .pre .1 .1 .1 .1 .1 .1 .1 .1 .1, (c .before .before .before .next-followed .ensures .0, (c .before .before .before .next-followed .ensures .1 .found (omega (arith, c .before .before .edges-end .ensures, c .before .if3 .left)), omega (arith, c .before .before .before .before .before .before .before .if1 .left)))))))))))),
+      lexBy-fst (over (a .block .now)) (suc (a .node .left)) 0 (s .pre .0) (a .node .left) (firstEdge (a .block .now) (suc (a .node .scope)) - c .before .before .before .first-followed .result .at) (omega arith) (over-edges (a .block .now) (suc (a .node .scope)) (c .before .before .before .first-followed .result .at)),
+      (s .pre .1 .0, (s .pre .1 .1 .0, (s .pre .1 .1 .1 .0, (s .pre .1 .1 .1 .1 .0, (s .pre .1 .1 .1 .1 .1 .0, (s .pre .1 .1 .1 .1 .1 .1 .0, (s .pre .1 .1 .1 .1 .1 .1 .1 .0, (s .pre .1 .1 .1 .1 .1 .1 .1 .1 .0, (s .pre .1 .1 .1 .1 .1 .1 .1 .1 .1, (c .before .before .before .first-followed .ensures .0, (c .before .before .before .first-followed .ensures .1 .found (omega (arith, c .before .before .edges-end .ensures, c .before .if3 .left)), omega (arith, c .before .before .before .before .before .before .if1 .left)))))))))))),
     )
 
 follow-at-same-length-4 : (t : ℕ) → follow-at-lts.Need-same-length-4 (follow-at-calls t) (follow-at-at t) follow-at.Post
@@ -138,10 +135,10 @@ follow-at-same-length-4 t c = search needs
 
 follow-at-returns-4 : (t : ℕ) → follow-at-lts.Need-returns-4 (follow-at-calls t) (follow-at-at t) follow-at.Post
 follow-at-returns-4 t c =
-    let s = c .before .before .before .before .before .before .before .before .before .before .before .before .before .before .before .before .before .before .before .before .before .before in
+    let s = c .before .before .before .before .before .before .before .before .before .before .before .before .before .before .before .before .before .before .before .before .before in
     let a = s .args in
-    rows-then _ _ _ _ _ _ _ (c .before .before .before .before .before .before .before .before .before .before .before .before .before .before .visit .ensures) (c .before .before .follow-from .ensures)
-    (rest-further (a .block .now) (a .table .now) (a .ask .now) (a .aim) (pathHops (a .path)) (a .node) (c .before .before .before .before .before .before .before .edges-from .result) _ (ownRows (a .block .now) (a .table .now) (a .ask .now) (a .aim) (pathHops (a .path)) (a .node) (c .before .before .before .before .before .before .before .before .before .before .before .before .before .before .before .before .own-end .result .cut)) (own-then t (c .before .before .before .before .before .before .before .before .before .before .before .before .before .before) (c .before .before .before .before .before .before .before .edges-from .result) (c .before .before .before .before .before .before .before .edges-from .ensures)) (a .onward .now) (s .pre .1 .1 .1 .1 .1 .1 .0) (c .before .before .before .before .before .before .next-followed .result .at) (c .before .before .before .before .before .before .next-followed .ensures .1))
+    rows-then _ _ _ _ _ _ _ (c .before .before .before .before .before .before .before .before .before .before .before .before .before .visit .ensures) (c .before .before .follow-from .ensures)
+    (rest-further (a .block .now) (a .table .now) (a .ask .now) (a .aim) (pathHops (a .path)) (a .node) (firstEdge (a .block .now) (a .node .scope)) _ (ownRows (a .block .now) (a .table .now) (a .ask .now) (a .aim) (pathHops (a .path)) (a .node) (c .before .before .before .before .before .before .before .before .before .before .before .before .before .before .before .own-end .result .cut)) (own-then t (c .before .before .before .before .before .before .before .before .before .before .before .before .before) (firstEdge (a .block .now) (a .node .scope)) refl) (a .onward .now) (s .pre .1 .1 .1 .1 .1 .1 .0) (c .before .before .before .before .before .before .first-followed .result .at) (c .before .before .before .before .before .before .first-followed .ensures .1))
 
 follow-from-edge-at-requires : (t : ℕ) → follow-from-lts.Need-edge-at-requires (follow-from-calls t) (follow-from-at t) follow-from.Post
 follow-from-edge-at-requires t c κs = let s = c .before .before .before .before .before in s .pre .1 .0
@@ -301,8 +298,7 @@ pub +follow-at+follow-from-spec : {M : Type 1} → statement M
     (follow-at-is-done-requires t)
     (follow-at-same-length-2 t)
     (follow-at-returns-2 t)
-    (follow-at-edges-from-requires t)
-    (follow-at-next-followed-requires t)
+    (follow-at-first-followed-requires t)
     (follow-at-edges-end-requires t)
     (follow-at-same-length-3 t)
     (follow-at-returns-3 t)
