@@ -80,7 +80,7 @@ extern "C" {
 /* Stack that serves every call, in bytes. A walk has at most a frame for each edge and each scope, of about 1,400 and 900
  * bytes, and a search that it asks for as many again, of about 750 bytes, above some 120,000 bytes of tables: counted from the
  * library as it is built, not proved. The host test runs the files that go deepest on a thread with this much; 640 KiB
- * served them too. */
+ * served them too. tewhoranu_rules walks nothing: it holds two tables, some 200,000 bytes. */
 #define TEWHORANU_STACK (3 * 512 * 1024)
 
 /* A step of a path: the label's letter (A to Z) and the scope that it comes to (0 to 63). */
@@ -199,7 +199,10 @@ uint64_t tewhoranu_to_new(const uint8_t *text, size_t text_length, uint8_t *out,
 
 /* Writes the file with the path rules of an expression in the place of its own: transitions and accepting states that
  * lead to acceptance on just the words of the expression's language, by the fewest states; all else of the file, its
- * form too, stays. An expression has labels of the file, `|`, `*` and round brackets, at most ten letters and 64 bytes.
+ * form too, stays. States are numbered from 0, the start, as a breadth-first walk by label number first meets them.
+ * An expression has labels of the file, `|`, `*` and round brackets, at most ten letters and 64 bytes. `*` binds closest,
+ * `|` loosest; a bracket pair and each side of `|` hold something; a star stands behind a label, a bracket pair or a star;
+ * there are no blanks, and the empty text is none.
  * Answers 64 and the number of bytes, at most TEWHORANU_TEXT; bytes behind them stay as they were.
  * Refuses by 1 to 6 as tewhoranu_read does, then 12 where it is no such expression, then 13 where it needs more than
  * 16 states, then 9. */

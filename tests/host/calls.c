@@ -188,6 +188,7 @@ int main(int argc, char **argv)
     EXPECT(!tewhoranu_refused(ruled(length, "(P|I)*P(P|I)(P|I)(P|I)", sizeof out)));
     out[0] = 'x';
     EXPECT(ruled(length, "(P|I)*P(P|I)(P|I)(P|I)P", 0) == TEWHORANU_TOO_MANY_STATES);
+    EXPECT(ruled(length, "P|(PPP)*|(PPPPP)*", 0) == TEWHORANU_TOO_MANY_STATES);
     EXPECT(ruled(length, "", 0) == TEWHORANU_NO_EXPRESSION && ruled(length, "P|", sizeof out) == TEWHORANU_NO_EXPRESSION);
     EXPECT(ruled(length, "Z", sizeof out) == TEWHORANU_NO_EXPRESSION);
     EXPECT(ruled(length - 1, "", 0) == TEWHORANU_MALFORMED && ruled(TEWHORANU_TEXT + 1, "", 0) == TEWHORANU_TOO_LONG);

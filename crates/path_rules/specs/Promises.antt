@@ -16,7 +16,8 @@ use Rattle.path_rules.specs.Rules.{rulesOf, nextIn, acceptsIn}
 abbrev pub AtLeast : ℕ → (List ℕ → Type 0) → ℕ → Type 0
 AtLeast n P m = (k : ℕ) (next : ℕ → ℕ → Option ℕ) (accepts : ℕ → Bool) → Decides n P k next accepts → m ≤ k
 
--- of a text that is an expression, over labels of which there are at most eight
+-- Of a text that is an expression, over labels of which there are at most eight. Cells of states
+-- that are not below `states` mean nothing here; whoever makes rows of the table leaves them out.
 pub record RowPromises (labels text : List ℕ) (e : Expr) : Type 0 where
   -- 13 exactly if every table of the language needs more than 16 states; else nothing refuses
   pub too-many : (rulesOf labels text .refusal ≡ 13) ↔ AtLeast (length labels) (In e) 17

@@ -70,14 +70,14 @@ module _ (next : List ℕ) (states labels : ℕ) where
   rows = transitionsTo next states labels 128
 
   -- what a row of the automaton is
-  of-cell : (u : Transition) → u ∈ map transitionOf rows → (j : ℕ) × (j < 128) × (u .state ≡ j / 8) × (u .label ≡ j % 8) × (u .next ≡ to j) × (to j < 16) × (j % 8 < labels)
+  of-cell : (u : Transition) → u ∈ map transitionOf rows → (j : ℕ) × (j < 128) × (u .state ≡ j / 8) × (u .label ≡ j % 8) × (u .next ≡ to j) × (to j < 16) × (j % 8 < labels) × (j / 8 < states)
   unfolding transitionOf transitionsTo
   of-cell u m =
       let a = map-elim transitionOf rows m in
       let r = rows-of _ 128 (a .0) (a .1) in
       let e = transition-is next states labels (r .0) (a .0) (r .2) in
       let is : u ≡ transitionOf (transition (r .0) (to (r .0))) = a .2 ∙ ap transitionOf (e .0) in
-      (r .0, r .1, ap (λ (x : Transition). x .state) is, ap (λ (x : Transition). x .label) is, ap (λ (x : Transition). x .next) is, e .3, e .2)
+      (r .0, r .1, ap (λ (x : Transition). x .state) is, ap (λ (x : Transition). x .label) is, ap (λ (x : Transition). x .next) is, e .3, e .2, e .1)
 
   pub next-is : (q l : ℕ) → q < states → q < 16 → l < labels → l < 8 → nextBy (map transitionOf rows) q l ≡ target (to (q * 8 + l))
   unfolding target transitionOf transitionsTo transitionAt isTransition
@@ -111,12 +111,28 @@ module _ (next : List ℕ) (states labels : ℕ) where
       next-none (map transitionOf rows) q l
       (λ u m a b. let c = of-cell u m in let at = c .3 in let low = c .6 in omega arith)
 
+  pub no-state : (q l : ℕ) → states ≤ q → nextBy (map transitionOf rows) q l ≡ none
+  no-state q l h =
+      next-none (map transitionOf rows) q l
+      (λ u m a b. let c = of-cell u m in let at = c .2 in let low = c .7 in omega arith)
+
 module _ (cells : List ℕ) (states : ℕ) where
   abbrev cell : ℕ → ℕ
   cell q = getD cells q 0
 
   abbrev firsts : List ℕ
   firsts = map (λ (row : Row). value row 0) (acceptsTo cells states 16)
+
+  -- what an accepting state is
+  of-accepting : (a : ℕ) → a ∈ firsts → (a < states) × (eqb (cell a) 1 ≡ true)
+  unfolding acceptsTo
+  of-accepting a m =
+      let b = map-elim (λ (row : Row). value row 0) (acceptsTo cells states 16) m in
+      let r = rows-of _ 16 (b .0) (b .1) in
+      let i = accept-is cells states (r .0) (b .0) (r .2) in
+      let at : a ≡ r .0 = b .2 ∙ ap (λ (row : Row). value row 0) (i .0) in
+      let less : r .0 < states = i .1 in
+      (omega arith, ap (λ (x : ℕ). eqb (cell x) 1) at ∙ i .2)
 
   pub accepts-is : (q : ℕ) → q < states → q < 16 → anyOf (eqb q) firsts ≡ eqb (cell q) 1
   unfolding acceptsTo acceptAt isAccepting
@@ -127,15 +143,17 @@ module _ (cells : List ℕ) (states : ℕ) where
       ∙ sym y)
       (λ (z : eqb (cell q) 1 ≡ false).
       anyOf-false (eqb q) firsts
-      (λ a m e.
-      let b = map-elim (λ (row : Row). value row 0) (acceptsTo cells states 16) m in
-      let r = rows-of _ 16 (b .0) (b .1) in
-      let i = accept-is cells states (r .0) (b .0) (r .2) in
-      let at : a ≡ r .0 = b .2 ∙ ap (λ (row : Row). value row 0) (i .0) in
-      let is : r .0 ≡ q = sym at ∙ sym (eqb-true q a e) in
-      true-false (i .2) (ap (λ (x : ℕ). eqb (cell x) 1) is ∙ z))
+      (λ a m e. true-false (of-accepting a m .1) (ap (λ (x : ℕ). eqb (cell x) 1) (sym (eqb-true q a e)) ∙ z))
       ∙ sym z)
       (Two (eqb (cell q) 1))
+
+  pub accepts-none : (q : ℕ) → states ≤ q → anyOf (eqb q) firsts ≡ false
+  accepts-none q h =
+      anyOf-false (eqb q) firsts
+      (λ a m e. let is : q ≡ a = eqb-true q a e in let less = of-accepting a m .0 in omega arith)
+
+pub none-some : (x : ℕ) → _≡_ {A = Option ℕ} none (some x) → ⊥
+none-some x e = let z : _≡_ {A = ℕ} 0 1 = cc in omega arith
 
 -- two tables that agree on the states below m and the labels below n
 module _ (n m : ℕ) (P : List ℕ → Type 0) (f g : ℕ → ℕ → Option ℕ) (a b : ℕ → Bool)
@@ -145,9 +163,6 @@ module _ (n m : ℕ) (P : List ℕ → Type 0) (f g : ℕ → ℕ → Option ℕ
 
   some-same : (x y : ℕ) → _≡_ {A = Option ℕ} (some x) (some y) → x ≡ y
   some-same x y e = cc
-
-  none-some : (x : ℕ) → _≡_ {A = Option ℕ} none (some x) → ⊥
-  none-some x e = let z : _≡_ {A = ℕ} 0 1 = cc in omega arith
 
   leads-same : (w : List ℕ) → Over n w → (q : ℕ) → q < m → Same q w
   unfolding Same leadsTo

@@ -3,6 +3,7 @@ use Prim.Native.Nat.{ℕ, zero, suc, _+_, _*_, _/_, _%_, _≤_, _<_}
 use mathlib.Core.Path.{_≡_, refl, sym, ap, subst, _∙_}
 use mathlib.Core.Bool.{Bool, true, false}
 use mathlib.Core.Logic.{⊎-elim}
+use mathlib.Core.Option.{some}
 use mathlib.Core.List.{List, [], _∷_, _++_, map}
 use native.Mathlib.Omega.{arith}
 use lib.Dec.{eqb, ltb}
@@ -10,7 +11,7 @@ use lib.ListN.{length, getD, take}
 use lib.Seq.{getD-take, length-take-le, ext-getD}
 use borrow.Author.Tests.{eqb-true, eqb-false, lt-ltb, ltb-true, ltb-false}
 use Rattle.scope_graph.specs.Rows.{anyOf, nextBy, language}
-use Rattle.scope_graph.proofs.Lists.{Two}
+use Rattle.scope_graph.proofs.Lists.{Two, true-false}
 use Rattle.text_field.specs.Outcome.{done}
 use Rattle.text_field.proofs.OutcomeLaws.{not-done}
 use Rattle.graph_file.specs.Format.{transitionSection, acceptSection}
@@ -32,7 +33,7 @@ use Rattle.ruled.specs.Promises.{IsExpression, cellOf, cellsIn, HasRules
 use Rattle.ruled.proofs.LetterLaws.{letters-most, labels-are}
 use Rattle.ruled.proofs.RowsFormed.{form-stays, others-stay, transitions-are, accepts-are}
 use Rattle.ruled.proofs.Refusing.{of-refused, of-done}
-use Rattle.ruled.proofs.Automaton.{next-is, no-label, accepts-is, decides-same, decides-fewer}
+use Rattle.ruled.proofs.Automaton.{next-is, no-label, no-state, accepts-is, accepts-none, none-some, decides-same, decides-fewer}
 use Rattle.ruled.proofs.Cells.{next-size, same-default, leads-nowhere}
 
 -- the cells that a walk met are 16 at most
@@ -66,6 +67,30 @@ module _ (expression cells : List ℕ) (was : WasRead cells) where
   letters-stay : lettersOf after ≡ lettersOf cells
   unfolding lettersOf
   letters-stay = ap (λ (rows : List Row). map (λ (row : Row). value row 0) rows) (others-stay cells was r 0 (omega arith) (λ e. omega arith) (λ e. omega arith))
+
+  -- a state that is not below the number of states has no row
+  goes-on : (q l to : ℕ) → language (rulesOf after) .next q l ≡ some to → q < r .states
+  unfolding rulesOf transitionRows
+  goes-on q l to e =
+      ⊎-elim (λ (y : ltb q (r .states) ≡ true). ltb-true q (r .states) y)
+      (λ (z : ltb q (r .states) ≡ false).
+      absurd
+      (none-some to
+      (sym (no-state (r .next) (r .states) (length (rowsIn 0 cells)) q l (ltb-false q (r .states) z))
+      ∙ ap (λ (rows : List Row). nextBy (map transitionOf rows) q l) (sym (transitions-are cells was r))
+      ∙ e)))
+      (Two (ltb q (r .states)))
+
+  accepts-below : (q : ℕ) → language (rulesOf after) .accepts q ≡ true → q < r .states
+  unfolding rulesOf acceptRows
+  accepts-below q e =
+      ⊎-elim (λ (y : ltb q (r .states) ≡ true). ltb-true q (r .states) y)
+      (λ (z : ltb q (r .states) ≡ false).
+      absurd
+      (true-false e
+      (ap (λ (rows : List Row). anyOf (eqb q) (map (λ (row : Row). value row 0) rows)) (accepts-are cells was r)
+      ∙ accepts-none (r .accepts) (r .states) q (ltb-false q (r .states) z))))
+      (Two (ltb q (r .states)))
 
   module _ (few : r .states ≤ 16) where
     next-same : (q l : ℕ) → q < r .states → l < length (lettersOf cells) → language (rulesOf after) .next q l ≡ made.nextIn r q l
@@ -137,6 +162,8 @@ module _ (expression cells : List ℕ) (was : WasRead cells) where
         fewest = subst (λ (ls : List ℕ). AtLeast (length ls) (In e) (r .states)) (sym letters-stay) (p .fewest none);
         few = p .few;
         numbered = in-sequence (p .few) (p .numbered none);
+        met-goes-on = goes-on;
+        met-accepts = accepts-below;
       }
 
 -- what is put out

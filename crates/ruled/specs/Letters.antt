@@ -1,5 +1,4 @@
--- How the code finds the labels' letters, and where the two sections stand. Assumes nothing: these
--- are definitions.
+-- How the code finds the labels' letters and their number. Assumes nothing: these are definitions.
 use Prim.Native.Nat.{ℕ, _+_, _-_, _*_, _/_, _%_}
 use mathlib.Core.List.{List}
 use lib.ListN.{getD}

@@ -2,6 +2,7 @@
 -- statements; their values are in proofs/Promises.antt. Assumes nothing.
 use Prim.Native.Nat.{ℕ, _*_, _/_, _%_, _≤_, _<_}
 use mathlib.Core.Path.{_≡_}
+use mathlib.Core.Bool.{true}
 use mathlib.Core.Logic.{_⊎_, _↔_}
 use mathlib.Core.Option.{Option, some, none}
 use mathlib.Core.List.{List}
@@ -47,12 +48,15 @@ cellsIn next states = tabulate (λ k. cellOf (next (k / 8) (k % 8))) (states * 8
 -- A table that has the rules of an expression: of the words over the labels its automaton leads to
 -- an accepting state on those of the expression's language and on no other, by states below
 -- `states`; no table that does has fewer, and a breadth-first walk by label number over this
--- automaton meets them in the sequence of their numbers, 0 first.
+-- automaton meets them in the sequence of their numbers, 0 first. It has no row of another state:
+-- none goes on from one, and none accepts.
 pub record HasRules (cells : List ℕ) (e : Expr) (states : ℕ) : Type 0 where
   pub decides : Decides (length (lettersOf cells)) (In e) states (language (rulesOf cells) .next) (language (rulesOf cells) .accepts)
   pub fewest : AtLeast (length (lettersOf cells)) (In e) states
   pub few : states ≤ 16
   pub numbered : Met (cellsIn (language (rulesOf cells) .next) states) states
+  pub met-goes-on : (q l r : ℕ) → language (rulesOf cells) .next q l ≡ some r → q < states
+  pub met-accepts : (q : ℕ) → language (rulesOf cells) .accepts q ≡ true → q < states
 
 -- what is put out is read as a table of the same form, with the same rows in all other sections,
 -- that has the rules of the expression

@@ -7,6 +7,7 @@ ghost use mathlib.Core.List.{[], _∷_};
 ghost use Prim.Native.Nat.{_+_, _≤_};
 ghost use lib.ListN.{length};
 ghost use Rattle.text_field.specs.Buffer.{Buf, puts};
+ghost use Rattle.graph_file.specs.Format.{transitionSection, acceptSection};
 ghost use Rattle.graph_file.specs.Formed.{cellsOf};
 ghost use Rattle.ruled.specs.Ruled.{isTransition, isAccepting, transitionAt, acceptAt, transitionsTo, acceptsTo};
 
@@ -70,7 +71,7 @@ fn put_transition(
     n: usize,
 ) -> usize
     requires room { ⌜ n + 6 ≤ length (now table) ⌝ }
-    ensures written { λ r. ⌜ _≡_ {A = Buf} (now (table .exit), r) (puts (now (table .entry), n) (cellsOf 2 (transitionAt states labels k to))) ⌝ }
+    ensures written { λ r. ⌜ _≡_ {A = Buf} (now (table .exit), r) (puts (now (table .entry), n) (cellsOf transitionSection (transitionAt states labels k to))) ⌝ }
     ensures place { λ r. ⌜ r ≤ n + 6 ⌝ }
 {
     if is_transition(to, k, states, labels) {
@@ -91,7 +92,7 @@ pub fn put_transitions(
     n: usize,
 ) -> usize
     requires room { ⌜ n + 768 ≤ length (now table) ⌝ }
-    ensures written { λ r. ⌜ _≡_ {A = Buf} (now (table .exit), r) (puts (now (table .entry), n) (cellsOf 2 (transitionsTo next states labels 128))) ⌝ }
+    ensures written { λ r. ⌜ _≡_ {A = Buf} (now (table .exit), r) (puts (now (table .entry), n) (cellsOf transitionSection (transitionsTo next states labels 128))) ⌝ }
     ensures place { λ r. ⌜ r ≤ n + 768 ⌝ }
 {
     let mut at = n;
@@ -116,7 +117,7 @@ fn is_accepting(cell: u64, q: usize, states: usize) -> bool
 // The row of state q, if it accepts: the place after it.
 fn put_accept(cell: u64, q: usize, states: usize, table: &mut [u64], n: usize) -> usize
     requires room { ⌜ n + 6 ≤ length (now table) ⌝ }
-    ensures written { λ r. ⌜ _≡_ {A = Buf} (now (table .exit), r) (puts (now (table .entry), n) (cellsOf 3 (acceptAt states q cell))) ⌝ }
+    ensures written { λ r. ⌜ _≡_ {A = Buf} (now (table .exit), r) (puts (now (table .entry), n) (cellsOf acceptSection (acceptAt states q cell))) ⌝ }
     ensures place { λ r. ⌜ r ≤ n + 6 ⌝ }
 {
     if is_accepting(cell, q, states) {
@@ -129,7 +130,7 @@ fn put_accept(cell: u64, q: usize, states: usize, table: &mut [u64], n: usize) -
 // The accepting states: the place after them.
 pub fn put_accepts(accepts: [u64; 16], states: usize, table: &mut [u64], n: usize) -> usize
     requires room { ⌜ n + 96 ≤ length (now table) ⌝ }
-    ensures written { λ r. ⌜ _≡_ {A = Buf} (now (table .exit), r) (puts (now (table .entry), n) (cellsOf 3 (acceptsTo accepts states 16))) ⌝ }
+    ensures written { λ r. ⌜ _≡_ {A = Buf} (now (table .exit), r) (puts (now (table .entry), n) (cellsOf acceptSection (acceptsTo accepts states 16))) ⌝ }
     ensures place { λ r. ⌜ r ≤ n + 96 ⌝ }
 {
     let mut at = n;

@@ -7,7 +7,7 @@ from cases.faults import shown
 from cases.gyms import EXAMPLE, FORMS, OLD_FORM, SMALLEST, changed, largest, realistic, refused_files, turns_text
 from cases.listing import shown as put_out
 from cases.turns import many_turns
-from reference.gym_file import Refused, read
+from reference.gym_file import ACCEPT, STEP, Refused, read
 from reference.path_rules import ruled, table
 
 
@@ -19,21 +19,31 @@ def answered(text, expression):
 
 
 def tried(letters, expression):
-    """The reference's own table, on words of the letters that occur: it accepts exactly what Python's `re` matches, which takes no star behind a star."""
+    """The reference's own table, on words of the letters that occur, and on words of these and one that is listed and does not occur: it accepts exactly
+    what Python's `re` matches, which takes no star behind a star."""
     rows, accepts = table(expression, letters)
     next_ = {(q, letter): to for q, letter, to in rows}
     pattern = re.compile(re.sub(rb"\*+", b"*", expression))
     used = [letter for letter in letters if letter in expression]
-    for n in range({1: 8, 2: 5, 3: 3}.get(len(used), 2) + 1):
-        for word in itertools.product(used, repeat=n):
-            q = 0
-            for letter in word:
-                q = next_.get((q, letter))
-            assert (q in accepts) == bool(pattern.fullmatch(b"".join(word))), (letters, expression, word)
+    other = [letter for letter in letters if letter not in expression][:1]
+    for some in (used, used + other) if other else (used,):
+        for n in range({1: 8, 2: 5, 3: 3}.get(len(some), 2) + 1):
+            for word in itertools.product(some, repeat=n):
+                q = 0
+                for letter in word:
+                    q = next_.get((q, letter))
+                assert (q in accepts) == bool(pattern.fullmatch(b"".join(word))), (letters, expression, word)
+
+
+def counted(g):
+    """How many states, transitions and accepting states a graph has."""
+    steps, accepts = g.rows[STEP], g.rows[ACCEPT]
+    return len({q for row in steps for q in (row[0], row[2])} | {row[0] for row in accepts}), len(steps), len(accepts)
 
 
 def rules(title, text, expression, due=None, room=None):
-    """A file with the rules of an expression. `due` is what the case is there for: the file, a refusal's number, or 0 for none."""
+    """A file with the rules of an expression. `due` is what the case is there for: the file, a refusal's number, or 0 for none; or how many states,
+    transitions and accepting states the file has."""
     expression = bytes_of(expression)
     out = answered(text, expression)
     if room is None:
@@ -41,6 +51,8 @@ def rules(title, text, expression, due=None, room=None):
     number = 9 if isinstance(out, bytes) and room < len(out) else out
     if isinstance(due, int):
         assert due == (number if isinstance(number, int) else 0), (title, due, number)
+    elif isinstance(due, tuple):
+        assert due == counted(read(out)), (title, due, out)
     elif due is not None:
         assert due == out, (title, due, out)
     if isinstance(out, bytes):
@@ -61,6 +73,9 @@ def given_cases():
     rules("P*I* in place of more rows", with_rules(EXAMPLE, ["%d %s 15" % (q, l) for q in range(16) for l in "IP"], [str(q) for q in range(16)]), "P*I*", text)
     turned = changed(EXAMPLE, s0=["P", "I"], s1=["$ P"], s2=["0 P 1"], s5=["1 P 0"])
     rules("labels P I: numbered by their place", OLD_FORM.text(turned), "P*I*", with_rules(turned, ["0 P 0", "0 I 1", "1 I 1"], ["0", "1"]))
+    # over I P their states have other numbers, as below
+    for expression, steps, accepts in [("PI|IP", ["0 P 1", "0 I 2", "1 I 3", "2 P 3"], ["3"]), ("P*|I", ["0 P 1", "0 I 2", "1 P 1"], ["0", "1", "2"])]:
+        rules("labels P I, %s: states numbered by the labels' places" % expression, OLD_FORM.text(turned), expression, with_rules(turned, steps, accepts))
     for expression, steps, accepts in [
         ("P**", ["0 P 0"], ["0"]), ("P*", ["0 P 0"], ["0"]), ("((P))", ["0 P 1"], ["1"]), ("P", ["0 P 1"], ["1"]), ("(P|I)*", ["0 I 0", "0 P 0"], ["0"]),
         ("P|I", ["0 I 1", "0 P 1"], ["1"]), ("PI", ["0 P 1", "1 I 2"], ["2"]), ("IP", ["0 I 1", "1 P 2"], ["2"]), ("P|PP", ["0 P 1", "1 P 2"], ["1", "2"]), ("PP*", ["0 P 1", "1 P 1"], ["1"]),
@@ -96,10 +111,18 @@ def refused_cases():
         ("66 bytes", "P" * 66, 12), ("4000 bytes", "P*" * 2000, 12), ("ten letters, each starred", "P*I*" * 5, 0), ("ten sides", "P|I" + "|P" * 8, 0), ("eleven sides", "P|I" + "|P" * 9, 12),
     ]:  # fmt: skip
         rules(title, text, expression, due)
-    rules("16 states", text, "(P|I)*P(P|I)(P|I)(P|I)", 0)
+    # what the last four letters were decides: 16 states, two ways from each, half of them accepting
+    rules("16 states", text, "(P|I)*P(P|I)(P|I)(P|I)", (16, 32, 8))
     rules("16 states and one letter more", text, "(P|I)*P(P|I)(P|I)(P|I)P", 13)
-    rules("16 states by the other label", text, "(P|I)*I(P|I)(P|I)(P|I)", 0)
+    rules("16 states by the other label", text, "(P|I)*I(P|I)(P|I)(P|I)", (16, 32, 8))
     rules("16 states, the other label behind", text, "(P|I)*P(P|I)(P|I)(P|I)I", 13)
+    # two states before a round of 15, as P is a word and P 16 times over is none
+    rules("17 states of one label", text, "P|(PPP)*|(PPPPP)*", 13)
+    for title, expression in [
+        ("eleven letters", "(P|I)*P(P|I)(P|I)(P|I)(P|I)"), ("a letter not listed", "(P|I)*P(P|I)(P|I)(P|I)Z"), ("a bracket more", "(P|I)*P(P|I)(P|I)(P|I)P)"),
+        ("65 bytes", "(P|I)" + "*" * 43 + "P(P|I)(P|I)(P|I)P"),
+    ]:  # fmt: skip
+        rules("12 before 13, %s" % title, text, expression, 12)
     for room in (0, 1, 100):
         rules("13 before 9, %d bytes" % room, text, "(P|I)*P(P|I)(P|I)(P|I)P", 13, room)
         rules("12 before 9, %d bytes" % room, text, "P(", 12, room)
@@ -123,9 +146,10 @@ def label_cases():
     big = OLD_FORM.text(largest())
     for expression, due in [
         ("Q|W|E|R|T|Y|U|I", 0), ("(Q|W|E|R|T|Y|U|I)*", 0), ("QWERTYUI", 0), ("IUYTREWQ", 0), ("(QW|ER)*(TY|UI)*", 0), ("QWERTYUIQW", 0), ("QWERTYUIQWE", 12), ("A", 12), ("QA", 12), ("I*U*Y*T*R*E*W*Q*", 0),
-        ("(Q|W)*Q(Q|W)(Q|W)(Q|W)", 0), ("(Q|W)*Q(Q|W)(Q|W)(Q|W)E", 13), ("(QWERTYUIQW)*", 0),
+        ("(Q|W)*Q(Q|W)(Q|W)(Q|W)", (16, 32, 8)), ("(QWERTYUIQW)*", 0),
     ]:  # fmt: skip
         rules("%s over the largest graph" % expression, big, expression, due)
+    rules("17 states, 16 and the one behind E", big, "(Q|W)*Q(Q|W)(Q|W)(Q|W)E", 13)
     one = OLD_FORM.text(changed(SMALLEST, s0=["P"]))
     for n in range(1, 10):
         rules("P %d times over, a star about all" % n, one, "(" + "P" * n + ")*", 0)

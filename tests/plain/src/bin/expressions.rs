@@ -3,9 +3,10 @@
 //!
 //! Is an expression taken exactly if it is well formed, by a test of neighbouring bytes and
 //! brackets; does the table of the file that comes out lead to acceptance on precisely the words
-//! that a matcher accepts, words tried one by one; does it have the fewest states, each met in the
-//! sequence of its number; is 13 shown by so many words that no two lead to one state; and is
-//! the rest of the file as it was? Nothing here is shared with the derivatives.
+//! that a matcher accepts, words tried one by one, of the letters that occur and of these and one
+//! that is listed and does not; does it have the fewest states, each met in the sequence of its
+//! number; is 13 shown by so many words that no two lead to one state; and is the rest of the file
+//! as it was? Nothing here is shared with the derivatives.
 
 use plain::answers;
 use plain::gym::{Gym, LONGEST};
@@ -152,15 +153,13 @@ fn words(letters: &[u8], longest: usize) -> Vec<Vec<u8>> {
     all
 }
 
-/// Words of the letters that occur, as long as they are not too many.
-fn tried(letters: &[u8], expression: &[u8], most: usize) -> Vec<Vec<u8>> {
-    let mut used: Vec<u8> = letters.to_vec();
-    used.retain(|l| expression.contains(l));
+/// Words of the letters, as long as they are not too many.
+fn tried(letters: &[u8], most: usize) -> Vec<Vec<u8>> {
     let mut longest = 1;
-    while longest < 12 && used.len().pow(longest as u32 + 1) <= most {
+    while longest < 12 && letters.len().pow(longest as u32 + 1) <= most {
         longest += 1;
     }
-    words(&used, longest)
+    words(letters, longest)
 }
 
 /// The state that a word leads to.
@@ -265,6 +264,10 @@ fn check(seed: usize, c: &mut Counts) {
     let before = Gym::parse(&text).expect("a gym");
     let letters = before.labels.clone();
     let expression = expression(&mut rng, &letters);
+    let (used, others): (Vec<u8>, Vec<u8>) = letters
+        .iter()
+        .copied()
+        .partition(|l| expression.contains(l));
     let mut out = vec![b'#'; LONGEST];
     let answer = answers::rules(&text, &expression, &mut out);
     if (answer == Err(12)) == well_formed(&expression, &letters) {
@@ -279,7 +282,7 @@ fn check(seed: usize, c: &mut Counts) {
             c.refused_13 += 1;
             // few words show it mostly
             let shows = |most| {
-                let behind = tried(&letters, &expression, most);
+                let behind = tried(&used, most);
                 needs_more(&expression, &letters, &behind)
             };
             if ![64, 260, 2100].into_iter().any(shows) {
@@ -305,7 +308,12 @@ fn check(seed: usize, c: &mut Counts) {
         Ok(states) => c.states[states] += 1,
         Err(what) => fail(seed, what, made, &expression),
     }
-    for word in tried(&letters, &expression, 300) {
+    let with_other = [&used[..], &others[..others.len().min(1)]].concat();
+    let both: BTreeSet<_> = [tried(&used, 300), tried(&with_other, 300)]
+        .concat()
+        .into_iter()
+        .collect();
+    for word in both {
         c.words += 1;
         let accepted = led(&gym, &word).is_some_and(|q| gym.accepts.contains(&q));
         c.accepted_words += usize::from(accepted);
