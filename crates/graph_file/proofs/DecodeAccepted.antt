@@ -17,7 +17,8 @@ use Rattle.scope_graph.specs.Order.{endOf}
 use Rattle.scope_graph.specs.Listing.{Pairwise, EdgeBefore, MarkBefore, Accepted}
 use Rattle.scope_graph.proofs.Lists.{here, there, and-left, and-right, map-elim}
 use Rattle.scope_graph.proofs.Rows.{language-laws}
-use Rattle.graph_file.specs.Format.{Content, state, scope, mark, count, label, end, field, labels, transitions, accepts, edges, declarations, openPairs, sections, sectionAt, hasKinds, hasTurns, edgeShape, declarationShape, queryShape, shapesOf, shapeAt, labelSection, pairSection, transitionSection, acceptSection, countSection, edgeSection, declarationSection, openSection, querySection, turnCount}
+use Rattle.text_field.specs.Bytes.{isLower}
+use Rattle.graph_file.specs.Format.{Content, state, scope, mark, count, label, end, plainKind, field, labels, transitions, accepts, edges, declarations, openPairs, sections, sectionAt, hasKinds, hasTurns, edgeShape, declarationShape, queryShape, shapesOf, shapeAt, labelSection, pairSection, transitionSection, acceptSection, countSection, edgeSection, declarationSection, openSection, querySection, turnCount}
 use Rattle.graph_file.specs.Admission.{Row, value, blank, contentInRange, itemInRange, inRange}
 use Rattle.graph_file.specs.Decode.{rowsIn, lettersOf, orderPairOf, transitionOf, rulesOf, nameAt, edgeOf, declarationOf, openPairOf, queryOf, scopesOf, graphOf, opensOf, queriesOf}
 use Rattle.graph_file.specs.Accepted.{EndListed, TransitionBefore, AcceptedTable, ReadAccepted, WrittenAccepted}
@@ -26,6 +27,7 @@ use Rattle.graph_file.proofs.DecodeWritten.{read-admitted, written-admi
 use Rattle.graph_file.proofs.DecodeRows.{item-in, Ascends, KeyBefore}
 use Rattle.graph_file.proofs.DecodeTable.{table-limit, table-count, table-in-range, table-ascends, table-order, table-letters}
 use Rattle.graph_file.proofs.DecodeEdges.{edge-key, old-turns, turn-in, one-turn}
+use Rattle.graph_file.proofs.DecodeKinds.{declared-lower, declared-plain, sought-lower, sought-plain}
 use Rattle.graph_file.proofs.DecodePlaces.{table-rows, table-length, table-most}
 use Rattle.graph_file.proofs.DecodeOrder.{endOf-before, endOf-listed, order-passes}
 
@@ -199,7 +201,7 @@ module _ (cells : List ℕ) (t : AdmittedTable cells) where
   }
 
   pub table-accepted : AcceptedTable cells
-  unfolding rulesOf graphOf opensOf queriesOf orderPairOf transitionOf edgeOf declarationOf openPairOf queryOf lettersOf sectionAt sections labels transitions shapeAt shapesOf
+  unfolding rulesOf graphOf opensOf queriesOf orderPairOf transitionOf edgeOf nameAt declarationOf openPairOf queryOf lettersOf sectionAt sections labels transitions shapeAt shapesOf
   table-accepted = record {
     rules = rules-pass;
     accepted = accepted;
@@ -219,6 +221,10 @@ module _ (cells : List ℕ) (t : AdmittedTable cells) where
         (λ row m n e. let same : value row 3 ≡ n = cc in subst (λ v. v < turnCount) same (turn-in cells t row m));
     old-line = λ n. each asEdge (λ (e : Edge L). e .step .turn ≡ some 0) (rowsIn edgeSection cells)
         (λ row m. ap (λ (v : ℕ). some v) (old-turns cells t n row m));
+    declared-kinds = each asDeclaration (λ (d : Declaration L). isLower (d .name .kind) ≡ true) (rowsIn declarationSection cells) (declared-lower cells t);
+    sought-kinds = each (queryOf (rulesOf cells)) (λ (q : Query L). isLower (q .name .kind) ≡ true) (rowsIn querySection cells) (sought-lower cells t);
+    old-declared = λ n. each asDeclaration (λ (d : Declaration L). d .name .kind ≡ plainKind) (rowsIn declarationSection cells) (declared-plain cells t n);
+    old-sought = λ n. each (queryOf (rulesOf cells)) (λ (q : Query L). q .name .kind ≡ plainKind) (rowsIn querySection cells) (sought-plain cells t n);
     marks = each asDeclaration (λ (d : Declaration L). d .mark < 65536) (rowsIn declarationSection cells)
         (mark-in declarationSection (omega arith) 4 declared-mark);
     open-at = each asOpenPair (λ (o : OpenPair L). o .at < scopesOf cells) (rowsIn openSection cells) (scope-in openSection (omega arith) 0 here);

@@ -41,11 +41,12 @@ pub mod DecodeTable
 pub mod DecodeOrder
 pub mod DecodePlaces
 pub mod DecodeEdges
-pub mod DecodeAccepted
 pub mod FormedAdmitted
 pub mod FormedWriting
 pub mod FormedTable
 pub mod DecodeFormed
+pub mod DecodeKinds
+pub mod DecodeAccepted
 pub mod FormedForms
 pub mod FormedChanges
 pub mod DecodeExample

@@ -8,7 +8,6 @@ use mathlib.Core.List.{List, [], _∷_}
 use native.Mathlib.Omega.{arith}
 use lib.Dec.{eqb, ltb}
 use borrow.Author.Tests.{lt-ltb, ltb-true, eq-eqb, eqb-true, ne-eqb}
-use Rattle.text_field.specs.Bytes.{isLower}
 use Rattle.text_field.specs.Name.{isNameCells, nameBefore, cellsBefore}
 use Rattle.text_field.proofs.NameLaws.{cells-equal}
 use Rattle.text_field.proofs.OrderLaws.{cells-ordered}
@@ -16,7 +15,7 @@ use Rattle.scope_graph.specs.Language.{_∈_}
 use Rattle.scope_graph.specs.Listing.{Pairwise}
 use Rattle.text_field.specs.Outcome.{done}
 use Rattle.scope_graph.proofs.Lists.{here, there, and-both, or-left, or-right}
-use Rattle.graph_file.specs.Format.{name, kind, plain, Item, field, sections, sectionAt, declarations, hasKinds, declarationShape, shapesOf, shapeAt, declarationSection}
+use Rattle.graph_file.specs.Format.{name, Item, field, sections, sectionAt, declarations, hasKinds, declarationShape, shapesOf, shapeAt, declarationSection}
 use Rattle.graph_file.specs.Admission.{Row, value, keyLess}
 use Rattle.graph_file.specs.Line.{itemFormed, fieldFormed}
 use Rattle.graph_file.specs.File.{formIn, readCells}
@@ -25,7 +24,8 @@ use Rattle.graph_file.specs.NameOrder.{nameIn, NamedBefore, DeclaredBefo
 use Rattle.graph_file.proofs.DecodeWritten.{read-admitted}
 use Rattle.graph_file.proofs.DecodeRows.{KeyBefore, key-before}
 use Rattle.graph_file.proofs.DecodeTable.{table-ascends}
-use Rattle.graph_file.proofs.DecodeFormed.{items-formed, plain-lower}
+use Rattle.graph_file.proofs.DecodeFormed.{items-formed}
+use Rattle.graph_file.proofs.DecodeKinds.{declared-lower}
 
 -- what is before by the key passes the test
 before-key : (key : List ℕ) (a b : Row) → KeyBefore key a b → keyLess key a b ≡ true
@@ -101,20 +101,11 @@ all-declared [] n p = tt
 all-declared (row ∷ rows) n p =
     ((λ later m. declared row later (n row here) (n later (there m)) (p .0 later m)), all-declared rows (λ later m. n later (there m)) (p .1))
 
--- what a line's items say of the kind and of the name, in either form
-kind-formed : (t : Bool) (row : Row) → ((i : Item) → i ∈ declarationShape t .row → itemFormed row i ≡ true) → isLower (value row 1) ≡ true
-unfolding declarationShape itemFormed fieldFormed
-kind-formed true row h = h (field kind 1) (there (there here))
-kind-formed false row h = plain-lower (value row 1) (h (field plain 1) (there (there here)))
-
+-- what a line's items say of the name, in either form
 name-formed : (t : Bool) (row : Row) → ((i : Item) → i ∈ declarationShape t .row → itemFormed row i ≡ true) → isNameCells (value row 2) (value row 3) ≡ true
 unfolding declarationShape itemFormed fieldFormed
 name-formed true row h = h (field name 2) (there (there (there (there here))))
 name-formed false row h = h (field name 2) (there (there (there here)))
-
-kinds-read : (text cells : List ℕ) → readCells text ≡ done cells → (row : Row) → row ∈ rowsIn declarationSection cells → isLower (value row 1) ≡ true
-unfolding shapeAt shapesOf
-kinds-read text cells e row m = kind-formed (hasKinds (formIn cells)) row (items-formed declarationSection (omega arith) text cells e row m)
 
 names-read : (text cells : List ℕ) → readCells text ≡ done cells → (row : Row) → row ∈ rowsIn declarationSection cells → isNameCells (value row 2) (value row 3) ≡ true
 unfolding shapeAt shapesOf
@@ -123,7 +114,7 @@ names-read text cells e row m = name-formed (hasKinds (formIn cells)) row (items
 pub read-declarations-ascend : ReadDeclarationsAscend
 unfolding sectionAt sections declarations
 read-declarations-ascend text cells e = record {
-  kinds = kinds-read text cells e;
+  kinds = declared-lower cells (read-admitted text cells e);
   names = names-read text cells e;
   ascend = all-declared (rowsIn declarationSection cells) (names-read text cells e)
       (table-ascends cells (read-admitted text cells e) declarationSection (omega arith) tt);

@@ -4,7 +4,7 @@
 use Prim.Native.Nat.{ℕ, _≤_, _<_}
 use mathlib.Core.Path.{_≡_}
 use mathlib.Core.Logic.{_⊎_}
-use mathlib.Core.Bool.{false}
+use mathlib.Core.Bool.{true, false}
 use mathlib.Core.Option.{some}
 use mathlib.Core.List.{List}
 use lib.ListN.{length, drop}
@@ -13,7 +13,8 @@ use Rattle.scope_graph.specs.Rows.{OrderPair, Transition, RulesPass, language}
 use Rattle.scope_graph.specs.Graph.{Edge, Declaration, Query, OpenPair}
 use Rattle.scope_graph.specs.Path.{Distinct}
 use Rattle.scope_graph.specs.Listing.{Pairwise, Accepted}
-use Rattle.graph_file.specs.Format.{hasTurns, sectionAt, stateCount, markCount, turnCount, mostScopes, tableCells}
+use Rattle.graph_file.specs.Format.{plainKind, hasKinds, hasTurns, sectionAt, stateCount, markCount, turnCount, mostScopes, tableCells}
+use Rattle.text_field.specs.Bytes.{isLower}
 use Rattle.text_field.specs.Outcome.{done}
 use Rattle.graph_file.specs.File.{readCells, formIn, writeText}
 use Rattle.graph_file.specs.Table.{rowsAt}
@@ -52,6 +53,12 @@ pub record AcceptedTable (cells : List ℕ) : Type 0 where
   pub turns : (e : Edge (language (rulesOf cells))) → e ∈ graphOf cells .edges → (n : ℕ) → e .step .turn ≡ some n → n < turnCount
   -- where the edge line is the old one every turn is 0 (02, K12)
   pub old-line : hasTurns (formIn cells) ≡ false → (e : Edge (language (rulesOf cells))) → e ∈ graphOf cells .edges → e .step .turn ≡ some 0
+  -- a kind is a letter a to z, and where the names lines of declarations and queries are the old
+  -- ones every kind is `v` (02, K8)
+  pub declared-kinds : (d : Declaration (language (rulesOf cells))) → d ∈ graphOf cells .declarations → isLower (d .name .kind) ≡ true
+  pub sought-kinds : (q : Query (language (rulesOf cells))) → q ∈ queriesOf cells → isLower (q .name .kind) ≡ true
+  pub old-declared : hasKinds (formIn cells) ≡ false → (d : Declaration (language (rulesOf cells))) → d ∈ graphOf cells .declarations → d .name .kind ≡ plainKind
+  pub old-sought : hasKinds (formIn cells) ≡ false → (q : Query (language (rulesOf cells))) → q ∈ queriesOf cells → q .name .kind ≡ plainKind
   pub marks : (d : Declaration (language (rulesOf cells))) → d ∈ graphOf cells .declarations → d .mark < markCount
   pub open-at : (o : OpenPair (language (rulesOf cells))) → o ∈ opensOf cells → o .at < scopesOf cells
   pub open-end : (o : OpenPair (language (rulesOf cells))) → o ∈ opensOf cells
