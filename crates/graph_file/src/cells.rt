@@ -5,7 +5,7 @@ ghost use Prim.Native.Nat.{_+_, _≤_};
 ghost use lib.ListN.{length, take};
 ghost use Rattle.text_field.specs.Buffer.{Buf, puts};
 
-// A row's six cells, for which there is room.
+// A row of section k at place n: its six cells, for which there is room.
 pub fn put_row(table: &mut [u64], n: usize, k: u64, row: [u64; 5])
     requires room { ⌜ n + 6 ≤ length (now table) ⌝ }
     ensures written { λ _. ⌜ _≡_ {A = Buf} (now (table .exit), n + 6) (puts (now (table .entry), n) (k ∷ row)) ⌝ }

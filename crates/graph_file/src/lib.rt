@@ -13,6 +13,7 @@ mod sought;
 mod tables;
 mod writer;
 
+pub use cells::put_row;
 pub use format::KIND_FORM;
 pub use format::OLD_FORM;
 pub use format::PLAIN_KIND;

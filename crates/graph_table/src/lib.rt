@@ -5,6 +5,7 @@ mod rows;
 mod sections;
 
 pub use edges::next_row;
+pub use graph_file::put_row;
 pub use names::Name;
 pub use names::same_name;
 pub use rows::DeclarationRow;

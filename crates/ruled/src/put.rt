@@ -2,8 +2,8 @@
 use graph_table::ACCEPTS;
 use graph_table::ROW;
 use graph_table::TRANSITIONS;
+use graph_table::put_row;
 ghost use mathlib.Core.Path.{_≡_};
-ghost use mathlib.Core.List.{[], _∷_};
 ghost use Prim.Native.Nat.{_+_, _≤_};
 ghost use lib.ListN.{length};
 ghost use Rattle.text_field.specs.Buffer.{Buf, puts};
@@ -35,19 +35,6 @@ pub fn put_cells(cells: &[u64], table: &mut [u64], n: usize) -> usize
     n + i
 }
 
-// A row of section k with three values.
-fn put_row(table: &mut [u64], n: usize, k: u64, a: u64, b: u64, c: u64)
-    requires room { ⌜ n + 6 ≤ length (now table) ⌝ }
-    ensures written { λ _. ⌜ _≡_ {A = Buf} (now (table .exit), n + 6) (puts (now (table .entry), n) (k ∷ a ∷ b ∷ c ∷ 0 ∷ 0 ∷ [])) ⌝ }
-{
-    table[n] = k;
-    table[n + 1] = a;
-    table[n + 2] = b;
-    table[n + 3] = c;
-    table[n + 4] = 0;
-    table[n + 5] = 0;
-}
-
 // Is there a row for cell k of the transitions, which leads to a state?
 fn is_transition(to: u64, k: usize, states: usize, labels: usize) -> bool
     ensures answer { λ r. ⌜ r ≡ isTransition states labels k to ⌝ }
@@ -77,7 +64,7 @@ fn put_transition(
     if is_transition(to, k, states, labels) {
         let state = (k / LABELS) as u64;
         let label = (k % LABELS) as u64;
-        put_row(table, n, TRANSITIONS as u64, state, label, to);
+        put_row(table, n, TRANSITIONS as u64, [state, label, to, 0, 0]);
         return n + ROW;
     }
     n
@@ -121,7 +108,7 @@ fn put_accept(cell: u64, q: usize, states: usize, table: &mut [u64], n: usize) -
     ensures place { λ r. ⌜ r ≤ n + 6 ⌝ }
 {
     if is_accepting(cell, q, states) {
-        put_row(table, n, ACCEPTS as u64, q as u64, 0, 0);
+        put_row(table, n, ACCEPTS as u64, [q as u64, 0, 0, 0, 0]);
         return n + ROW;
     }
     n
