@@ -27,12 +27,27 @@ pub const KIND_FORM: u64 = 1;
 
 pub const TURN_FORM: u64 = 2;
 
-// How many sections there are, and the numbers of the two whose names lines show the form.
+// How many sections there are, and their numbers (document 01, "The gym file"). The names lines of
+// edges and declarations show the form.
 pub const SECTIONS: usize = 9;
+
+pub const LABELS: usize = 0;
+
+pub const PAIRS: usize = 1;
+
+pub const TRANSITIONS: usize = 2;
+
+pub const ACCEPTS: usize = 3;
+
+pub const COUNT: usize = 4;
 
 pub const EDGES: usize = 5;
 
 pub const DECLARATIONS: usize = 6;
+
+pub const OPENS: usize = 7;
+
+pub const QUERIES: usize = 8;
 
 // The kind of all that stands in a file without kinds, `v`.
 pub const PLAIN_KIND: u64 = 118;

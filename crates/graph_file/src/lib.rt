@@ -14,9 +14,18 @@ mod tables;
 mod writer;
 
 pub use cells::put_row;
+pub use format::ACCEPTS;
+pub use format::COUNT;
+pub use format::DECLARATIONS;
+pub use format::EDGES;
 pub use format::KIND_FORM;
+pub use format::LABELS;
 pub use format::OLD_FORM;
+pub use format::OPENS;
+pub use format::PAIRS;
 pub use format::PLAIN_KIND;
+pub use format::QUERIES;
+pub use format::TRANSITIONS;
 pub use format::TURN_FORM;
 pub use format::has_kinds;
 pub use rows::OWN_CELLS;

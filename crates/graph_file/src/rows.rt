@@ -1,4 +1,7 @@
 // The rows of a graph table.
+use crate::format::COUNT;
+use crate::format::LABELS;
+use crate::format::PAIRS;
 use text_field::cell;
 ghost use mathlib.Core.Path.{_≡_};
 ghost use Prim.Native.Nat.{ℕ, _+_, _-_, _<_, _≤_};
@@ -42,7 +45,7 @@ pub fn counts_after(k: usize, c: Counts, v: u64) -> Counts
     ensures answer { λ r. ⌜ r ≡ countsAfter k c v ⌝ }
 {
     let rows = c.rows + 1;
-    if k == 0 {
+    if k == LABELS {
         return Counts {
             labels: c.labels + 1,
             pairs: c.pairs,
@@ -50,7 +53,7 @@ pub fn counts_after(k: usize, c: Counts, v: u64) -> Counts
             rows: rows,
         };
     }
-    if k == 1 {
+    if k == PAIRS {
         return Counts {
             labels: c.labels,
             pairs: c.pairs + 1,
@@ -58,7 +61,7 @@ pub fn counts_after(k: usize, c: Counts, v: u64) -> Counts
             rows: rows,
         };
     }
-    if k == 4 {
+    if k == COUNT {
         return Counts {
             labels: c.labels,
             pairs: c.pairs,

@@ -1,5 +1,6 @@
 // The one look through edge rows: where a scope's next row stands. Whoever wants the edges that
 // leave a scope asks here, row after row.
+use crate::sections::ROW;
 ghost use mathlib.Core.Path.{_≡_};
 ghost use Rattle.graph_table.specs.Rows.{nextRow};
 
@@ -11,10 +12,10 @@ pub fn next_row(edges: &[u64], s: u64, p: usize) -> usize
     ensures answer { λ r. ⌜ r ≡ nextRow (now (edges .entry)) s p ⌝ }
 {
     let n = edges.len();
-    if n < 6 {
+    if n < ROW {
         return n;
     }
-    let last = n - 6;
+    let last = n - ROW;
     let mut at = p;
     loop {
         if last < at {
@@ -27,6 +28,6 @@ pub fn next_row(edges: &[u64], s: u64, p: usize) -> usize
         if from == s {
             break at;
         }
-        at += 6;
+        at += ROW;
     }
 }

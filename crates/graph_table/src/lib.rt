@@ -1,10 +1,20 @@
-// The graph table is read here and nowhere else: where rows stand, and what a row says.
+// The graph table is read here and nowhere else: where rows stand, and what a row says. Handed on
+// are the sections' numbers and how a row is put: `graph_file` makes the table and has them.
 mod edges;
 mod names;
 mod rows;
 mod sections;
 
 pub use edges::next_row;
+pub use graph_file::ACCEPTS;
+pub use graph_file::COUNT;
+pub use graph_file::DECLARATIONS;
+pub use graph_file::EDGES;
+pub use graph_file::LABELS;
+pub use graph_file::OPENS;
+pub use graph_file::PAIRS;
+pub use graph_file::QUERIES;
+pub use graph_file::TRANSITIONS;
 pub use graph_file::put_row;
 pub use names::Name;
 pub use names::same_name;
@@ -23,19 +33,10 @@ pub use rows::open_row;
 pub use rows::pair_row;
 pub use rows::query_row;
 pub use rows::transition_row;
-pub use sections::ACCEPTS;
-pub use sections::COUNT;
-pub use sections::DECLARATIONS;
-pub use sections::EDGES;
 pub use sections::Form;
-pub use sections::LABELS;
-pub use sections::OPENS;
-pub use sections::PAIRS;
-pub use sections::QUERIES;
 pub use sections::ROW;
 pub use sections::SCOPE;
 pub use sections::SECTION;
-pub use sections::TRANSITIONS;
 pub use sections::first_row;
 pub use sections::form_of;
 pub use sections::row_count;

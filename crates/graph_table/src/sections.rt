@@ -7,25 +7,6 @@ ghost use Prim.Native.Nat.{_+_, _≤_, _<_};
 ghost use lib.ListN.{length, drop};
 ghost use Rattle.graph_table.specs.Sections.{tableForm, formNumber, withForm, leading, firstRow, rowsOf};
 
-// The nine sections by their numbers (01, "The gym file").
-pub const LABELS: usize = 0;
-
-pub const PAIRS: usize = 1;
-
-pub const TRANSITIONS: usize = 2;
-
-pub const ACCEPTS: usize = 3;
-
-pub const COUNT: usize = 4;
-
-pub const EDGES: usize = 5;
-
-pub const DECLARATIONS: usize = 6;
-
-pub const OPENS: usize = 7;
-
-pub const QUERIES: usize = 8;
-
 // The cells of a row: its section's number and five values.
 pub const ROW: usize = 6;
 
@@ -88,11 +69,11 @@ pub fn rows_from(table: &[u64], c: usize, k: u64, p: usize) -> usize
     ensures answer { λ r. ⌜ r ≡ p + leading c k (drop p (now (table .entry))) ⌝ }
 {
     let mut at = p;
-    while 6 <= table.len() - at {
+    while ROW <= table.len() - at {
         if k <= table[at + c] {
             return at;
         }
-        at += 6;
+        at += ROW;
     }
     at
 }
@@ -108,5 +89,5 @@ pub fn first_row(table: &[u64]) -> usize
 pub fn row_count(rows: &[u64]) -> usize
     ensures answer { λ r. ⌜ r ≡ length (rowsOf (now (rows .entry))) ⌝ }
 {
-    rows.len() / 6
+    rows.len() / ROW
 }
