@@ -53,8 +53,8 @@ fn next_turned(block: &[u64], ask: &[u64], onward: &[u64], n: Node, known: u64, 
     Next { at: i, known: more }
 }
 
-// The same where all turns are 0, so that a step is cut as its label is. Apart from the other, since
-// the look at turns takes registers, of which a walk through such a file has none to spare.
+// The same where all turns are 0, so that a step is cut as its label is. Apart from the other,
+// since the look at turns takes registers, of which a walk through such a file has none to spare.
 fn next_unturned(block: &[u64], ask: &[u64], onward: &[u64], n: Node, known: u64, p: u64) -> Next
     requires block { ⌜ IsBlock (now block) ⌝ }
     requires bounds { ⌜ Bounds (now block) ⌝ }
@@ -83,8 +83,8 @@ fn next_unturned(block: &[u64], ask: &[u64], onward: &[u64], n: Node, known: u64
     Next { at: i, known: more }
 }
 
-// The node's first edge that is followed, or past its edges. (Two functions ask by turns or by labels
-// alone, so that neither loop is taken into the other.)
+// The node's first edge that is followed, or past its edges. (Two functions ask by turns or by
+// labels alone, so that neither loop is taken into the other.)
 pub fn first_followed(block: &[u64], ask: &[u64], onward: &[u64], n: Node, known: u64) -> Next
     requires block { ⌜ IsBlock (now block) ⌝ }
     requires bounds { ⌜ Bounds (now block) ⌝ }

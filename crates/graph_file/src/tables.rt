@@ -32,8 +32,8 @@ pub fn is_short(text: &[u8]) -> bool
 }
 
 // The text read over a table with room for it, whatever stood there: how many cells it made, or the
-// refusal. What the cells behind them hold, and after a refusal all cells, is left open: the table is
-// the caller's own memory to work in. A host's table is lent to `read`.
+// refusal. What the cells behind them hold, and after a refusal all cells, is left open: the table
+// is the caller's own memory to work in. A host's table is lent to `read`.
 pub fn read_over(text: &[u8], table: &mut [u64]) -> Answer
     requires room { ⌜ TextRoom (now text) (length (now table)) ⌝ }
     ensures answer { λ r. ⌜ tableRead r (now (table .exit)) ≡ readCells (now (text .entry)) ⌝ }

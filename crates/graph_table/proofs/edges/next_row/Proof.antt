@@ -1,4 +1,5 @@
--- `next_row` meets its contract: from the row at hand on, the answer is the one from p on. Assumes nothing.
+-- `next_row` meets its contract: from the row at hand on, the answer is the one from p on. Assumes
+-- nothing.
 use Prim.Native.Nat.{_-_}
 use mathlib.Core.Path.{_≡_, refl, sym, _∙_}
 use native.Mathlib.Omega.{arith}
