@@ -87,8 +87,8 @@ fn pair_followed(table: &[u64], block: &[u64], ask: &[u64], away: &[u64], at: u6
     is_followed(block, table, ask, single(at), usable_set(block, end), end)
 }
 
-// The first of the open rows that is followed.
-fn first_followed(opens: &[u64], table: &[u64], block: &[u64], ask: &[u64], away: &[u64]) -> Awaits
+// The first of the open rows that is followed: the query awaits it.
+fn first_awaited(opens: &[u64], table: &[u64], block: &[u64], ask: &[u64], away: &[u64]) -> Awaits
     requires ready { ⌜ Ready (now table) (now block) (now ask) ⌝ }
     requires table { ⌜ 64 ≤ length (now away) ⌝ }
     requires away { ⌜ AwayFrom (now block) (askGoal (now ask)) (askStart (now ask)) (now away) ⌝ }
@@ -120,5 +120,5 @@ pub fn awaits_of(table: &[u64], block: &[u64], ask: &[u64]) -> Awaits
         return Awaits::Settled;
     }
     let away = away_from(block, goal, start);
-    first_followed(opens, table, block, ask, &away)
+    first_awaited(opens, table, block, ask, &away)
 }

@@ -21,14 +21,14 @@ returns c = let a = c .before .before .before .before .before .before .before .a
 away-from-requires : tie.Need-away-from-requires
 away-from-requires c κs = let a = c .before .before .before .before .before .before .before .args in let p = c .before .before .before .before .before .before .before .pre in (p .made .size, (p .made .bounds, rw (c .before .ask-start .ensures) (start-small (a .table .now) (a .block .now) (a .ask .now) p)))
 
-slice-aggregate-first-followed : tie.Need-slice-aggregate-first-followed
-slice-aggregate-first-followed c = search needs
+slice-aggregate-first-awaited : tie.Need-slice-aggregate-first-awaited
+slice-aggregate-first-awaited c = search needs
 
-first-followed-requires : tie.Need-first-followed-requires
-first-followed-requires c κs = let a = c .before .before .before .before .before .before .before .before .before .args in let p = c .before .before .before .before .before .before .before .before .before .pre in (p, (omega arith, away-asked (a .block .now) (a .ask .now) _ _ _ (c .before .before .before .before .ask-goal .ensures) (c .before .before .before .ask-start .ensures) (c .before .away-from .ensures)))
+first-awaited-requires : tie.Need-first-awaited-requires
+first-awaited-requires c κs = let a = c .before .before .before .before .before .before .before .before .before .args in let p = c .before .before .before .before .before .before .before .before .before .pre in (p, (omega arith, away-asked (a .block .now) (a .ask .now) _ _ _ (c .before .before .before .before .ask-goal .ensures) (c .before .before .before .ask-start .ensures) (c .before .away-from .ensures)))
 
 returns-2 : tie.Need-returns-2
-returns-2 c = let a = c .before .before .before .before .before .before .before .before .before .before .args in let p = c .before .before .before .before .before .before .before .before .before .before .pre in awaits-is (a .table .now) (a .block .now) (a .ask .now) p _ (c .before .before .before .before .before .before .part .ensures) _ (c .first-followed .ensures)
+returns-2 c = let a = c .before .before .before .before .before .before .before .before .before .before .args in let p = c .before .before .before .before .before .before .before .before .before .before .pre in awaits-is (a .table .now) (a .block .now) (a .ask .now) p _ (c .before .before .before .before .before .before .part .ensures) _ (c .first-awaited .ensures)
 
 pub awaits-of-spec : {M : Type 1} → statement M
 awaits-of-spec =
@@ -39,6 +39,6 @@ awaits-of-spec =
     ask-start-requires
     returns
     away-from-requires
-    slice-aggregate-first-followed
-    first-followed-requires
+    slice-aggregate-first-awaited
+    first-awaited-requires
     returns-2)

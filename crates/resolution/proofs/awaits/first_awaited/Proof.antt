@@ -1,3 +1,5 @@
+-- `first_awaited` meets its contract. The loop's invariant: from the rows that are left the answer
+-- is the same. Assumes nothing.
 use Prim.Native.Nat.{_-_, _≤_}
 use lib.ListN.{length, drop}
 use mathlib.Core.Path.{_≡_, refl, sym, _∙_}
@@ -5,11 +7,8 @@ use native.Mathlib.Omega.{arith}
 use Rattle.resolution.proofs.First.{first-end, first-hit, first-miss}
 use Rattle.graph_table.specs.Sections.{rowsOf}
 use Rattle.resolution.specs.Asked.{firstFollowed}
-use Rattle.resolution.proofs.awaits.first_followed.Statement.{statement}
-use Rattle.resolution.proofs.awaits.first_followed.Tie as tie
-
--- `first_followed` meets its contract. The loop's invariant: from the rows that are left the answer is the
--- same. Assumes nothing.
+use Rattle.resolution.proofs.awaits.first_awaited.Statement.{statement}
+use Rattle.resolution.proofs.awaits.first_awaited.Tie as tie
 
 abbrev Inv-loop : tie.InvT-loop
 Inv-loop opens table block ask away p₀ p = (p ≤ length opens) × (firstFollowed block table ask (rowsOf (drop p opens)) ≡ firstFollowed block table ask (rowsOf opens))
@@ -44,8 +43,8 @@ loop-again c = let a = c .before .before .before .before .before .before .before
 returns-2 : tie.Need-returns-2 Inv-loop μ-loop
 returns-2 c = let a = c .before .before .before .before .before .before .before .args in first-end (a .block .now) (a .table .now) (a .ask .now) (a .opens .now) (c .before .loop .p) (omega arith) ∙ c .before .loop .inv .1
 
-pub first-followed-spec : {M : Type 1} → statement M
-first-followed-spec =
+pub first-awaited-spec : {M : Type 1} → statement M
+first-awaited-spec =
     tie.close
     (tie.spec
     Inv-loop
