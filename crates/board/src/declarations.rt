@@ -1,15 +1,42 @@
 // The declarations: which scopes declare a name, and where each scope's rows stand.
+use block::single;
+use graph_table::DeclarationRow;
 use graph_table::Name;
 use graph_table::SCOPE;
 use graph_table::declaration_row;
 use graph_table::rows_from;
 use graph_table::same_name;
 ghost use mathlib.Core.Path.{_≡_};
+ghost use mathlib.Core.Bool.{_||_};
 ghost use Prim.Native.Nat.{ℕ, _+_, _≤_, _<_};
+ghost use lib.Dec.{eqb};
 ghost use lib.ListN.{length};
-ghost use Rattle.graph_table.specs.Values.{packed};
+ghost use Rattle.block.specs.Sets.{hasScope};
+ghost use Rattle.graph_table.specs.Values.{packed, declares};
 ghost use Rattle.board.specs.Tables.{tabulate};
 ghost use Rattle.board.specs.Marks.{DeclaringIs, declaredCell};
+
+// The scope as a set; 64 and above is none.
+fn scope_set(at: u64) -> u64
+    ensures answer { λ r. ⌜ ((s : ℕ) → s < 64 → hasScope r s ≡ eqb at s) ⌝ }
+{
+    if 64 <= at {
+        return 0;
+    }
+    single(at)
+}
+
+// The set, with the row's scope in it if the row declares the name. That the scope is looked at in a
+// function of its own keeps this look out of the pass over the rows: most have another name, and the
+// pass has no register to spare.
+fn noted(set: u64, row: DeclarationRow, name: Name) -> u64
+    ensures answer { λ r. ⌜ ((s : ℕ) → s < 64 → hasScope r s ≡ (hasScope set s || declares (packed name) s row)) ⌝ }
+{
+    if !same_name(row.name, name) {
+        return set;
+    }
+    set | scope_set(row.at)
+}
 
 // The scopes that declare the name, as a set.
 pub fn declaring(rows: &[u64], name: Name) -> u64
@@ -18,16 +45,8 @@ pub fn declaring(rows: &[u64], name: Name) -> u64
     let mut out: u64 = 0;
     let mut p = 0;
     while 6 <= rows.len() - p {
-        let row = declaration_row(rows, p);
+        out = noted(out, declaration_row(rows, p), name);
         p += 6;
-        if !same_name(row.name, name) {
-            continue;
-        }
-        let at = row.at;
-        if 64 <= at {
-            continue;
-        }
-        out = out | (1 << at);
     }
     out
 }

@@ -3,7 +3,7 @@
 use mathlib.Core.Path.{_≡_, refl, sym, ap, _∙_}
 use mathlib.Core.Bool.{Bool, true, false}
 use mathlib.Core.Logic.{_⊎_, inl, inr, ⊎-elim}
-use mathlib.Core.List.{List, _∷_, _++_, append-assoc, List·Memᴰ·cases-cons, List·Memᴰ·append-cases}
+use mathlib.Core.List.{List, [], _∷_, _++_, append-assoc, List·Memᴰ·not-nil, List·Memᴰ·cases-cons, List·Memᴰ·append-cases}
 use Prim.Native.Nat.{ℕ, suc, _+_, _/_, _%_, _≤_, _<_}
 use native.Mathlib.Omega.{arith}
 use native.Mathlib.Numerals.{add-one}
@@ -14,6 +14,7 @@ use Rattle.scope_graph.specs.Turns.{Turned}
 use Rattle.block.specs.Sets.{hasScope, ALL_LABELS}
 use Rattle.block.specs.Block.{Bounds, turnCell, firstEdge, edgeCell, hopOf, hopsOn}
 use Rattle.block.specs.Ask.{askGoal}
+use Rattle.block.proofs.BlockLaws.{on-none}
 use Rattle.search.specs.Board.{cutHere}
 use Rattle.search.specs.Tables.{plainEnd, tableOrder, tableBoard}
 use Rattle.search.specs.Steps.{worthState, NextHop}
@@ -54,6 +55,14 @@ module _ (block ask onward : List ℕ) (n : Node) (p : ℕ) where
     past = past;
     found = λ inside. record { inside = inside; worth = here .worth inside; uncut = uncut inside };
     none = here .none;
+  }
+
+  -- past the node's edges none is left
+  pub next-none : firstEdge block (suc (n .scope)) ≤ p → NextFollowed block ask onward n p p
+  next-none past = record {
+    past = record { on = omega arith; skipped = []; split = refl; idle = λ h m. absurd (List·Memᴰ·not-nil m) };
+    found = λ inside. absurd (omega (arith, past, inside));
+    none = on-none block (n .scope) p;
   }
 
 -- the step of edge number i, by its cell, as the code asks about it

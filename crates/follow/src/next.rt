@@ -103,7 +103,8 @@ pub fn first_followed(block: &[u64], ask: &[u64], onward: &[u64], n: Node, known
     next_turned(block, ask, onward, n, known, p)
 }
 
-// The next one from edge p on.
+// The next one from edge p on. Many calls come from a node's last edge: they end here, at little
+// cost.
 pub fn next_followed(
     block: &[u64],
     ask: &[u64],
@@ -122,6 +123,9 @@ pub fn next_followed(
     ensures known { λ r. ⌜ Known (now (block .entry)) (askGoal (now (ask .entry))) n (r .known) ⌝ }
     ensures next { λ r. ⌜ NextFollowed (now (block .entry)) (now (ask .entry)) (now (onward .entry)) n p (r .at) ⌝ }
 {
+    if edges_end(block, n.scope) <= p {
+        return Next { at: p, known };
+    }
     if most_turn(block) == 0 {
         return next_unturned(block, ask, onward, n, known, p);
     }
