@@ -23,25 +23,33 @@ use Rattle.search.proofs.LaterLaws.{step-by-label, step-highest}
 use Rattle.follow.specs.Steps.{endCut, Skipped, NextFollowed}
 
 module _ (block ask onward : List ℕ) (n : Node) (p : ℕ) where
-  -- hops that are worth nothing
-  pub skip-idle : (r : ℕ) → NextHop block onward n ALL_LABELS p r → Skipped block ask onward n p r
-  skip-idle r next = record { on = next .on; skipped = next .skipped; split = next .split; idle = λ h m. inl (next .idle h m) }
+  -- none yet
+  pub skip-none : Skipped block ask onward n p p
+  skip-none = record { on = omega arith; skipped = []; split = refl; idle = λ h m. absurd (List·Memᴰ·not-nil m) }
 
-  -- one more whose label is cut, and again hops that are worth nothing
-  pub skip-cut : (k i r : ℕ) → Skipped block ask onward n p i → NextHop block onward n ALL_LABELS k i → i < firstEdge block (suc (n .scope))
-      → endCut block ask n (by (hopOf (edgeCell block i) .step)) ≡ true → NextHop block onward n ALL_LABELS (i + 1) r
-      → Skipped block ask onward n p r
-  skip-cut k i r past here inside cut next = record {
+  -- more hops, that are worth nothing
+  pub skip-idle : (i r : ℕ) → Skipped block ask onward n p i → NextHop block onward n ALL_LABELS i r → Skipped block ask onward n p r
+  skip-idle i r past next = record {
     on = omega (arith, past .on, next .on);
-    skipped = past .skipped ++ (hopOf (edgeCell block i) ∷ next .skipped);
+    skipped = past .skipped ++ next .skipped;
     split =
-        past .split
-        ∙ ap (λ (z : List (HopOf Turned)). past .skipped ++ z)
-        (here .found inside ∙ ap (λ (z : List (HopOf Turned)). hopOf (edgeCell block i) ∷ z) (rw (add-one i) at (next .split)))
-        ∙ sym (append-assoc (past .skipped) (hopOf (edgeCell block i) ∷ next .skipped) (hopsOn block (n .scope) r));
-    idle = λ h m. ⊎-elim (past .idle h) (λ t. ⊎-elim (first h) (λ u. inl (next .idle h u)) (List·Memᴰ·cases-cons t))
-        (List·Memᴰ·append-cases (past .skipped) m);
+        past .split ∙ ap (λ (z : List (HopOf Turned)). past .skipped ++ z) (next .split)
+        ∙ sym (append-assoc (past .skipped) (next .skipped) (hopsOn block (n .scope) r));
+    idle = λ h m. ⊎-elim (past .idle h) (λ t. inl (next .idle h t)) (List·Memᴰ·append-cases (past .skipped) m);
   }
+
+  -- one more, whose step is cut
+  pub skip-cut : (k i : ℕ) → Skipped block ask onward n p i → NextHop block onward n ALL_LABELS k i → i < firstEdge block (suc (n .scope))
+      → endCut block ask n (by (hopOf (edgeCell block i) .step)) ≡ true → Skipped block ask onward n p (i + 1)
+  skip-cut k i past here inside cut = rw (add-one i) (record {
+    on = omega (arith, past .on);
+    skipped = past .skipped ++ (hopOf (edgeCell block i) ∷ []);
+    split =
+        past .split ∙ ap (λ (z : List (HopOf Turned)). past .skipped ++ z) (here .found inside)
+        ∙ sym (append-assoc (past .skipped) (hopOf (edgeCell block i) ∷ []) (hopsOn block (n .scope) (suc i)));
+    idle = λ h m. ⊎-elim (past .idle h) (λ t. ⊎-elim (first h) (λ u. absurd (List·Memᴰ·not-nil u)) (List·Memᴰ·cases-cons t))
+        (List·Memᴰ·append-cases (past .skipped) m);
+  })
     where
       first : (h : HopOf Turned) → h ≡ hopOf (edgeCell block i)
           → (16 ≤ worthState block onward (n .free) (n .state) ALL_LABELS h) ⊎ (endCut block ask n (by (h .step)) ≡ true)
@@ -60,7 +68,7 @@ module _ (block ask onward : List ℕ) (n : Node) (p : ℕ) where
   -- past the node's edges none is left
   pub next-none : firstEdge block (suc (n .scope)) ≤ p → NextFollowed block ask onward n p p
   next-none past = record {
-    past = record { on = omega arith; skipped = []; split = refl; idle = λ h m. absurd (List·Memᴰ·not-nil m) };
+    past = skip-none;
     found = λ inside. absurd (omega (arith, past, inside));
     none = on-none block (n .scope) p;
   }

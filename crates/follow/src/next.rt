@@ -40,17 +40,20 @@ fn next_turned(block: &[u64], ask: &[u64], onward: &[u64], n: Node, known: u64, 
     let end = edges_end(block, n.scope);
     let goal = ask_goal(ask);
     let mut more = known;
-    let mut i = next_hop(block, onward, n, ALL_LABELS, p);
-    while i < end {
+    let mut i = p;
+    loop {
+        i = next_hop(block, onward, n, ALL_LABELS, i);
+        if end <= i {
+            return Next { at: i, known: more };
+        }
         let x = edge_at(block, i);
         let learnt = edge_cut(block, goal, ask, n, more, x);
         more = learnt.known;
         if !learnt.cut {
             return Next { at: i, known: more };
         }
-        i = next_hop(block, onward, n, ALL_LABELS, i + 1);
+        i += 1;
     }
-    Next { at: i, known: more }
 }
 
 // The same where all turns are 0, so that a step is cut as its label is. Apart from the other,
@@ -70,17 +73,20 @@ fn next_unturned(block: &[u64], ask: &[u64], onward: &[u64], n: Node, known: u64
     let end = edges_end(block, n.scope);
     let goal = ask_goal(ask);
     let mut more = known;
-    let mut i = next_hop(block, onward, n, ALL_LABELS, p);
-    while i < end {
+    let mut i = p;
+    loop {
+        i = next_hop(block, onward, n, ALL_LABELS, i);
+        if end <= i {
+            return Next { at: i, known: more };
+        }
         let label = edge_at(block, i) / 64 % 8;
         let learnt = learn(block, goal, ask, n, more, label + 1);
         more = learnt.known;
         if !learnt.cut {
             return Next { at: i, known: more };
         }
-        i = next_hop(block, onward, n, ALL_LABELS, i + 1);
+        i += 1;
     }
-    Next { at: i, known: more }
 }
 
 // The node's first edge that is followed, or past its edges. (Two functions ask by turns or by
