@@ -4,8 +4,8 @@
  *
  *   1 to 63       a refusal (TEWHORANU_TOO_LONG and so on); nothing that was lent has changed
  *   64 and more   the call was carried out; an output is 64 + how many cells or bytes were written, a comparison or a
- *                 judgement is 64 * (1 + case) + n, the case being TEWHORANU_FIRST and so on, n from 0 to 63; n is 0
- *                 for now, and has room for a number of equal steps
+ *                 judgement is 64 * (1 + case) + n, the case being TEWHORANU_FIRST and so on, n from 0 to 63 the
+ *                 number of equal steps that comes with the case
  *
  * tewhoranu_refused, tewhoranu_written, tewhoranu_case and tewhoranu_equal_steps take an answer apart, and
  * tewhoranu_refusal_text says in words what was refused.
@@ -98,7 +98,9 @@ static inline size_t tewhoranu_written(uint64_t answer) { return (size_t)(answer
 /* Which case holds, of a comparison or a judgement that was not refused. */
 static inline unsigned tewhoranu_case(uint64_t answer) { return (unsigned)(answer / TEWHORANU_DONE - 1); }
 
-/* How many equal steps come with the case: none are counted for now, so 0. This is not how many records were filled. */
+/* How many equal steps come with the case, 0 to 63: of a comparison, those of the two rows before their first difference;
+ * of TEWHORANU_SHADOWED, the most in which a reached path that is more specific agrees with the row; else 0. This is not
+ * how many records were filled. */
 static inline unsigned tewhoranu_equal_steps(uint64_t answer) { return (unsigned)(answer % TEWHORANU_DONE); }
 
 /* What was refused, in words. */
@@ -162,7 +164,8 @@ uint64_t tewhoranu_listing(const uint8_t *text, size_t text_length, size_t query
 
 /* Judges a path row for a query of the file.
  * Answers by a case, TEWHORANU_VISIBLE, TEWHORANU_SHADOWED or TEWHORANU_UNREACHED, and puts the row's steps into the
- * table; records behind them stay as they were.
+ * table; records behind them stay as they were. With TEWHORANU_SHADOWED comes the number of steps after which the name was
+ * caught: the most in which a reached path that is more specific agrees with the row's. With the others it is 0.
  * Refuses by 1 to 6 as tewhoranu_read does, then 7, then 8, then 9 where the steps outnumber the records. */
 uint64_t tewhoranu_judge(const uint8_t *text, size_t text_length, size_t query, const uint8_t *row, size_t row_length,
                          tewhoranu_step *steps, size_t steps_length);
@@ -170,7 +173,8 @@ uint64_t tewhoranu_judge(const uint8_t *text, size_t text_length, size_t query, 
 /* Compares two path rows by the order of the file and the turns of its edges, by their letters and scopes alone, whether or
  * not they are paths of the graph. A step that is no edge of the file has no turn.
  * Answers by a case, TEWHORANU_FIRST, TEWHORANU_SECOND or TEWHORANU_NEITHER, and puts each row's steps into the table
- * lent for it; records behind them stay as they were.
+ * lent for it; records behind them stay as they were. With each case comes the number of equal steps, by letter and
+ * scope, before the first difference: 0 for different starts, all of them for equal paths.
  * Refuses by 1 to 6 as tewhoranu_read does, then 8 for the first row, 8 for the second, then 9 where the steps of one
  * outnumber its records. */
 uint64_t tewhoranu_compare(const uint8_t *text, size_t text_length, const uint8_t *first, size_t first_length,

@@ -23,10 +23,11 @@ static void expect(int holds, const char *what)
 
 #define EXPECT(test) expect((test), #test)
 
-/* Is the answer this case, with no steps counted? */
-static int is_case(uint64_t answer, unsigned which)
+/* Is the answer this case with so many equal steps, by the number that the header says and taken apart as it says? */
+static int is_case(uint64_t answer, unsigned which, unsigned equal)
 {
-    return !tewhoranu_refused(answer) && tewhoranu_case(answer) == which && tewhoranu_equal_steps(answer) == 0;
+    return answer == 64 * (1 + which) + equal && !tewhoranu_refused(answer) && tewhoranu_case(answer) == which
+        && tewhoranu_equal_steps(answer) == equal;
 }
 
 static const uint8_t *bytes(const char *string) { return (const uint8_t *)string; }
@@ -75,6 +76,13 @@ static int converts(conversion *convert, const char *from, const char *to)
         && out[length] == 'x';
 }
 
+/* Two rows compared by the example, with all records lent. */
+static uint64_t compared(size_t length, const char *first, const char *second)
+{
+    return tewhoranu_compare(text, length, bytes(first), strlen(first), bytes(second), strlen(second), steps,
+                             TEWHORANU_STEPS, others, TEWHORANU_STEPS);
+}
+
 /* The example with the path rules of an expression, in a buffer of so many bytes. */
 static uint64_t ruled(size_t length, const char *expression, size_t room)
 {
@@ -109,10 +117,13 @@ int main(int argc, char **argv)
                                 "at kind name mark\n0 v x 1\nat open\n0 $\nstart kind seek\n0 v x\n";
     static const char twice[] = "label\nI\nless more\nstate label next\n0 I 1\n1 I 2\naccept\n2\nscopes\n3\nfrom label turn to\n"
                                 "0 I 1 2\n0 I 2 1\nat kind name mark\n1 v x 1\n2 v x 2\nat open\n0 I\nstart kind seek\n0 v x\n";
+    static const char caught[] = "label\nI\nP\nless more\nI P\nstate label next\n0 I 0\n0 P 0\naccept\n0\nscopes\n5\nfrom label to\n"
+                                 "0 I 3\n0 P 1\n1 I 4\n1 P 2\nat name mark\n2 x 2\n3 x 3\n4 x 4\nat open\nstart seek\n0 x\n";
     static const char later[] = "start kind seek found awaits\n0 v x one 0I\nmark path\n1 0I1\n";
     static const char limit[] = "start kind seek found awaits\n0 v x one 0$\nmark path\n2 0\n";
     static const char one_state[] = "state label next\n0 I 0\n0 P 0\naccept\n0\nscopes\n";
     static const char visible[] = "21 2", shadowed[] = "10 2P1", unreached[] = "5 2P1P0";
+    static char most[4 * (TEWHORANU_STEPS + 1)];
     FILE *file = argc == 2 ? fopen(argv[1], "rb") : NULL;
     size_t length, cells;
     uint64_t answer, place = 7;
@@ -156,13 +167,13 @@ int main(int argc, char **argv)
     EXPECT(answer == TEWHORANU_DONE + strlen(summary) && memcmp(out, summary, strlen(summary)) == 0);
 
     answer = tewhoranu_judge(text, length, 0, bytes(visible), strlen(visible), steps, TEWHORANU_STEPS);
-    EXPECT(is_case(answer, TEWHORANU_VISIBLE));
+    EXPECT(is_case(answer, TEWHORANU_VISIBLE, 0));
     EXPECT(holds(&steps[0], 0, 0));
     answer = tewhoranu_judge(text, length, 0, bytes(shadowed), strlen(shadowed), steps, 1);
-    EXPECT(is_case(answer, TEWHORANU_SHADOWED));
+    EXPECT(is_case(answer, TEWHORANU_SHADOWED, 0));
     EXPECT(holds(&steps[0], 'P', 1) && holds(&steps[1], 0, 0));
     answer = tewhoranu_judge(text, length, 0, bytes(unreached), strlen(unreached), steps, 2);
-    EXPECT(is_case(answer, TEWHORANU_UNREACHED));
+    EXPECT(is_case(answer, TEWHORANU_UNREACHED, 0));
     EXPECT(holds(&steps[0], 'P', 1) && holds(&steps[1], 'P', 0) && holds(&steps[2], 0, 0));
     EXPECT(tewhoranu_judge(text, length, 0, bytes(unreached), strlen(unreached), steps, 1) == TEWHORANU_NO_ROOM);
     EXPECT(tewhoranu_judge(text, length, 0, bytes("2"), 1, steps, 1) == TEWHORANU_NO_PATH_ROW);
@@ -171,13 +182,27 @@ int main(int argc, char **argv)
     memset(steps, 0, sizeof steps);
     answer = tewhoranu_compare(text, length, bytes(visible), strlen(visible), bytes(unreached), strlen(unreached), steps,
                                TEWHORANU_STEPS, others, TEWHORANU_STEPS);
-    EXPECT(is_case(answer, TEWHORANU_FIRST) && holds(&steps[0], 0, 0) && holds(&others[1], 'P', 0));
+    EXPECT(is_case(answer, TEWHORANU_FIRST, 0) && holds(&steps[0], 0, 0) && holds(&others[1], 'P', 0));
     answer = tewhoranu_compare(text, length, bytes(unreached), strlen(unreached), bytes(visible), strlen(visible), steps, 2,
                                others, 0);
-    EXPECT(is_case(answer, TEWHORANU_SECOND) && holds(&steps[1], 'P', 0));
+    EXPECT(is_case(answer, TEWHORANU_SECOND, 0) && holds(&steps[1], 'P', 0));
     answer = tewhoranu_compare(text, length, bytes(visible), strlen(visible), bytes(visible), strlen(visible), steps, 0,
                                others, 0);
-    EXPECT(is_case(answer, TEWHORANU_NEITHER));
+    EXPECT(is_case(answer, TEWHORANU_NEITHER, 0));
+
+    /* how far two rows agree, and where a path that is cut at two places was caught */
+    EXPECT(is_case(compared(length, "10 2P1", "5 2P1P0"), TEWHORANU_FIRST, 1));
+    EXPECT(is_case(compared(length, "5 2P1P0", "10 2P1"), TEWHORANU_SECOND, 1));
+    EXPECT(is_case(compared(length, "5 2P1P0", "6 2P1P0"), TEWHORANU_NEITHER, 2));
+    EXPECT(is_case(compared(length, "5 2P1P0", "5 2P1P4"), TEWHORANU_NEITHER, 1));
+    EXPECT(is_case(compared(length, "10 3P1P0", "10 2P1P0"), TEWHORANU_NEITHER, 0));
+    strcpy(most, "1 0");
+    for (place = 1; place <= TEWHORANU_STEPS; place++)
+        sprintf(most + strlen(most), "P%d", (int)place);
+    EXPECT(is_case(compared(length, most, most), TEWHORANU_NEITHER, TEWHORANU_STEPS));
+    EXPECT(holds(&steps[62], 'P', 63) && holds(&others[62], 'P', 63));
+    answer = tewhoranu_judge(bytes(caught), strlen(caught), 0, bytes("2 0P1P2"), 7, steps, 2);
+    EXPECT(is_case(answer, TEWHORANU_SHADOWED, 1));
 
     /* the example's own path rules as an expression; others; what is none, and what needs too many states */
     memset(out, 'x', length + 1);
@@ -212,9 +237,9 @@ int main(int argc, char **argv)
     EXPECT(answer == TEWHORANU_DONE + strlen(limit) && memcmp(out, limit, strlen(limit)) == 0);
     EXPECT(tewhoranu_name_sought(bytes(kinds), length, 1, &place) == 1 && place == length - 2);
     answer = tewhoranu_judge(bytes(kinds), length, 1, bytes("2 0"), 3, steps, 0);
-    EXPECT(is_case(answer, TEWHORANU_VISIBLE));
+    EXPECT(is_case(answer, TEWHORANU_VISIBLE, 0));
     answer = tewhoranu_judge(bytes(kinds), length, 1, bytes("1 0"), 3, steps, 0);
-    EXPECT(is_case(answer, TEWHORANU_UNREACHED));
+    EXPECT(is_case(answer, TEWHORANU_UNREACHED, 0));
 
     /* a file with turns: its cells, its text, its listing, its rows judged and compared */
     answer = tewhoranu_read(bytes(turns), strlen(turns), table, TEWHORANU_CELLS);
@@ -235,13 +260,13 @@ int main(int argc, char **argv)
     answer = tewhoranu_listing(bytes(turns), strlen(turns), 0, out, sizeof out);
     EXPECT(answer == TEWHORANU_DONE + strlen(later) && memcmp(out, later, strlen(later)) == 0);
     answer = tewhoranu_judge(bytes(turns), strlen(turns), 0, bytes("1 0I1"), 5, steps, 1);
-    EXPECT(is_case(answer, TEWHORANU_VISIBLE));
+    EXPECT(is_case(answer, TEWHORANU_VISIBLE, 0));
     answer = tewhoranu_judge(bytes(turns), strlen(turns), 0, bytes("2 0I2"), 5, steps, 1);
-    EXPECT(is_case(answer, TEWHORANU_SHADOWED));
+    EXPECT(is_case(answer, TEWHORANU_SHADOWED, 0));
     answer = tewhoranu_compare(bytes(turns), strlen(turns), bytes("2 0I2"), 5, bytes("1 0I1"), 5, steps, 1, others, 1);
-    EXPECT(is_case(answer, TEWHORANU_SECOND));
+    EXPECT(is_case(answer, TEWHORANU_SECOND, 0));
     answer = tewhoranu_compare(bytes(turns), strlen(turns), bytes("2 0I0"), 5, bytes("1 0I1"), 5, steps, 1, others, 1);
-    EXPECT(is_case(answer, TEWHORANU_NEITHER));
+    EXPECT(is_case(answer, TEWHORANU_NEITHER, 0));
     EXPECT(converts(tewhoranu_to_new, turns, turns) && converts(tewhoranu_to_new, zeros, zeros));
     EXPECT(converts(tewhoranu_to_old, zeros, old));
     EXPECT(tewhoranu_to_old(bytes(turns), strlen(turns), out, 0) == TEWHORANU_NO_OLD_FORM);

@@ -2,7 +2,9 @@
 pub mod LetterLaws
 pub mod EndLaws
 pub mod StepLaws
+pub mod AgreeLaws
 pub mod RowLaws
 pub mod TextLaws
 pub mod LentLaws
+pub mod FewSteps
 pub mod Promises

@@ -1,6 +1,6 @@
 -- The value of specs/Promises. Assumes nothing.
 use Prim.Native.Nat.{ℕ, _≤_}
-use mathlib.Core.Path.{_≡_, refl}
+use mathlib.Core.Path.{_≡_, refl, sym, ap, _∙_}
 use mathlib.Core.Bool.{Bool, true, false}
 use mathlib.Core.Logic.{_↔_}
 use mathlib.Core.List.{List}
@@ -18,8 +18,9 @@ use Rattle.scope_graph.proofs.Lists.{true-false}
 use Rattle.scope_graph.proofs.Promises.{promises}
 use Rattle.path_row.specs.Form.{PathRow, rowHere}
 use Rattle.path_row.specs.Numbering.{pathIn}
-use Rattle.comparison.specs.Compare.{first, second, neither, whichOf, rowBefore, comparison, compareRows, compareAnswer}
-use Rattle.comparison.specs.Promises.{SaysWhich, CompareIs}
+use Rattle.comparison.specs.Compare.{first, second, neither, Told, asTold, whichOf, rowBefore, comparison, agreement, told, compareRows, compareAnswer}
+use Rattle.comparison.specs.Promises.{SaysWhich, whichIn, CompareIs, SaysHowFar, AgreeIs}
+use Rattle.comparison.proofs.AgreeLaws.{agreement-apart, agreement-same, turns-same}
 
 -- two tests that are two claims, of which one at most holds
 module _ {P Q : Type 0} where
@@ -55,11 +56,30 @@ module _ (cells : List ℕ) (p q : PathRow) where
 
 -- rows that are read and fit are compared
 answered : (text cells a b : List ℕ) (n m : ℕ) (p q : PathRow) → readCells text ≡ done cells → rowHere a ≡ done p → rowHere b ≡ done q
-    → length (p .steps) ≤ n → length (q .steps) ≤ m → compareAnswer text a b n m ≡ done (comparison cells p q)
+    → length (p .steps) ≤ n → length (q .steps) ≤ m → compareAnswer text a b n m ≡ done (told cells p q)
 unfolding compareAnswer compareRows andThen refuseIf
 answered text cells a b n m p q e f g h k = rw (e, f, g, le-ltb n (length (p .steps)) h, le-ltb m (length (q .steps)) k)
 
 pub compare-is : CompareIs
+unfolding whichIn told
 compare-is text cells a b n m p q e f g h k =
     rw (answered text cells a b n m p q e f g h k)
     (compared cells p q (promises .order (language (rulesOf cells)) (promises .language (rulesOf cells) (read-accepted text cells e .rules))))
+
+-- and their number is how far they agree
+how-far : (cells : List ℕ) (p q : PathRow) → SaysHowFar cells p q (agreement cells p q)
+unfolding agreement
+how-far cells p q = record {
+  by-rules = refl;
+  by-letters = agreement-same cells p q;
+  turns-same = turns-same cells p q;
+  apart = agreement-apart cells p q;
+}
+
+told-steps : (t : Told) (cells : List ℕ) (p q : PathRow) → done t ≡ done (told cells p q) → t .steps ≡ agreement cells p q
+unfolding told
+told-steps t cells p q e = let z : t ≡ told cells p q = cc in ap (λ (x : Told). x .steps) z
+
+pub agree-is : AgreeIs
+agree-is text cells a b n m p q e f g h k t is =
+    rw (told-steps t cells p q (sym is ∙ answered text cells a b n m p q e f g h k)) (how-far cells p q)

@@ -27,23 +27,25 @@ use Rattle.path_row.proofs.TurnLaws.{same-hop}
 use Rattle.path_row.proofs.RowReads.{RowIs}
 use Rattle.comparison.specs.declared.rows.Compared.{Compared}
 use Rattle.comparison.specs.declared.rows.Compared.the-variants.{First, Second, Neither, Refused}
-use Rattle.comparison.specs.Compare.{Comparison, neither, whichOf, meaning, rowBefore, comparison, compareRows}
+use Rattle.comparison.specs.Compare.{Comparison, first, second, neither, Told, asTold, whichOf, meaning, rowBefore, comparison, agreement, told, compareRows}
+use Rattle.comparison.specs.Promises.{agreeSteps}
 use Rattle.comparison.specs.Steps.{stepAt, sameStep, stepsPreferred, stepsCompared}
 use Rattle.comparison.specs.Letters.{blockLetters}
 use Rattle.comparison.proofs.LetterLaws.{letters-same}
+use Rattle.comparison.proofs.AgreeLaws.{agreement-apart, agreement-same}
 
 -- which of two rows with one start is more specific
-module _ (block : List ℕ) (s : ℕ) (ts us : List Step) (t : Bool) (e : t ≡ stepsPreferred block s ts us) where
-  pub first-is : t ≡ true → meaning First ≡ done (stepsCompared block s ts us)
+module _ (block : List ℕ) (s : ℕ) (ts us : List Step) (n : ℕ) (t : Bool) (e : t ≡ stepsPreferred block s ts us) where
+  pub first-is : t ≡ true → meaning (First n) ≡ done (asTold (stepsCompared block s ts us) n)
   unfolding meaning stepsCompared whichOf
   first-is f = rw (← e, f)
 
   module _ (f : t ≡ false) (u : Bool) (g : u ≡ stepsPreferred block s us ts) where
-    pub second-is : u ≡ true → meaning Second ≡ done (stepsCompared block s ts us)
+    pub second-is : u ≡ true → meaning (Second n) ≡ done (asTold (stepsCompared block s ts us) n)
     unfolding meaning stepsCompared whichOf
     second-is h = rw (← e, f, ← g, h)
 
-    pub neither-is : u ≡ false → meaning Neither ≡ done (stepsCompared block s ts us)
+    pub neither-is : u ≡ false → meaning (Neither n) ≡ done (asTold (stepsCompared block s ts us) n)
     unfolding meaning stepsCompared whichOf
     neither-is h = rw (← e, f, ← g, h)
 
@@ -111,7 +113,7 @@ compared-apart cells p q e = rw (before-apart cells p q e, before-apart cells q 
 
 -- the whole comparison, test by test
 module _ (cells a b : List ℕ) (n m : ℕ) where
-  abbrev whole : Outcome Comparison
+  abbrev whole : Outcome Told
   whole = compareRows cells a b n m
 
   pub first-bad : rowHere a ≡ refused 8 → meaning (Refused 8) ≡ whole
@@ -124,7 +126,7 @@ module _ (cells a b : List ℕ) (n m : ℕ) where
     second-bad e = rw (p .read, e)
 
     module _ (mark′ other more : ℕ) (q : RowIs b mark′ other more) where
-      opened : whole ≡ refuseIf (ltb n count) 9 (refuseIf (ltb m more) 9 (done (comparison cells (p .row) (q .row))))
+      opened : whole ≡ refuseIf (ltb n count) 9 (refuseIf (ltb m more) 9 (done (told cells (p .row) (q .row))))
       unfolding compareRows andThen
       opened = rw (p .read, q .read, p .counts, q .counts)
 
@@ -138,16 +140,20 @@ module _ (cells a b : List ℕ) (n m : ℕ) where
         second-over k = sym (opened ∙ rw (le-ltb n count h, lt-ltb m more k))
 
         module _ (k : more ≤ m) where
-          fits : whole ≡ done (comparison cells (p .row) (q .row))
+          fits : whole ≡ done (told cells (p .row) (q .row))
           unfolding refuseIf
           fits = opened ∙ rw (le-ltb n count h, le-ltb m more k)
 
-          pub starts-apart : (start ≡ other → ⊥) → meaning Neither ≡ whole
-          unfolding meaning
-          starts-apart z = sym (fits ∙ ap done (compared-apart cells (p .row) (q .row) (λ e. z (sym (p .starts) ∙ e ∙ q .starts))))
+          pub starts-apart : (start ≡ other → ⊥) → meaning (Neither 0) ≡ whole
+          unfolding meaning told
+          starts-apart z =
+              let apart : p .row .start ≡ q .row .start → ⊥ = λ e. z (sym (p .starts) ∙ e ∙ q .starts) in
+              sym (fits ∙ rw (compared-apart cells (p .row) (q .row) apart, agreement-apart cells (p .row) (q .row) apart))
 
-          pub starts-same : WasRead cells → start ≡ other → (block : List ℕ) → Made cells block → (r : Compared)
-              → meaning r ≡ done (stepsCompared block start (stepsIn a) (stepsIn b)) → meaning r ≡ whole
-          starts-same was z block made r e =
-              e ∙ rw (← p .steps, ← q .steps, ← p .starts)
-              (sym (fits ∙ ap done (compared-same cells block was made (p .row) (q .row) (p .starts ∙ z ∙ sym (q .starts)))))
+          pub starts-same : WasRead cells → start ≡ other → (block : List ℕ) → Made cells block → (k : ℕ) → k ≡ agreeSteps (stepsIn a) (stepsIn b) → (r : Compared)
+              → meaning r ≡ done (asTold (stepsCompared block start (stepsIn a) (stepsIn b)) k) → meaning r ≡ whole
+          unfolding told
+          starts-same was z block made k f r e =
+              let one : p .row .start ≡ q .row .start = p .starts ∙ z ∙ sym (q .starts) in
+              e ∙ rw (f, ← p .steps, ← q .steps, ← p .starts)
+              (sym (fits ∙ rw (compared-same cells block was made (p .row) (q .row) one, agreement-same cells (p .row) (q .row) one)))

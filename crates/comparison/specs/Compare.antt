@@ -10,6 +10,7 @@ use Rattle.graph_file.specs.File.{readCells}
 use Rattle.graph_file.specs.Decode.{rulesOf}
 use Rattle.scope_graph.specs.Rows.{language}
 use Rattle.scope_graph.specs.Computed.{moreSpecific}
+use Rattle.scope_graph.specs.Agree.{agree}
 use Rattle.path_row.specs.Form.{PathRow, rowHere}
 use Rattle.path_row.specs.Numbering.{pathIn}
 use Rattle.comparison.specs.declared.rows.Compared.{Compared}
@@ -25,12 +26,20 @@ whichOf true u = first
 whichOf false true = second
 whichOf false false = neither
 
--- what an answer means: a refusal by its number, or which row is more specific (01, "Where each
--- language form goes")
-unfoldable pub meaning : Compared → Outcome Comparison
-meaning First = done first
-meaning Second = done second
-meaning Neither = done neither
+-- and in how many steps the rows agree (02, K7)
+pub record Told : Type 0 where
+  pub which : Comparison
+  pub steps : ℕ
+
+abbrev pub asTold : Comparison → ℕ → Told
+asTold c n = record { which = c; steps = n }
+
+-- what an answer means: a refusal by its number, or which row is more specific, with the number of
+-- steps that are equal (01, "Where each language form goes")
+unfoldable pub meaning : Compared → Outcome Told
+meaning (First n) = done (asTold first n)
+meaning (Second n) = done (asTold second n)
+meaning (Neither n) = done (asTold neither n)
 meaning (Refused n) = refused n
 
 -- is the one row more specific than the other, by the file's order?
@@ -41,16 +50,24 @@ rowBefore cells p q = moreSpecific (language (rulesOf cells)) (pathIn cells p) (
 unfoldable pub comparison : List ℕ → PathRow → PathRow → Comparison
 comparison cells p q = whichOf (rowBefore cells p q) (rowBefore cells q p)
 
+-- In how many steps the rows agree: by the labels' numbers and by the scopes. That these are the
+-- letters and scopes that the rows show stands in Promises.
+unfoldable pub agreement : List ℕ → PathRow → PathRow → ℕ
+agreement cells p q = agree (language (rulesOf cells)) (pathIn cells p) (pathIn cells q)
+
+unfoldable pub told : List ℕ → PathRow → PathRow → Told
+told cells p q = asTold (comparison cells p q) (agreement cells p q)
+
 -- With the graph table in hand (01, "Paths", where it tells the refusals of two rows): 8 for the
 -- first row, 8 for the second, and 9 where the steps of one outnumber the records lent for it.
-unfoldable pub compareRows : List ℕ → List ℕ → List ℕ → ℕ → ℕ → Outcome Comparison
+unfoldable pub compareRows : List ℕ → List ℕ → List ℕ → ℕ → ℕ → Outcome Told
 compareRows cells a b roomA roomB =
     andThen (rowHere a) (λ p.
     andThen (rowHere b) (λ q.
     refuseIf (ltb roomA (length (p .steps))) 9
     (refuseIf (ltb roomB (length (q .steps))) 9
-    (done (comparison cells p q)))))
+    (done (told cells p q)))))
 
 -- The whole call (01, "Who can cause a refusal"): before these, the file's refusals, 1 to 6.
-unfoldable pub compareAnswer : List ℕ → List ℕ → List ℕ → ℕ → ℕ → Outcome Comparison
+unfoldable pub compareAnswer : List ℕ → List ℕ → List ℕ → ℕ → ℕ → Outcome Told
 compareAnswer text a b roomA roomB = andThen (readCells text) (λ cells. compareRows cells a b roomA roomB)

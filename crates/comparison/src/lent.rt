@@ -17,9 +17,9 @@ pub fn steps_due(answer: Compared, row: &[u8]) -> usize
 {
     match answer {
         Compared::Refused(_) => 0,
-        Compared::First => step_count(row),
-        Compared::Second => step_count(row),
-        Compared::Neither => step_count(row),
+        Compared::First(_) => step_count(row),
+        Compared::Second(_) => step_count(row),
+        Compared::Neither(_) => step_count(row),
     }
 }
 

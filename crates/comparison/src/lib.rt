@@ -1,4 +1,5 @@
 // Two path rows compared by the order of a gym file, over its board.
+mod agree;
 mod lent;
 mod letters;
 mod order;

@@ -1,4 +1,5 @@
 // Two path rows compared by the order in a graph table that was read.
+use crate::agree::agreed;
 use crate::steps::row_preferred;
 use block::SIZE;
 use board::put_board;
@@ -9,30 +10,35 @@ ghost use Rattle.text_field.specs.Outcome.{done};
 ghost use Rattle.graph_file.specs.Decode.{WasRead};
 ghost use Rattle.block.specs.Layout.{IsBlock};
 ghost use Rattle.path_row.specs.Form.{stepsIn};
-ghost use Rattle.comparison.specs.Compare.{meaning, compareRows};
+ghost use Rattle.comparison.specs.Compare.{asTold, meaning, compareRows};
 ghost use Rattle.comparison.specs.Steps.{stepsCompared};
 
-// Which of two rows is more specific, or the refusal's number.
+// Rows from different starts have no equal steps.
+const NO_STEPS: usize = 0;
+
+// Which of two rows is more specific, with the number of equal steps before the first difference;
+// or the refusal's number.
 pub enum Compared {
-    First,
-    Second,
-    Neither,
+    First(usize),
+    Second(usize),
+    Neither(usize),
     Refused(u64),
 }
 
-// Which of two rows that start at the scope is more specific, by the board's order and turns?
-fn more_specific(block: &[u64], start: u64, a: &[u8], b: &[u8]) -> Compared
+// Which of two rows that start at the scope is more specific, by the board's order and turns? Their
+// first `equal` steps are.
+fn more_specific(block: &[u64], start: u64, a: &[u8], b: &[u8], equal: usize) -> Compared
     requires block { ⌜ IsBlock (now block) ⌝ }
     ensures answer { λ r. ⌜ meaning r
-        ≡ done (stepsCompared (now (block .entry)) start (stepsIn (now (a .entry))) (stepsIn (now (b .entry)))) ⌝ }
+        ≡ done (asTold (stepsCompared (now (block .entry)) start (stepsIn (now (a .entry))) (stepsIn (now (b .entry)))) equal) ⌝ }
 {
     if row_preferred(block, start, a, b) {
-        return Compared::First;
+        return Compared::First(equal);
     }
     if row_preferred(block, start, b, a) {
-        return Compared::Second;
+        return Compared::Second(equal);
     }
-    Compared::Neither
+    Compared::Neither(equal)
 }
 
 // Two rows by the order in a graph table that was read, where n records are lent for the steps of a
@@ -53,10 +59,11 @@ pub fn compare_rows(cells: &[u64], a: &[u8], b: &[u8], n: usize, m: usize) -> Co
     if m < more {
         return Compared::Refused(9);
     }
+    let equal = agreed(a, b);
     if start != other {
-        return Compared::Neither;
+        return Compared::Neither(NO_STEPS);
     }
     let mut block = [0u64; SIZE];
     put_board(cells, &mut block);
-    more_specific(&block, start, a, b)
+    more_specific(&block, start, a, b, equal)
 }

@@ -1,5 +1,5 @@
 -- A reply's text, put whole. Assumes nothing.
-use Prim.Native.Nat.{ℕ, _≤_, _<_}
+use Prim.Native.Nat.{ℕ, _≤_, _<_, _^_}
 use mathlib.Core.Path.{_≡_, refl, sym, ap, _∙_, subst}
 use mathlib.Core.Bool.{Bool, true, false}
 use mathlib.Core.List.{List, [], _∷_, _++_, flatMap}
@@ -11,8 +11,9 @@ use mir.Val.{Val}
 use denote.Laws.{Is}
 use denote.Enum.Declared.{row}
 use denote.Enum.Laws.{owed}
-use Rattle.scope_graph.specs.Computed.{Standing, is-visible, is-shadowed, is-unreached}
-use Rattle.text_field.specs.Buffer.{Buf, puts}
+use Rattle.scope_graph.specs.Agree.{Judgement, as-visible, as-shadowed, as-unreached}
+use Rattle.text_field.specs.Buffer.{Buf, put, puts}
+use Rattle.text_field.specs.Number.{numberText}
 use Rattle.text_field.specs.Outcome.{Outcome, refused, done, andThen}
 use Rattle.text_field.specs.Answer.{answer, leaves, answerOf}
 use Rattle.text_field.specs.declared.answer.Answer.{Answer}
@@ -20,17 +21,19 @@ use Rattle.text_field.specs.declared.answer.Answer.the-variants.{Refused, Writt
 use Rattle.text_field.proofs.answer.Answer.{the-type}
 use Rattle.text_field.proofs.answer.Answer.Laws.{the-laws}
 use Rattle.text_field.proofs.OutcomeLaws.{not-done}
+use Rattle.text_field.proofs.NumberLaws.{length-below}
+use Rattle.text_field.proofs.BufferLaws.{puts-then}
 use Rattle.text_field.proofs.AnswerLaws.{answer-refused}
 use Rattle.printing.specs.Printed.{refusedLine, inPlace}
 use Rattle.printing.specs.Parts.{answered as answeredIn}
 use Rattle.printing.proofs.Laws.{refused-short, in-place, done-fits, Stands, stands}
-use Rattle.comparison.specs.Compare.{Comparison, first, second, neither, compareAnswer}
+use Rattle.comparison.specs.Compare.{Comparison, first, second, neither, Told, asTold, compareAnswer}
 use Rattle.judge.specs.Judge.{judgeAnswer}
 use Rattle.gym.specs.declared.words.Reply.{Reply}
 use Rattle.gym.specs.declared.words.Command.{Command}
 use Rattle.gym.specs.declared.replies.Stream.{Stream}
 use Rattle.gym.specs.Words.{Asked, listWord, oldWord, newWord, judgeWord, compareWord, rulesWord, laterWords, words, asked}
-use Rattle.gym.specs.Said.{Said, spoken, replyRoom, lineOf, standingName, comparisonName, judgeLine, compareLine, usageHead, usageLine, usageText, answered, said}
+use Rattle.gym.specs.Said.{Said, spoken, replyRoom, lineOf, counted, standingName, whichName, comparisonName, judgeLine, compareLine, usageHead, usageLine, usageText, answered, said}
 use Rattle.gym.specs.Handed.{Replied, replyMeaning, meaning}
 
 -- an answer's line, or its refusal's
@@ -73,17 +76,39 @@ module _ (o : Outcome (List ℕ)) (a : Answer) (vs : List Val) (good : Is (row t
       }
 
 -- the names of answers, and the usage text
-pub standing-short : (s : Standing) → length (standingName s) ≤ 32
-unfolding standingName
-standing-short is-visible = omega arith
-standing-short is-shadowed = omega arith
-standing-short is-unreached = omega arith
+counted-short : (name : List ℕ) (n : ℕ) → length name ≤ 9 → n < 18446744073709551616 → length (counted name n) ≤ 32
+unfolding counted
+counted-short name n few h =
+    let d = length-below 19 n (let z : 10 ^ 20 ≡ 100000000000000000000 = refl in rw z (omega arith)) in
+    let l = length-append name (32 ∷ numberText n) in
+    omega arith
 
-pub comparison-short : (c : Comparison) → length (comparisonName c) ≤ 32
+pub shadowed-short : (n : ℕ) → n < 18446744073709551616 → length (standingName (as-shadowed n)) ≤ 32
+unfolding standingName
+shadowed-short n h = counted-short (115 ∷ 104 ∷ 97 ∷ 100 ∷ 111 ∷ 119 ∷ 101 ∷ 100 ∷ []) n (omega arith) h
+
+pub visible-short : length (standingName as-visible) ≤ 32
+unfolding standingName
+visible-short = omega arith
+
+pub unreached-short : length (standingName as-unreached) ≤ 32
+unfolding standingName
+unreached-short = omega arith
+
+which-short : (c : Comparison) → length (whichName c) ≤ 9
+unfolding whichName
+which-short first = omega arith
+which-short second = omega arith
+which-short neither = omega arith
+
+pub comparison-short : (c : Comparison) (n : ℕ) → n < 18446744073709551616 → length (comparisonName (asTold c n)) ≤ 32
 unfolding comparisonName
-comparison-short first = omega arith
-comparison-short second = omega arith
-comparison-short neither = omega arith
+comparison-short c n h = counted-short (whichName c) n (which-short c) h
+
+-- a name and a number, in three writes
+pub counted-puts : (name : List ℕ) (n : ℕ) (b c d e : Buf) → c ≡ puts b name → d ≡ puts c (numberText n) → e ≡ put d 10 → e ≡ puts b (name ++ (numberText n ++ (10 ∷ [])))
+unfolding puts
+counted-puts name n b c d e f g h = puts-then b c e name (numberText n ++ (10 ∷ [])) f (puts-then c d e (numberText n) (10 ∷ []) g h)
 
 pub usage-replied : (lent left : List ℕ) (size : ℕ) → _≡_ {A = Buf} (left, size) (puts (lent, 0) usageText) → Replied lent left size usageText
 unfolding usageText usageHead flatMap words usageLine listWord oldWord newWord judgeWord compareWord rulesWord laterWords
@@ -91,11 +116,11 @@ usage-replied lent left size h = record { written = h; fits = omega arith }
 
 -- a reply by what was computed for it
 module _ (lent left : List ℕ) (size : ℕ) where
-  pub judge-replied : (text : List ℕ) (i : ℕ) (row : List ℕ) (o : Outcome Standing) → Replied lent left size (inPlace replyRoom (lineOf standingName o)) → o ≡ judgeAnswer text i row 63 → Replied lent left size (inPlace replyRoom (judgeLine text i row))
+  pub judge-replied : (text : List ℕ) (i : ℕ) (row : List ℕ) (o : Outcome Judgement) → Replied lent left size (inPlace replyRoom (lineOf standingName o)) → o ≡ judgeAnswer text i row 63 → Replied lent left size (inPlace replyRoom (judgeLine text i row))
   unfolding judgeLine
   judge-replied text i row o h e = rw (sym e) h
 
-  pub compare-replied : (text a b : List ℕ) (o : Outcome Comparison) → Replied lent left size (inPlace replyRoom (lineOf comparisonName o)) → o ≡ compareAnswer text a b 63 63 → Replied lent left size (inPlace replyRoom (compareLine text a b))
+  pub compare-replied : (text a b : List ℕ) (o : Outcome Told) → Replied lent left size (inPlace replyRoom (lineOf comparisonName o)) → o ≡ compareAnswer text a b 63 63 → Replied lent left size (inPlace replyRoom (compareLine text a b))
   unfolding compareLine
   compare-replied text a b o h e = rw (sym e) h
 

@@ -2,10 +2,11 @@
 -- are definitions.
 use Prim.Native.Nat.{ℕ}
 use mathlib.Core.List.{List, [], _∷_, _++_, flatMap}
-use Rattle.scope_graph.specs.Computed.{Standing, is-visible, is-shadowed, is-unreached}
+use Rattle.scope_graph.specs.Agree.{Judgement, as-visible, as-shadowed, as-unreached}
+use Rattle.text_field.specs.Number.{numberText}
 use Rattle.text_field.specs.Outcome.{Outcome, done, andThen}
 use Rattle.path_row.specs.Form.{mostSteps}
-use Rattle.comparison.specs.Compare.{Comparison, first, second, neither, compareAnswer}
+use Rattle.comparison.specs.Compare.{Comparison, first, second, neither, Told, compareAnswer}
 use Rattle.judge.specs.Judge.{judgeAnswer}
 use Rattle.conversion.specs.Conversion.{oldOf, newOf}
 use Rattle.ruled.specs.Ruled.{ruledOf}
@@ -34,20 +35,28 @@ replied o = spoken Out (inPlace replyRoom o)
 unfoldable pub lineOf : {A : Type 0} → (A → List ℕ) → Outcome A → Outcome (List ℕ)
 lineOf name o = andThen o (λ a. done (name a ++ (10 ∷ [])))
 
--- `visible`, `shadowed`, `unreached`
-unfoldable pub standingName : Standing → List ℕ
-standingName is-visible = 118 ∷ 105 ∷ 115 ∷ 105 ∷ 98 ∷ 108 ∷ 101 ∷ []
-standingName is-shadowed = 115 ∷ 104 ∷ 97 ∷ 100 ∷ 111 ∷ 119 ∷ 101 ∷ 100 ∷ []
-standingName is-unreached = 117 ∷ 110 ∷ 114 ∷ 101 ∷ 97 ∷ 99 ∷ 104 ∷ 101 ∷ 100 ∷ []
+-- a name with the number of steps that comes with it, as `first 2`
+unfoldable pub counted : List ℕ → ℕ → List ℕ
+counted name n = name ++ (32 ∷ numberText n)
+
+-- `visible`, `shadowed` with its number, `unreached`
+unfoldable pub standingName : Judgement → List ℕ
+standingName as-visible = 118 ∷ 105 ∷ 115 ∷ 105 ∷ 98 ∷ 108 ∷ 101 ∷ []
+standingName (as-shadowed n) = counted (115 ∷ 104 ∷ 97 ∷ 100 ∷ 111 ∷ 119 ∷ 101 ∷ 100 ∷ []) n
+standingName as-unreached = 117 ∷ 110 ∷ 114 ∷ 101 ∷ 97 ∷ 99 ∷ 104 ∷ 101 ∷ 100 ∷ []
 
 -- `first`, `second`, `neither`
-unfoldable pub comparisonName : Comparison → List ℕ
-comparisonName first = 102 ∷ 105 ∷ 114 ∷ 115 ∷ 116 ∷ []
-comparisonName second = 115 ∷ 101 ∷ 99 ∷ 111 ∷ 110 ∷ 100 ∷ []
-comparisonName neither = 110 ∷ 101 ∷ 105 ∷ 116 ∷ 104 ∷ 101 ∷ 114 ∷ []
+unfoldable pub whichName : Comparison → List ℕ
+whichName first = 102 ∷ 105 ∷ 114 ∷ 115 ∷ 116 ∷ []
+whichName second = 115 ∷ 101 ∷ 99 ∷ 111 ∷ 110 ∷ 100 ∷ []
+whichName neither = 110 ∷ 101 ∷ 105 ∷ 116 ∷ 104 ∷ 101 ∷ 114 ∷ []
 
--- The standing of a row, and which of two rows is more specific (01, "Paths"). Records are lent for
--- as many steps as a row may have.
+-- with the number of equal steps
+unfoldable pub comparisonName : Told → List ℕ
+comparisonName t = counted (whichName (t .which)) (t .steps)
+
+-- The standing of a row, and which of two rows is more specific (01, "Paths"), with their numbers
+-- of steps (02, K7). Records are lent for as many steps as a row may have.
 unfoldable pub judgeLine : List ℕ → ℕ → List ℕ → Outcome (List ℕ)
 judgeLine text i row = lineOf standingName (judgeAnswer text i row mostSteps)
 

@@ -10,9 +10,14 @@ use path_row::form::MOST_STEPS;
 use printing::put_answer;
 use printing::put_refused;
 use ruled::rules;
+use text_field::put_byte;
 use text_field::put_bytes;
+use text_field::put_number;
 ghost use mathlib.Core.Path.{_≡_};
 ghost use lib.ListN.{length};
+ghost use mathlib.Core.List.{[], _∷_, _++_};
+ghost use Rattle.text_field.specs.Buffer.{Buf, puts};
+ghost use Rattle.text_field.specs.Number.{numberText};
 ghost use Rattle.comparison.specs.Compare.{meaning as compared};
 ghost use Rattle.judge.specs.Judge.{meaning as judged};
 ghost use Rattle.conversion.specs.Conversion.{oldOf, newOf};
@@ -54,26 +59,36 @@ fn put_new<'s, 'o>(text: &'s [u8], out: &'o mut [u8]) -> usize
     put_answer(out, a)
 }
 
+// A line of a name, which ends in a space, and a number of steps.
+fn put_counted(out: &mut [u8], name: &[u8], steps: usize) -> usize
+    ensures written { λ r. ⌜ _≡_ {A = Buf} (now (out .exit), r)
+        (puts (now (out .entry), 0) (now (name .entry) ++ (numberText steps ++ (10 ∷ [])))) ⌝ }
+{
+    let a = put_bytes(out, 0, name);
+    let b = put_number(out, a, steps as u64);
+    put_byte(out, b, b'\n')
+}
+
 // A standing, or its refusal.
 fn put_standing(out: &mut [u8], j: Judged) -> usize
     ensures written { λ r. ⌜ Replied (now (out .entry)) (now (out .exit)) r (inPlace replyRoom (lineOf standingName (judged j))) ⌝ }
 {
     match j {
         Judged::Visible => put_bytes(out, 0, b"visible\n"),
-        Judged::Shadowed => put_bytes(out, 0, b"shadowed\n"),
+        Judged::Shadowed(n) => put_counted(out, b"shadowed ", n),
         Judged::Unreached => put_bytes(out, 0, b"unreached\n"),
         Judged::Refused(n) => put_refused(out, n),
     }
 }
 
-// Which row is more specific, or the refusal.
+// Which row is more specific, and how far they agree, or the refusal.
 fn put_comparison(out: &mut [u8], c: Compared) -> usize
     ensures written { λ r. ⌜ Replied (now (out .entry)) (now (out .exit)) r (inPlace replyRoom (lineOf comparisonName (compared c))) ⌝ }
 {
     match c {
-        Compared::First => put_bytes(out, 0, b"first\n"),
-        Compared::Second => put_bytes(out, 0, b"second\n"),
-        Compared::Neither => put_bytes(out, 0, b"neither\n"),
+        Compared::First(n) => put_counted(out, b"first ", n),
+        Compared::Second(n) => put_counted(out, b"second ", n),
+        Compared::Neither(n) => put_counted(out, b"neither ", n),
         Compared::Refused(n) => put_refused(out, n),
     }
 }

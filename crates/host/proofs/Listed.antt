@@ -28,13 +28,16 @@ use Rattle.graph_file.specs.File.{Piece, Way, Stage, ifAdmitted, afterRow, oneR
 use Rattle.text_field.specs.Answer.{answer}
 use Rattle.graph_file.specs.Formed.{inForm}
 use Rattle.path_row.specs.Form.{PathRow, mostMark, mostScope, numberUpTo, Front, startBy, spaceBy, markBy, headHere, rowBy, rowHere}
-use Rattle.comparison.specs.Compare.{Comparison, compareRows, compareAnswer}
+use Rattle.comparison.specs.Compare.{Told, compareRows, compareAnswer}
+use Rattle.comparison.proofs.FewSteps.{compare-few}
 use Rattle.resolution.specs.Listing.{listingOf, listingFor, summaryFor}
 use Rattle.judge.specs.Judge.{judgeOf, judgeAnswer}
+use Rattle.judge.proofs.FewSteps.{judge-few}
+use Rattle.scope_graph.specs.Agree.{Judgement, as-visible, as-shadowed, as-unreached}
 use Rattle.conversion.specs.Conversion.{unshown, oldText, newText, textIn, textOf, oldOf, newOf}
 use Rattle.ruled.specs.Ruled.{ruledOf}
 use Rattle.ruled.proofs.Refusing.{refusals}
-use Rattle.host.specs.Numbers.{told, amountNumber, caseNumber, noSteps, written, comparisonCase, compared, standingCase, judged}
+use Rattle.host.specs.Numbers.{told, amountNumber, caseNumber, stepsNumber, written, comparisonCase, comparisonSteps, compared, standingCase, standingSteps, judged}
 use Rattle.host.specs.Listed.{lastRefusal, Listed, listed, carried, ListedWith, its-own, as-others, heard, amountIn, caseIn, numbered, Output, OutputWith, Cases, Numbers}
 
 -- what refuses by a number of the list, and goes on so
@@ -316,11 +319,26 @@ rules-low : (n : ℕ) → n ∈ (12 ∷ 13 ∷ []) → n < 64
 rules-low n m =
     ⊎-elim (λ (y : n ≡ 12). omega arith) (λ k. let y : n ≡ 13 = List·Memᴰ·eq-of-singleton k in omega arith) (List·Memᴰ·cases-cons m)
 
-cases : {A : Type 0} (case : A → ℕ) (o : Outcome A) → Listed o → Cases case (told (λ a. caseNumber (case a) noSteps)) o
-unfolding told numbered caseNumber noSteps
-cases case _ (listed n low high) = (listed n low high, heard-low caseIn n high)
-cases case _ (carried a) =
-    (carried a, heard-high caseIn (caseNumber (case a) noSteps) (omega arith) ∙ ap done (case-in (case a) noSteps (omega arith)))
+cases : {A : Type 0} (case steps : A → ℕ) (o : Outcome A) → Listed o → ((a : A) → o ≡ done a → steps a ≤ 63)
+    → Cases case steps (told (λ a. caseNumber (case a) (stepsNumber (steps a)))) o
+unfolding told numbered caseNumber stepsNumber
+cases case steps _ (listed n low high) few = (listed n low high, heard-low caseIn n high)
+cases case steps _ (carried a) few =
+    let z : steps a % 64 ≡ steps a = omega (arith, few a refl) in (
+      carried a,
+      heard-high caseIn (caseNumber (case a) (steps a % 64)) (omega arith)
+          ∙ ap done (case-in (case a) (steps a % 64) (omega arith) ∙ ap (λ (k : ℕ). (case a, k)) z),
+    )
+
+judge-steps : (text : List ℕ) (i : ℕ) (row : List ℕ) (room : ℕ) (j : Judgement) → judgeAnswer text i row room ≡ done j → standingSteps j ≤ 63
+unfolding standingSteps
+judge-steps text i row room as-visible e = omega arith
+judge-steps text i row room (as-shadowed n) e = judge-few text i row room n e
+judge-steps text i row room as-unreached e = omega arith
+
+compare-steps : (text a b : List ℕ) (n m : ℕ) (t : Told) → compareAnswer text a b n m ≡ done t → comparisonSteps t ≤ 63
+unfolding comparisonSteps
+compare-steps text a b n m t e = compare-few text a b n m t e
 
 pub numbers : Numbers
 unfolding compared judged oldOf textOf textIn
@@ -329,8 +347,8 @@ numbers = record {
   write = λ cells room. output (answer (writeText cells) room) (answer-listed (writeText cells) room (write-listed cells));
   listing = λ text query room. output (answer (listingFor text query) room) (answer-listed (listingFor text query) room (listing-listed text query));
   summary = λ text room. output (answer (summaryFor text) room) (answer-listed (summaryFor text) room (summary-listed text));
-  judge = λ text query row room. cases standingCase (judgeAnswer text query row room) (judge-listed text query row room);
-  compare = λ text a b n m. cases comparisonCase (compareAnswer text a b n m) (compare-listed text a b n m);
+  judge = λ text query row room. cases standingCase standingSteps (judgeAnswer text query row room) (judge-listed text query row room) (judge-steps text query row room);
+  compare = λ text a b n m. cases comparisonCase comparisonSteps (compareAnswer text a b n m) (compare-listed text a b n m) (compare-steps text a b n m);
   toOld = λ text room. output-with (14 ∷ []) (answer (oldOf text) room) fourteen-low (old-listed (readCells text) room (read-listed text));
   toNew = λ text room. output (answer (newOf text) room) (answer-listed (newOf text) room (new-listed text));
   rules = λ text expression room. output-with (12 ∷ 13 ∷ []) (answer (ruledOf expression text) room) rules-low (rules-listed text expression room);

@@ -10,12 +10,12 @@ use Rattle.scope_graph.specs.Language.{_∈_}
 use Rattle.text_field.specs.Outcome.{Outcome, refused, done}
 use Rattle.graph_file.specs.File.{readCells, writeText}
 use Rattle.text_field.specs.Answer.{answer}
-use Rattle.comparison.specs.Compare.{Comparison, compareAnswer}
+use Rattle.comparison.specs.Compare.{compareAnswer}
 use Rattle.resolution.specs.Listing.{listingFor, summaryFor}
 use Rattle.judge.specs.Judge.{judgeAnswer}
 use Rattle.conversion.specs.Conversion.{oldOf, newOf}
 use Rattle.ruled.specs.Ruled.{ruledOf}
-use Rattle.host.specs.Numbers.{noSteps, written, comparisonCase, compared, standingCase, judged}
+use Rattle.host.specs.Numbers.{written, comparisonCase, comparisonSteps, compared, standingCase, standingSteps, judged}
 
 -- the greatest number of document 01's list ("Who can cause a refusal")
 abbrev pub lastRefusal : ℕ
@@ -44,9 +44,9 @@ unfoldable pub caseIn : ℕ → ℕ × ℕ
 caseIn n = (n / 64 - 1, n % 64)
 
 -- an answer by its case and steps
-unfoldable pub numbered : {A : Type 0} → (A → ℕ) → Outcome A → Outcome (ℕ × ℕ)
-numbered case (refused n) = refused n
-numbered case (done a) = done (case a, noSteps)
+unfoldable pub numbered : {A : Type 0} → (A → ℕ) → (A → ℕ) → Outcome A → Outcome (ℕ × ℕ)
+numbered case steps (refused n) = refused n
+numbered case steps (done a) = done (case a, steps a)
 
 -- an output of the list whose number tells it
 abbrev pub Output : Outcome ℕ → Type 0
@@ -57,8 +57,8 @@ abbrev pub OutputWith : List ℕ → Outcome ℕ → Type 0
 OutputWith own o = ListedWith own o × (heard amountIn (written o) ≡ o)
 
 -- an answer by cases, of the list, whose number tells it
-abbrev pub Cases : {A : Type 0} → (A → ℕ) → (Outcome A → ℕ) → Outcome A → Type 0
-Cases case number o = Listed o × (heard caseIn (number o) ≡ numbered case o)
+abbrev pub Cases : {A : Type 0} → (A → ℕ) → (A → ℕ) → (Outcome A → ℕ) → Outcome A → Type 0
+Cases case steps number o = Listed o × (heard caseIn (number o) ≡ numbered case steps o)
 
 -- Every call, with any input and any room. 14 is what K9 gives the way to the old form; 12 and 13
 -- are K6's.
@@ -67,8 +67,8 @@ pub record Numbers : Type 0 where
   pub write : (cells : List ℕ) (room : ℕ) → Output (answer (writeText cells) room)
   pub listing : (text : List ℕ) (query room : ℕ) → Output (answer (listingFor text query) room)
   pub summary : (text : List ℕ) (room : ℕ) → Output (answer (summaryFor text) room)
-  pub judge : (text : List ℕ) (query : ℕ) (row : List ℕ) (room : ℕ) → Cases standingCase judged (judgeAnswer text query row room)
-  pub compare : (text a b : List ℕ) (n m : ℕ) → Cases comparisonCase compared (compareAnswer text a b n m)
+  pub judge : (text : List ℕ) (query : ℕ) (row : List ℕ) (room : ℕ) → Cases standingCase standingSteps judged (judgeAnswer text query row room)
+  pub compare : (text a b : List ℕ) (n m : ℕ) → Cases comparisonCase comparisonSteps compared (compareAnswer text a b n m)
   pub toOld : (text : List ℕ) (room : ℕ) → OutputWith (14 ∷ []) (answer (oldOf text) room)
   pub toNew : (text : List ℕ) (room : ℕ) → Output (answer (newOf text) room)
   pub rules : (text expression : List ℕ) (room : ℕ) → OutputWith (12 ∷ 13 ∷ []) (answer (ruledOf expression text) room)

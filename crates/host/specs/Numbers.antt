@@ -1,14 +1,14 @@
 -- The number that a C or Rust host gets for each answer: below 64 it is a refusal, by its own
 -- number; any other answer has 64 or more. Assumes nothing: these are definitions.
-use Prim.Native.Nat.{ℕ, _+_, _*_, _<_}
+use Prim.Native.Nat.{ℕ, _+_, _*_, _%_, _<_}
 use mathlib.Core.List.{List}
 use mathlib.Core.Bool.{Bool, true, false}
 use lib.Dec.{eqb}
 use lib.ListN.{length}
-use Rattle.scope_graph.specs.Computed.{Standing, is-visible, is-shadowed, is-unreached}
+use Rattle.scope_graph.specs.Agree.{Judgement, as-visible, as-shadowed, as-unreached}
 use Rattle.text_field.specs.Outcome.{Outcome, refused, done}
 use Rattle.graph_file.specs.NameSought.{nameSought, placeSought}
-use Rattle.comparison.specs.Compare.{Comparison, first, second, neither}
+use Rattle.comparison.specs.Compare.{Comparison, first, second, neither, Told}
 
 -- A refusal is told by its number (01, "Who can cause a refusal"; 12 and 13, 02, K6; 14, K9), any
 -- other answer by the number that is given for it.
@@ -25,31 +25,44 @@ amountNumber n = 64 + n
 unfoldable pub caseNumber : ℕ → ℕ → ℕ
 caseNumber case steps = 64 * (1 + case) + steps
 
--- the steps that come with a case: none are counted
-unfoldable pub noSteps : ℕ
-noSteps = 0
+-- The steps as they go into the number, which has room for 63 behind each case. Listed says that no
+-- answer has more, so that nothing is lost.
+unfoldable pub stepsNumber : ℕ → ℕ
+stepsNumber n = n % 64
 
 -- an output, by how many cells or bytes were written
 unfoldable pub written : Outcome ℕ → ℕ
 written o = told amountNumber o
 
--- a comparison (document 01, "Paths"): which of the two rows is more specific
-unfoldable pub comparisonCase : Comparison → ℕ
-comparisonCase first = 0
-comparisonCase second = 1
-comparisonCase neither = 2
+-- a comparison (document 01, "Paths"): which of the two rows is more specific, and how many of
+-- their steps are equal (02, K7)
+unfoldable pub whichCase : Comparison → ℕ
+whichCase first = 0
+whichCase second = 1
+whichCase neither = 2
 
-unfoldable pub compared : Outcome Comparison → ℕ
-compared o = told (λ c. caseNumber (comparisonCase c) noSteps) o
+unfoldable pub comparisonCase : Told → ℕ
+comparisonCase t = whichCase (t .which)
 
--- a standing (document 01, "Paths")
-unfoldable pub standingCase : Standing → ℕ
-standingCase is-visible = 0
-standingCase is-shadowed = 1
-standingCase is-unreached = 2
+unfoldable pub comparisonSteps : Told → ℕ
+comparisonSteps t = t .steps
 
-unfoldable pub judged : Outcome Standing → ℕ
-judged o = told (λ s. caseNumber (standingCase s) noSteps) o
+unfoldable pub compared : Outcome Told → ℕ
+compared o = told (λ t. caseNumber (comparisonCase t) (stepsNumber (comparisonSteps t))) o
+
+-- a standing (document 01, "Paths"), and the steps that *shadowed* carries (02, K7)
+unfoldable pub standingCase : Judgement → ℕ
+standingCase as-visible = 0
+standingCase (as-shadowed n) = 1
+standingCase as-unreached = 2
+
+unfoldable pub standingSteps : Judgement → ℕ
+standingSteps as-visible = 0
+standingSteps (as-shadowed n) = n
+standingSteps as-unreached = 0
+
+unfoldable pub judged : Outcome Judgement → ℕ
+judged o = told (λ s. caseNumber (standingCase s) (stepsNumber (standingSteps s))) o
 
 -- What the number lent for the place of the name sought holds afterwards (document 01, "The gym
 -- file", its end): the place of the name's first byte in the text; where there is no name, what it

@@ -7,14 +7,14 @@ ghost use mathlib.Core.Path.{_≡_};
 ghost use Rattle.text_field.specs.Answer.{answerOf};
 ghost use Rattle.comparison.specs.Compare.{meaning};
 ghost use Rattle.judge.specs.Judge.{meaning as standing};
-ghost use Rattle.host.specs.Numbers.{caseNumber, written, compared, judged, Sized};
+ghost use Rattle.host.specs.Numbers.{caseNumber, stepsNumber, written, compared, judged, Sized};
 
 // The first number that is no refusal. It is also how far apart two cases are, so that the steps of a path,
 // 63 at most, have room behind each.
 const ANSWERS: u64 = 64;
 
-// The steps that come with a case: none are counted.
-const NO_STEPS: u64 = 0;
+// The steps that come with a standing that carries none.
+const NO_STEPS: usize = 0;
 
 // A refusal by its number, what was written by how much it is.
 pub fn written_number(a: Answer) -> u64
@@ -28,12 +28,11 @@ pub fn written_number(a: Answer) -> u64
 }
 
 // A case and the steps that come with it.
-fn case_number(case: u64, steps: u64) -> u64
+fn case_number(case: u64, steps: usize) -> u64
     requires few_cases { ⌜ case < 64 ⌝ }
-    requires few_steps { ⌜ steps < 64 ⌝ }
-    ensures answer { λ r. ⌜ r ≡ caseNumber case steps ⌝ }
+    ensures answer { λ r. ⌜ r ≡ caseNumber case (stepsNumber steps) ⌝ }
 {
-    ANSWERS * (1 + case) + steps
+    ANSWERS * (1 + case) + steps as u64 % ANSWERS
 }
 
 // A comparison by its number.
@@ -41,9 +40,9 @@ pub fn compared_number(c: Compared) -> u64
     ensures answer { λ r. ⌜ r ≡ compared (meaning c) ⌝ }
 {
     match c {
-        Compared::First => case_number(0, NO_STEPS),
-        Compared::Second => case_number(1, NO_STEPS),
-        Compared::Neither => case_number(2, NO_STEPS),
+        Compared::First(n) => case_number(0, n),
+        Compared::Second(n) => case_number(1, n),
+        Compared::Neither(n) => case_number(2, n),
         Compared::Refused(n) => n,
     }
 }
@@ -54,7 +53,7 @@ pub fn judged_number(j: Judged) -> u64
 {
     match j {
         Judged::Visible => case_number(0, NO_STEPS),
-        Judged::Shadowed => case_number(1, NO_STEPS),
+        Judged::Shadowed(n) => case_number(1, n),
         Judged::Unreached => case_number(2, NO_STEPS),
         Judged::Refused(n) => n,
     }

@@ -10,7 +10,7 @@ use lib.Dec.{leb, ltb}
 use lib.ListN.{length, take}
 use Rattle.scope_graph.specs.Graph.{Query}
 use Rattle.scope_graph.specs.Rows.{language}
-use Rattle.scope_graph.specs.Computed.{Standing, judged}
+use Rattle.scope_graph.specs.Agree.{Judgement, judgement}
 use Rattle.graph_file.specs.Format.{querySection}
 use Rattle.text_field.specs.Outcome.{Outcome, refused, done, andThen, refuseIf}
 use Rattle.graph_file.specs.File.{readCells}
@@ -83,7 +83,7 @@ module _ (cells : List ℕ) (was : WasRead cells) (queries : List ℕ) (i n : �
 
   module _ (h : i < n) where
     asked : judgeOf cells i row room
-        ≡ andThen (rowHere row) (λ p. refuseIf (ltb room (length (p .steps))) 9 (done (judged (language (rulesOf cells)) (graphOf cells) (queryAt cells i) (ruled cells p))))
+        ≡ andThen (rowHere row) (λ p. refuseIf (ltb room (length (p .steps))) 9 (done (judgement (language (rulesOf cells)) (graphOf cells) (queryAt cells i) (ruled cells p))))
     unfolding judgeOf refuseIf
     asked = rw (lt-leb (length (queriesOf cells)) i (let c = count-is cells was queries part i n counted in omega arith))
 
@@ -95,7 +95,7 @@ module _ (cells : List ℕ) (was : WasRead cells) (queries : List ℕ) (i n : �
       abbrev theRow : PathRow
       theRow = record { mark = mark; start = from; steps = stepsIn row }
 
-      opened : judgeOf cells i row room ≡ refuseIf (ltb room count) 9 (done (judged (language (rulesOf cells)) (graphOf cells) (queryAt cells i) (ruled cells theRow)))
+      opened : judgeOf cells i row room ≡ refuseIf (ltb room count) 9 (done (judgement (language (rulesOf cells)) (graphOf cells) (queryAt cells i) (ruled cells theRow)))
       unfolding andThen
       opened = asked ∙ rw (p .read, p .counts)
 
@@ -108,8 +108,8 @@ module _ (cells : List ℕ) (was : WasRead cells) (queries : List ℕ) (i n : �
       unfolding refuseIf
       judges k q at placed is r e =
           e
-          ∙ ap {B = Outcome Standing}
-          (λ (z : Query (language (rulesOf cells))). done (judged (language (rulesOf cells)) (graphOf cells) z (ruled cells theRow)))
+          ∙ ap {B = Outcome Judgement}
+          (λ (z : Query (language (rulesOf cells))). done (judgement (language (rulesOf cells)) (graphOf cells) z (ruled cells theRow)))
           (query-is cells was queries part i n counted h q at placed is)
           ∙ sym (opened ∙ rw (le-ltb room count k))
 

@@ -1,7 +1,8 @@
--- Laws of the ends that are cut along a path row's steps. Assumes nothing.
+-- Laws of the ends that are cut along a path row's steps, and of the last of their places. Assumes
+-- nothing.
 use mathlib.Core.Path.{_≡_, refl, sym, ap, _∙_}
-use mathlib.Core.Bool.{Bool, true, false, not, _||_, and-false}
-use mathlib.Core.Option.{none}
+use mathlib.Core.Bool.{Bool, true, false, and-false}
+use mathlib.Core.Option.{Option, some, none}
 use mathlib.Core.List.{List, [], _∷_}
 use Prim.Native.Nat.{ℕ, zero, suc, _+_, _-_, _≤_, _<_}
 use native.Mathlib.Omega.{arith}
@@ -14,7 +15,7 @@ use Rattle.block.specs.Sets.{hasScope}
 use Rattle.block.specs.Block.{firstEdge, edgeCell, hopOf, EdgeTo}
 use Rattle.block.proofs.BlockLaws.{pair-no-second}
 use Rattle.search.specs.declared.Node.{Node}
-use Rattle.search.specs.Board.{without, leadsTo, cutHere, cutAlong}
+use Rattle.search.specs.Board.{without, cutHere}
 use Rattle.search.specs.Tables.{endNumber, plainEnd, tableOrder, tableBoard}
 use Rattle.search.proofs.RulesLists.{anyOf-no}
 use Rattle.path_row.specs.declared.form.StepRead.{StepRead}
@@ -23,7 +24,9 @@ use Rattle.path_row.specs.Form.{stepMeaning, stepFrom}
 use Rattle.path_row.specs.Numbering.{labelNumber}
 use Rattle.path_row.proofs.TurnLaws.{never-earlier}
 use Rattle.comparison.specs.Letters.{blockLetters}
-use Rattle.judge.specs.Steps.{hopTo, stepHops, stateOn, Behind, endCut, rowCut}
+use Rattle.judge.specs.declared.cut.Caught.{Caught}
+use Rattle.judge.specs.LastCut.{caughtAt, deeper, latest, laterOf, leadsBy, lastCut}
+use Rattle.judge.specs.Steps.{hopTo, stepHops, stateOn, Behind, endCut, rowLast}
 use Rattle.judge.proofs.HopLaws.{free-is}
 use Rattle.judge.proofs.WalkLaws.{hops-full, hops-end, hops-on, leads-no, leads-on}
 
@@ -56,8 +59,8 @@ module _ (block : List ℕ) (goal : ℕ) (n : Node) where
   unfolding endOf
   label-end l = rw (add-one l)
 
-  pub stop-end : endCut block goal n (plainEnd (endOf 0)) ≡ rowCut block goal n []
-  unfolding endOf plainEnd endCut rowCut cutAlong
+  stop-end : rowLast block goal n [] ≡ deeper none (endCut block goal n (plainEnd (endOf 0)))
+  unfolding endOf plainEnd endCut rowLast lastCut
   stop-end = refl
 
   -- a step by the edge that it goes along, and by its label alone where there is none
@@ -76,67 +79,107 @@ module _ (block : List ℕ) (goal : ℕ) (n : Node) where
     step-edge h x f u k =
         k ∙ ap (λ (z : HopOf Turned). endCut block goal n (by (z .step))) (ap hopOf f ∙ e .is (omega arith))
 
-  -- is an end cut where a hop goes by it, or behind the hop?
-  module _ (l t : ℕ) (hs : List (HopOf Turned)) (u : Bool) (k : u ≡ endCut block goal n (by (hopTo block (n .scope) l t .step))) where
-    abbrev enter : ℕ → ℕ → Bool
-    enter t′ r′ = cutAlong (tableBoard block goal) (tableOrder block) (n .left) (without (hasScope (n .free)) t′) t′ r′ hs stop
+  -- the last place behind a hop, or where it goes
+  module _ (l t : ℕ) (hs : List (HopOf Turned)) (u : Bool) (k : u ≡ endCut block goal n (by (hopTo block (n .scope) l t .step)))
+      (r : ℕ) (is : r ≡ stateOn block n (hopTo block (n .scope) l t)) where
+    abbrev enter : ℕ → ℕ → Option ℕ
+    enter t′ r′ = lastCut (tableBoard block goal) (tableOrder block) (n .left) (without (hasScope (n .free)) t′) t′ r′ hs stop
 
-    split : rowCut block goal n (hopTo block (n .scope) l t ∷ hs)
-        ≡ (u || leadsTo (tableBoard block goal) enter (hasScope (n .free)) (n .state) (hopTo block (n .scope) l t))
-    unfolding rowCut endCut cutAlong
+    split : rowLast block goal n (hopTo block (n .scope) l t ∷ hs)
+        ≡ deeper (leadsBy (tableBoard block goal) none enter (hasScope (n .free)) (n .state) (hopTo block (n .scope) l t)) u
+    unfolding rowLast endCut lastCut
     split = rw k
 
-    pub cut-here : u ≡ true → rowCut block goal n (hopTo block (n .scope) l t ∷ hs) ≡ true
-    cut-here f = split ∙ rw f
+    hop-no : 16 ≤ r → rowLast block goal n (hopTo block (n .scope) l t ∷ hs) ≡ deeper none u
+    hop-no g = split ∙ ap (λ (z : Option ℕ). deeper z u) (leads-no block goal n l t r is none enter g)
 
-    module _ (f : u ≡ false) (r : ℕ) (is : r ≡ stateOn block n (hopTo block (n .scope) l t)) where
-      pub cut-no : 16 ≤ r → rowCut block goal n (hopTo block (n .scope) l t ∷ hs) ≡ false
-      cut-no g = split ∙ rw f (leads-no block goal n l t r is enter g)
+    hop-beyond : r < 16 → rowLast block goal n (hopTo block (n .scope) l t ∷ hs) ≡ deeper (enter t r) u
+    hop-beyond g = split ∙ ap (λ (z : Option ℕ). deeper z u) (leads-on block goal n l t r is none enter g)
 
-      cut-beyond : r < 16 → rowCut block goal n (hopTo block (n .scope) l t ∷ hs) ≡ enter t r
-      cut-beyond g = split ∙ rw f (leads-on block goal n l t r is enter g)
+    hop-last : r < 16 → n .left ≡ 0 → rowLast block goal n (hopTo block (n .scope) l t ∷ hs) ≡ deeper none u
+    unfolding lastCut
+    hop-last g z = hop-beyond g ∙ rw z
 
-      pub cut-last : r < 16 → n .left ≡ 0 → rowCut block goal n (hopTo block (n .scope) l t ∷ hs) ≡ false
-      unfolding cutAlong
-      cut-last g z = cut-beyond g ∙ rw z
+    hop-on : r < 16 → (n .left ≡ 0 → ⊥) → (m : Node) → Behind n t r (n .left - 1) m
+        → rowLast block goal n (hopTo block (n .scope) l t ∷ hs) ≡ deeper (rowLast block goal m hs) u
+    unfolding rowLast
+    hop-on g z m b =
+        let one : n .left ≡ suc (m .left) = omega (arith, b .left-is) in
+        hop-beyond g ∙ rw (one, b .scope, b .state, free-is n m t r (n .left - 1) b)
 
-      pub cut-on : r < 16 → (n .left ≡ 0 → ⊥) → (m : Node) → Behind n t r (n .left - 1) m
-          → rowCut block goal n (hopTo block (n .scope) l t ∷ hs) ≡ rowCut block goal m hs
-      unfolding rowCut
-      cut-on g z m b =
-          let one : n .left ≡ suc (m .left) = omega (arith, b .left-is) in
-          cut-beyond g ∙ rw (one, b .scope, b .state, free-is n m t r (n .left - 1) b)
+-- what the code keeps
+pub nothing-yet : (o : Option ℕ) → laterOf (caughtAt (record { found = false; place = 0 })) 0 o ≡ o
+unfolding caughtAt laterOf
+nothing-yet none = refl
+nothing-yet (some n) = ap some (let z : 0 + n ≡ n = omega arith in z)
 
-  -- along the steps that are left of the row
-  module _ (row : List ℕ) (i left : ℕ) where
-    abbrev pub cuts : Node → ℕ → ℕ → Bool
-    cuts m left′ i′ = rowCut block goal m (stepHops block row left′ i′ (m .scope))
+pub kept-on : (c : Caught) (u : Bool) (place : ℕ) → u ≡ false → caughtAt c ≡ latest (caughtAt c) u place
+unfolding latest
+kept-on c u place e = rw e
 
-    pub cuts-full : (u : Bool) → u ≡ endCut block goal n (plainEnd (endOf 0)) → left ≤ 0 → u ≡ cuts n left i
-    cuts-full u e h = rw (hops-full block row left i (n .scope) h) (e ∙ stop-end)
+pub found-at : (c : Caught) → c .found ≡ true → caughtAt c ≡ some (c .place)
+unfolding caughtAt
+found-at c e = rw (e, caughtAt)
 
-    module _ (a : StepRead) (e : stepMeaning a ≡ stepFrom i row) where
-      pub cuts-end : (u : Bool) → u ≡ endCut block goal n (plainEnd (endOf 0)) → a ≡ NoStep → u ≡ cuts n left i
-      cuts-end u f k = rw (hops-end block row i left (n .scope) a e k) (f ∙ stop-end)
+pub found-none : (c : Caught) → c .found ≡ false → caughtAt c ≡ none
+unfolding caughtAt
+found-none c e = rw (e, caughtAt)
 
-      module _ (y v next : ℕ) (f : a ≡ Taken y v next) (h : 1 ≤ left) (l : ℕ) (k : l ≡ labelNumber (blockLetters block) y)
-          (u : Bool) (c : u ≡ endCut block goal n (by (hopTo block (n .scope) l v .step))) where
-        abbrev rest : List (HopOf Turned)
-        rest = stepHops block row (left - 1) next v
+pub kept-here : (last c : Caught) → c .found ≡ true → caughtAt c ≡ latest (caughtAt last) (c .found) (c .place)
+unfolding latest
+kept-here last c e =
+    let now : some (c .place) ≡ latest (caughtAt last) (c .found) (c .place) = rw e in
+    found-at c e ∙ now
 
-        pub cuts-here : u ≡ true → cuts n left i ≡ true
-        cuts-here m = rw (hops-on block row i left (n .scope) a e y v next f h l k) (cut-here l v rest u c m)
+module _ (last : Option ℕ) (i : ℕ) (u : Bool) where
+  here-last : laterOf last i (deeper none u) ≡ latest last u i
+  unfolding laterOf deeper latest
+  here-last = at u
+    where
+      at : (b : Bool) → laterOf last i (deeper none b) ≡ latest last b i
+      at true = ap some (let z : i + 0 ≡ i = omega arith in z)
+      at false = refl
 
-        module _ (m : u ≡ false) (r : ℕ) (is : r ≡ stateOn block n (hopTo block (n .scope) l v)) where
-          pub cuts-no : 16 ≤ r → cuts n left i ≡ false
-          cuts-no g = rw (hops-on block row i left (n .scope) a e y v next f h l k) (cut-no l v rest u c m r is g)
+  on-later : (o : Option ℕ) → laterOf last i (deeper o u) ≡ laterOf (latest last u i) (i + 1) o
+  unfolding laterOf deeper
+  on-later none = here-last
+  on-later (some n) = ap some (let z : i + suc n ≡ (i + 1) + n = omega arith in z)
 
-          pub cuts-last : r < 16 → n .left ≡ 0 → cuts n left i ≡ false
-          cuts-last g z = rw (hops-on block row i left (n .scope) a e y v next f h l k) (cut-last l v rest u c m r is g z)
+-- along the steps that are left of the row, where `last` is kept of those before place `place`
+module _ (block : List ℕ) (goal : ℕ) (n : Node) (row : List ℕ) (i left : ℕ) (last : Option ℕ) (place : ℕ) where
+  abbrev pub lasts : Node → ℕ → ℕ → Option ℕ
+  lasts m left′ i′ = rowLast block goal m (stepHops block row left′ i′ (m .scope))
 
-          pub cuts-on : r < 16 → (n .left ≡ 0 → ⊥) → (next-node : Node) → Behind n v r (n .left - 1) next-node
-              → cuts n left i ≡ cuts next-node (left - 1) next
-          cuts-on g z next-node b =
-              ap (rowCut block goal n) (hops-on block row i left (n .scope) a e y v next f h l k)
-              ∙ cut-on l v rest u c m r is g z next-node b
-              ∙ ap (λ (s : ℕ). rowCut block goal next-node (stepHops block row (left - 1) next s)) (sym (b .scope))
+  module _ (u : Bool) (f : u ≡ endCut block goal n (plainEnd (endOf 0))) where
+    ends : stepHops block row left i (n .scope) ≡ [] → latest last u place ≡ laterOf last place (lasts n left i)
+    ends e = sym (ap (laterOf last place) (ap (rowLast block goal n) e ∙ stop-end block goal n ∙ ap (deeper none) (sym f)) ∙ here-last last place u)
+
+    pub lasts-full : left ≤ 0 → latest last u place ≡ laterOf last place (lasts n left i)
+    lasts-full h = ends (hops-full block row left i (n .scope) h)
+
+    pub lasts-end : (a : StepRead) → stepMeaning a ≡ stepFrom i row → a ≡ NoStep → latest last u place ≡ laterOf last place (lasts n left i)
+    lasts-end a e k = ends (hops-end block row i left (n .scope) a e k)
+
+  module _ (a : StepRead) (e : stepMeaning a ≡ stepFrom i row) (y v next : ℕ) (f : a ≡ Taken y v next) (h : 1 ≤ left) (l : ℕ) (k : l ≡ labelNumber (blockLetters block) y)
+      (u : Bool) (c : u ≡ endCut block goal n (by (hopTo block (n .scope) l v .step))) (r : ℕ) (is : r ≡ stateOn block n (hopTo block (n .scope) l v)) where
+    abbrev rest : List (HopOf Turned)
+    rest = stepHops block row (left - 1) next v
+
+    opens : lasts n left i ≡ rowLast block goal n (hopTo block (n .scope) l v ∷ rest)
+    opens = ap (rowLast block goal n) (hops-on block row i left (n .scope) a e y v next f h l k)
+
+    no-more : rowLast block goal n (hopTo block (n .scope) l v ∷ rest) ≡ deeper none u → latest last u place ≡ laterOf last place (lasts n left i)
+    no-more z = sym (ap (laterOf last place) (opens ∙ z) ∙ here-last last place u)
+
+    pub lasts-no : 16 ≤ r → latest last u place ≡ laterOf last place (lasts n left i)
+    lasts-no g = no-more (hop-no block goal n l v rest u c r is g)
+
+    pub lasts-last : r < 16 → n .left ≡ 0 → latest last u place ≡ laterOf last place (lasts n left i)
+    lasts-last g z = no-more (hop-last block goal n l v rest u c r is g z)
+
+    pub lasts-on : r < 16 → (n .left ≡ 0 → ⊥) → (m : Node) → Behind n v r (n .left - 1) m → (o : Option ℕ) → o ≡ latest last u place → (left′ : ℕ) → left′ ≡ left - 1
+        → laterOf o (place + 1) (lasts m left′ next) ≡ laterOf last place (lasts n left i)
+    lasts-on g z m b o oe left′ le =
+        rw (oe, le)
+        (ap (λ (s : ℕ). laterOf (latest last u place) (place + 1) (rowLast block goal m (stepHops block row (left - 1) next s))) (b .scope)
+        ∙ sym (ap (laterOf last place) (opens ∙ hop-on block goal n l v rest u c r is g z m b) ∙ on-later last place u (rowLast block goal m rest)))

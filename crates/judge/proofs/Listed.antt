@@ -14,7 +14,8 @@ use Rattle.scope_graph.specs.Path.{Distinct, HopOf, Hop, Along, tos, Entry}
 use Rattle.scope_graph.specs.Path.{PathRow as RulesRow}
 use Rattle.scope_graph.specs.Turns.{Turned, turnBy}
 use Rattle.scope_graph.specs.Rows.{language}
-use Rattle.scope_graph.specs.Computed.{hopsAt, is-visible}
+use Rattle.scope_graph.specs.Computed.{hopsAt}
+use Rattle.scope_graph.specs.Agree.{as-visible}
 use Rattle.scope_graph.proofs.Lists.{and-both, map-elim}
 use Rattle.scope_graph.proofs.Nodes.{hopsAt-elim, hopsAt-intro, tos-length, tos-bounded}
 use Rattle.scope_graph.proofs.Pigeon.{distinct-bounded}
@@ -174,9 +175,9 @@ module _ (text cells : List ℕ) (read : readCells text ≡ done cells) where
     unfolding ruled pathOf
     ruled-is = rw (hops-back range (r .path .start) (r .path .hops) (entry .visible .reached .path .along))
 
-    pub judged-visible : judgeAnswer text i (rowText p) 63 ≡ done is-visible
+    pub judged-visible : judgeAnswer text i (rowText p) 63 ≡ done as-visible
     judged-visible =
-        judged-right text cells read i inside (rowText p) p (written-then-read p is-row) 63 few .answered is-visible .1
+        judged-right text cells read i inside (rowText p) p (written-then-read p is-row) 63 few .answered as-visible .1
         (subst (Entry L g (queryAt cells i)) (sym ruled-is) entry)
 
 pub listed-visible : ListedVisible

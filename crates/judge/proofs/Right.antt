@@ -9,9 +9,8 @@ use lib.ListN.{length}
 use Rattle.scope_graph.specs.Language.{Language}
 use Rattle.scope_graph.specs.Graph.{Graph, Query}
 use Rattle.scope_graph.specs.Rows.{language}
-use Rattle.scope_graph.specs.Computed.{Standing, is-visible, is-shadowed, is-unreached, judged}
-use Rattle.scope_graph.specs.Promises.{QueryPromises}
-use Rattle.scope_graph.proofs.Promises.{promises}
+use Rattle.scope_graph.specs.Agree.{Judgement, as-visible, as-shadowed, as-unreached, judgement, CaughtIs}
+use Rattle.scope_graph.proofs.Agree.{agree-promises}
 use Rattle.text_field.specs.Outcome.{Outcome, done, andThen, refuseIf}
 use Rattle.graph_file.specs.File.{readCells}
 use Rattle.graph_file.specs.Decode.{rulesOf, graphOf, opensOf, queriesOf, scopesOf}
@@ -35,39 +34,39 @@ module _ (text cells : List ℕ) (read : readCells text ≡ done cells) (i : ℕ
   abbrev q : Query L
   q = queryAt cells i
 
-  abbrev found : Standing
-  found = judged L g q (ruled cells p)
+  abbrev found : Judgement
+  found = judgement L g q (ruled cells p)
 
   starts : queryAt cells i .start < scopesOf cells
   unfolding queryAt
   starts = accepted cells (text, read) .starts (queryAt cells i) (getD-in (queriesOf cells) i _ inside)
 
-  kept : QueryPromises L g (opensOf cells) q
-  kept = promises .query L g (opensOf cells) q (accepted cells (text, read) .accepted q starts)
+  kept : CaughtIs L g q
+  kept = agree-promises .query L g (opensOf cells) q (accepted cells (text, read) .accepted q starts) (agree-promises .language (rulesOf cells))
 
   answer-is : judgeAnswer text i row room ≡ done found
   unfolding judgeAnswer judgeOf andThen refuseIf
   answer-is = rw (read, lt-leb (length (queriesOf cells)) i inside, row-is, le-ltb room (length (p .steps)) fits)
 
-  by-rules : (s : Standing) → (found ≡ s) ↔ Stands cells i p s
-  by-rules is-visible = kept .judged-visible (ruled cells p)
-  by-rules is-shadowed = kept .judged-shadowed (ruled cells p)
-  by-rules is-unreached = kept .judged-unreached (ruled cells p)
+  by-rules : (s : Judgement) → (found ≡ s) ↔ Stands cells i p s
+  by-rules as-visible = kept .visible (ruled cells p)
+  by-rules (as-shadowed n) = kept .shadowed (ruled cells p) n
+  by-rules as-unreached = kept .unreached (ruled cells p)
 
-  pub answers : (s : Standing) → (judgeAnswer text i row room ≡ done s) ↔ Stands cells i p s
-  answers s = (λ e. by-rules s .0 (done-same found s (sym answer-is ∙ e)), λ k. answer-is ∙ ap {B = Outcome Standing} (λ (z : Standing). done z) (by-rules s .1 k))
+  pub answers : (s : Judgement) → (judgeAnswer text i row room ≡ done s) ↔ Stands cells i p s
+  answers s = (λ e. by-rules s .0 (done-same found s (sym answer-is ∙ e)), λ k. answer-is ∙ ap {B = Outcome Judgement} (λ (z : Judgement). done z) (by-rules s .1 k))
 
   pub holds : Stands cells i p found
   holds = by-rules found .0 refl
 
-  pub no-other : (s : Standing) → Stands cells i p s → s ≡ found
+  pub no-other : (s : Judgement) → Stands cells i p s → s ≡ found
   no-other s k = sym (by-rules s .1 k)
 
 -- every answer is right
 pub judged-right : JudgedRight
 judged-right text cells read i inside row p row-is room fits = record {
   answered = answers text cells read i inside row p row-is room fits;
-  standing = judged (language (rulesOf cells)) (graphOf cells) (queryAt cells i) (ruled cells p);
+  standing = judgement (language (rulesOf cells)) (graphOf cells) (queryAt cells i) (ruled cells p);
   stands = holds text cells read i inside row p row-is room fits;
   only = no-other text cells read i inside row p row-is room fits;
 }

@@ -2,6 +2,7 @@
 -- was read. Assumes nothing.
 use mathlib.Core.Path.{_≡_, refl, sym, ap, _∙_, fun-ext, subst}
 use mathlib.Core.Bool.{Bool, true, false, _&&_}
+use mathlib.Core.Option.{Option, some, none}
 use mathlib.Core.List.{List, [], _∷_, map}
 use Prim.Native.Nat.{ℕ, _<_}
 use native.Mathlib.Omega.{arith}
@@ -14,7 +15,10 @@ use Rattle.scope_graph.specs.Path.{HopOf, lastFrom}
 use Rattle.scope_graph.specs.Turns.{Turned}
 use Rattle.scope_graph.specs.Path.{PathRow as RulesRow}
 use Rattle.scope_graph.specs.Rows.{PackedName, Rules, anyOf, sameName, language}
-use Rattle.scope_graph.specs.Computed.{Standing, is-visible, is-shadowed, is-unreached, keep, hopsAt, marksAt, standing, judged}
+use Rattle.scope_graph.specs.Computed.{Standing, is-visible, is-shadowed, is-unreached, keep, hopsAt, marksAt, isReached, standing, judged}
+use Rattle.scope_graph.specs.Agree.{Judgement, as-visible, as-shadowed, as-unreached, withSteps, caught, judgement}
+use Rattle.scope_graph.proofs.Lists.{and-left, and-both}
+use Rattle.scope_graph.proofs.Agree.{agree-promises}
 use Rattle.graph_file.specs.Format.{countSection, declarationSection}
 use Rattle.text_field.specs.Outcome.{Outcome, done}
 use Rattle.graph_file.specs.Admission.{Row, value, blank}
@@ -26,6 +30,7 @@ use Rattle.search.specs.Board.{boardOf, reachedBy, cutAlong}
 use Rattle.search.specs.Tables.{tableBoard}
 use Rattle.search.specs.Conditions.{freeAt}
 use Rattle.search.proofs.Rules.{standing-is}
+use Rattle.search.proofs.Rules.{reached-is as path-reached}
 use Rattle.graph_table.specs.declared.rows.QueryRow.{QueryRow}
 use Rattle.graph_table.specs.Sections.{partOf, rowsOf}
 use Rattle.graph_table.specs.Values.{packed, rowDeclared, declares}
@@ -39,7 +44,11 @@ use Rattle.path_row.specs.Numbering.{hopsOf, pathOf}
 use Rattle.comparison.proofs.RowLaws.{steps-here}
 use Rattle.judge.specs.declared.standing.Judged.the-variants.{Visible, Shadowed, Unreached}
 use Rattle.judge.specs.Judge.{meaning, ruled}
-use Rattle.judge.specs.Steps.{isMarked, hasMark, stepHops, Begins, lastOf, rowReached, rowCut, judgedRow}
+use Rattle.judge.specs.declared.cut.Caught.{Caught}
+use Rattle.judge.specs.LastCut.{caughtAt, lastCut}
+use Rattle.judge.specs.Steps.{isMarked, hasMark, stepHops, Begins, lastOf, rowReached, rowLast, judgedRow}
+use Rattle.judge.proofs.CutLaws.{found-at, found-none}
+use Rattle.judge.proofs.Deepest.{isPlace, cut-some, caught-is}
 
 -- The marks of a name at a scope, row by row.
 module _ (r : Rules) (x : QueryRow) (mark s : ℕ) where
@@ -124,6 +133,9 @@ module _ (cells : List ℕ) (x : QueryRow) (mark from : ℕ) (row : List ℕ) (a
   abbrev ruledCut : Bool
   ruledCut = cutAlong (boardOf L g (q .name)) (L .prefers) (scopesOf cells) (freeAt (x .start)) (x .start) 0 hs stop
 
+  abbrev ruledLast : Option ℕ
+  ruledLast = lastCut (boardOf L g (q .name)) (L .prefers) (scopesOf cells) (freeAt (x .start)) (x .start) 0 hs stop
+
   abbrev ruledMark : Bool
   ruledMark = anyOf (eqb mark) (marksAt L (g .declarations) (lastFrom L from hs) (q .name))
 
@@ -139,15 +151,32 @@ module _ (cells : List ℕ) (x : QueryRow) (mark from : ℕ) (row : List ℕ) (a
   unfolding judged
   judged-is = rw row-is (ap (λ (z : Standing). withMark ruledMark z) stands)
 
-  abbrev told : Standing → Outcome Standing
-  told z = done z
+  -- what is told of a standing
+  abbrev told : Standing → Outcome Judgement
+  told z = done (withSteps z (caught L g q (theRow .path)))
+
+  tells : (z : Standing) → judged L g q theRow ≡ z → told z ≡ done (judgedRow cells x mark from row)
+  unfolding judgement
+  tells z e = ap told (sym e)
+
+  -- a reached path: the last place whose end is cut tells its number
+  row-reached : from ≡ x .start → ruledReached ≡ true → isReached L g q (theRow .path) ≡ true
+  unfolding graphOf freeAt
+  row-reached same t =
+      rw row-is (path-reached L laws g q range (a .starts) (λ t. ltb t 64) all-free (record { start = from; hops = hs })
+      ∙ and-both _ _ (eq-eqb from (x .start) same) t)
+
+  steps-are : isReached L g q (theRow .path) ≡ true → (n : ℕ) → ruledLast ≡ some n → caught L g q (theRow .path) ≡ n
+  unfolding graphOf freeAt
+  steps-are t n e =
+      rw row-is (caught-is L laws g q range (agree-promises .language (rulesOf cells)) (λ t. ltb t 64) all-free (record { start = from; hops = hs }) (rw row-is at t) n e)
 
   -- a row that starts elsewhere
   pub starts-apart : (from ≡ x .start → ⊥) → meaning Unreached ≡ done (judgedRow cells x mark from row)
-  unfolding meaning
+  unfolding meaning withSteps
   starts-apart h =
-      ap told (sym (judged-is ∙ ap (λ (z : Bool). withMark ruledMark (byTests z ruledReached ruledCut)) (ne-eqb from (x .start) h)
-      ∙ at ruledMark))
+      tells is-unreached (judged-is ∙ ap (λ (z : Bool). withMark ruledMark (byTests z ruledReached ruledCut)) (ne-eqb from (x .start) h)
+      ∙ at ruledMark)
     where
       at : (u : Bool) → withMark u is-unreached ≡ is-unreached
       at true = refl
@@ -195,13 +224,13 @@ module _ (cells : List ℕ) (x : QueryRow) (mark from : ℕ) (row : List ℕ) (a
           judged-same ∙ both ruledMark ruledReached ruledCut ∙ ap (λ (z : Bool). byTests true z ruledCut) (sym (e ∙ reached-is))
 
       pub not-reached : u ≡ false → meaning Unreached ≡ done (judgedRow cells x mark from row)
-      unfolding meaning
-      not-reached h = ap told (sym (by-reached ∙ ap (λ (z : Bool). byTests true z ruledCut) h))
+      unfolding meaning withSteps
+      not-reached h = tells is-unreached (by-reached ∙ ap (λ (z : Bool). byTests true z ruledCut) h)
 
-      module _ (h : u ≡ true) (w : Bool) (f : w ≡ rowCut block goal n (stepHops block row mostSteps at (n .scope))) where
-        cut-is : w ≡ ruledCut
-        unfolding rowCut
-        cut-is =
+      module _ (h : u ≡ true) (w : Caught) (f : caughtAt w ≡ rowLast block goal n (stepHops block row mostSteps at (n .scope))) where
+        place-is : caughtAt w ≡ ruledLast
+        unfolding rowLast
+        place-is =
             f
             ∙ rw (
               hops-here,
@@ -213,13 +242,21 @@ module _ (cells : List ℕ) (x : QueryRow) (mark from : ℕ) (row : List ℕ) (a
               begins .state,
             )
 
-        by-cut : judged L g q theRow ≡ byTests true true w
-        by-cut = by-reached ∙ ap (λ (z : Bool). byTests true z ruledCut) h ∙ ap (λ (z : Bool). byTests true true z) (sym cut-is)
+        by-cut : judged L g q theRow ≡ byTests true true (isPlace (caughtAt w))
+        by-cut =
+            by-reached ∙ ap (λ (z : Bool). byTests true z ruledCut) h
+            ∙ ap (λ (z : Bool). byTests true true z)
+            (cut-some L g (q .name) (scopesOf cells) (freeAt (x .start)) (x .start) 0 hs stop ∙ ap isPlace (sym place-is))
 
-        pub is-cut : w ≡ true → meaning Shadowed ≡ done (judgedRow cells x mark from row)
-        unfolding meaning
-        is-cut k = ap told (sym (by-cut ∙ ap (λ (z : Bool). byTests true true z) k))
+        reached-here : isReached L g q (theRow .path) ≡ true
+        reached-here = row-reached same (and-left ruledReached ruledMark (sym (e ∙ reached-is) ∙ h))
 
-        pub not-cut : w ≡ false → meaning Visible ≡ done (judgedRow cells x mark from row)
-        unfolding meaning
-        not-cut k = ap told (sym (by-cut ∙ ap (λ (z : Bool). byTests true true z) k))
+        pub is-cut : w .found ≡ true → meaning (Shadowed (w .place)) ≡ done (judgedRow cells x mark from row)
+        unfolding meaning withSteps isPlace
+        is-cut k =
+            ap {B = Outcome Judgement} (λ (z : ℕ). done (as-shadowed z)) (sym (steps-are reached-here (w .place) (sym place-is ∙ found-at w k)))
+            ∙ tells is-shadowed (by-cut ∙ ap (λ (z : Option ℕ). byTests true true (isPlace z)) (found-at w k))
+
+        pub not-cut : w .found ≡ false → meaning Visible ≡ done (judgedRow cells x mark from row)
+        unfolding meaning withSteps isPlace
+        not-cut k = tells is-visible (by-cut ∙ ap (λ (z : Option ℕ). byTests true true (isPlace z)) (found-none w k))

@@ -23,6 +23,7 @@ use Rattle.path_row.specs.Form.{stepMeaning, stepFrom, stepsOf}
 use Rattle.path_row.specs.Numbering.{labelNumber, hopOf, hopsOf}
 use Rattle.path_row.proofs.Steps.{steps-next, steps-none}
 use Rattle.comparison.specs.Letters.{blockLetters}
+use Rattle.judge.specs.LastCut.{leadsBy}
 use Rattle.judge.specs.Steps.{hasMark, hopTo, sameHop, hasHop, stepHops, stateOn, stateAlong, Behind, lastOf, rowReached}
 use Rattle.judge.proofs.HopLaws.{on-taken, on-free, free-is}
 
@@ -44,27 +45,27 @@ module _ (block row : List ℕ) where
     hops-on x v next f h l k = rw (steps-next row i left a e x v next f h, k)
 
 -- where a hop leads
-module _ (block : List ℕ) (goal : ℕ) (n : Node) (l t r : ℕ) (is : r ≡ stateOn block n (hopTo block (n .scope) l t)) (enter : ℕ → ℕ → Bool) where
-  abbrev leads : Bool
-  leads = leadsTo (tableBoard block goal) enter (hasScope (n .free)) (n .state) (hopTo block (n .scope) l t)
+module _ (block : List ℕ) (goal : ℕ) (n : Node) (l t r : ℕ) (is : r ≡ stateOn block n (hopTo block (n .scope) l t)) {A : Type 0} (other : A) (enter : ℕ → ℕ → A) where
+  abbrev leads : A
+  leads = leadsBy (tableBoard block goal) other enter (hasScope (n .free)) (n .state) (hopTo block (n .scope) l t)
 
-  pub leads-no : 16 ≤ r → leads ≡ false
-  unfolding leadsTo tableBoard
+  pub leads-no : 16 ≤ r → leads ≡ other
+  unfolding leadsBy tableBoard
   leads-no h = at (Two (hasScope (n .free) t))
     where
-      at : (hasScope (n .free) t ≡ true) ⊎ (hasScope (n .free) t ≡ false) → leads ≡ false
-      at (inr f) = rw (f, leadsTo)
-      at (inl f) = rw (f, leadsTo, state-none (nextCell block (n .state) l) (omega (arith, is ∙ on-free block n l t f)))
+      at : (hasScope (n .free) t ≡ true) ⊎ (hasScope (n .free) t ≡ false) → leads ≡ other
+      at (inr f) = rw (f, leadsBy)
+      at (inl f) = rw (f, leadsBy, state-none (nextCell block (n .state) l) (omega (arith, is ∙ on-free block n l t f)))
 
   pub leads-on : r < 16 → leads ≡ enter t r
-  unfolding leadsTo tableBoard
+  unfolding leadsBy tableBoard
   leads-on h = at (Two (hasScope (n .free) t))
     where
       at : (hasScope (n .free) t ≡ true) ⊎ (hasScope (n .free) t ≡ false) → leads ≡ enter t r
       at (inr f) = absurd (omega (arith, is ∙ on-taken block n l t f))
       at (inl f) =
           let e : r ≡ nextCell block (n .state) l = is ∙ on-free block n l t f in
-          rw (f, leadsTo, state-some (nextCell block (n .state) l) (omega arith), ← e)
+          rw (f, leadsBy, state-some (nextCell block (n .state) l) (omega arith), ← e)
 
 -- does the row lead on by a hop?
 module _ (block decls : List ℕ) (goal : ℕ) (x : QueryRow) (mark : ℕ) (n : Node) where
@@ -76,7 +77,7 @@ module _ (block decls : List ℕ) (goal : ℕ) (x : QueryRow) (mark : ℕ) (n : 
     enter t′ r′ = reachedBy (tableBoard block goal) (without (hasScope (n .free)) t′) t′ r′ hs
 
     abbrev beyond : Bool
-    beyond = leadsTo (tableBoard block goal) enter (hasScope (n .free)) (n .state) (hopTo block (n .scope) l t)
+    beyond = leadsBy (tableBoard block goal) false enter (hasScope (n .free)) (n .state) (hopTo block (n .scope) l t)
 
     abbrev byEdge : Bool → Bool
     byEdge u = elim u as (λ _. Bool) [ false ↦ false | true ↦ beyond ]
@@ -86,7 +87,7 @@ module _ (block decls : List ℕ) (goal : ℕ) (x : QueryRow) (mark : ℕ) (n : 
 
     by-edge : reachedBy (tableBoard block goal) (hasScope (n .free)) (n .scope) (n .state) (hopTo block (n .scope) l t ∷ hs)
         ≡ byEdge (hasHop (hopTo block (n .scope) l t) (blockHops block (n .scope)))
-    unfolding reachedBy among hasHop sameHop tableBoard
+    unfolding reachedBy leadsTo leadsBy among hasHop sameHop tableBoard
     by-edge = refl
 
     pub reach-no : 16 ≤ r → reached n (hopTo block (n .scope) l t ∷ hs) ≡ false
@@ -95,7 +96,7 @@ module _ (block decls : List ℕ) (goal : ℕ) (x : QueryRow) (mark : ℕ) (n : 
       where
         at : (u : Bool) → r ≡ stateBy u → byEdge u ≡ false
         at false k = refl
-        at true k = leads-no block goal n l t r k enter h
+        at true k = leads-no block goal n l t r k false enter h
 
     pub reach-on : r < 16 → (left : ℕ) (m : Node) → Behind n t r left m → reached n (hopTo block (n .scope) l t ∷ hs) ≡ reached m hs
     unfolding rowReached stateAlong lastOf
@@ -104,7 +105,7 @@ module _ (block decls : List ℕ) (goal : ℕ) (x : QueryRow) (mark : ℕ) (n : 
       where
         at : (u : Bool) → r ≡ stateBy u → byEdge u ≡ enter t r
         at false k = absurd (omega arith)
-        at true k = leads-on block goal n l t r k enter h
+        at true k = leads-on block goal n l t r k false enter h
 
   -- where the path ends
   module _ (u : Bool) (e : u ≡ placesOf goal (acceptSet block) (n .scope) (n .state)) where

@@ -6,7 +6,7 @@ use lib.Dec.{leb, ltb}
 use lib.ListN.{length}
 use Rattle.scope_graph.specs.Rows.{language}
 use Rattle.scope_graph.specs.Path.{PathRow as RulesRow}
-use Rattle.scope_graph.specs.Computed.{Standing, is-visible, is-shadowed, is-unreached, judged}
+use Rattle.scope_graph.specs.Agree.{Judgement, as-visible, as-shadowed, as-unreached, judgement}
 use Rattle.text_field.specs.Outcome.{Outcome, refused, done, andThen, refuseIf}
 use Rattle.graph_file.specs.File.{readCells}
 use Rattle.graph_file.specs.Decode.{rulesOf, graphOf, queriesOf}
@@ -16,12 +16,12 @@ use Rattle.board.specs.Queries.{queryAt}
 use Rattle.judge.specs.declared.standing.Judged.{Judged}
 use Rattle.judge.specs.declared.standing.Judged.the-variants.{Visible, Shadowed, Unreached, Refused}
 
--- what an answer means: a refusal by its number, or one of the three standings (01, "Where each
--- language form goes")
-unfoldable pub meaning : Judged → Outcome Standing
-meaning Visible = done is-visible
-meaning Shadowed = done is-shadowed
-meaning Unreached = done is-unreached
+-- what an answer means: a refusal by its number, or one of the three standings, of which *shadowed*
+-- carries its number of steps (01, "Where each language form goes"; 02, K7)
+unfoldable pub meaning : Judged → Outcome Judgement
+meaning Visible = done as-visible
+meaning (Shadowed n) = done (as-shadowed n)
+meaning Unreached = done as-unreached
 meaning (Refused n) = refused n
 
 -- The row as the rules have it: its steps by their labels' numbers, with the turns of their edge
@@ -31,13 +31,13 @@ ruled cells p = record { mark = p .mark; path = pathIn cells p }
 
 -- With the graph table in hand: 7 where there is no query i, 8 for a row that is none, 9 where its
 -- steps outnumber the records lent for them.
-unfoldable pub judgeOf : List ℕ → ℕ → List ℕ → ℕ → Outcome Standing
+unfoldable pub judgeOf : List ℕ → ℕ → List ℕ → ℕ → Outcome Judgement
 judgeOf cells i row room =
     refuseIf (leb (length (queriesOf cells)) i) 7
     (andThen (rowHere row) (λ p.
     refuseIf (ltb room (length (p .steps))) 9
-    (done (judged (language (rulesOf cells)) (graphOf cells) (queryAt cells i) (ruled cells p)))))
+    (done (judgement (language (rulesOf cells)) (graphOf cells) (queryAt cells i) (ruled cells p)))))
 
 -- The whole call: first the file's refusals, 1 to 6.
-unfoldable pub judgeAnswer : List ℕ → ℕ → List ℕ → ℕ → Outcome Standing
+unfoldable pub judgeAnswer : List ℕ → ℕ → List ℕ → ℕ → Outcome Judgement
 judgeAnswer text i row room = andThen (readCells text) (λ cells. judgeOf cells i row room)

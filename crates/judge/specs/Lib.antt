@@ -4,4 +4,5 @@ pub mod Judge
 pub mod Standing
 pub mod Listed
 pub mod Marked
+pub mod LastCut
 pub mod Steps

@@ -6,7 +6,7 @@ use mathlib.Core.List.{List, [], _∷_, _++_}
 use lib.ListN.{length}
 use Rattle.scope_graph.specs.Rows.{language}
 use Rattle.scope_graph.specs.Path.{PathRow, Entry}
-use Rattle.scope_graph.specs.Computed.{is-visible}
+use Rattle.scope_graph.specs.Agree.{as-visible}
 use Rattle.text_field.specs.Outcome.{done}
 use Rattle.graph_file.specs.File.{readCells}
 use Rattle.graph_file.specs.Decode.{rulesOf, graphOf, queriesOf, lettersOf}
@@ -20,4 +20,4 @@ abbrev pub ListedVisible : Type 0
 ListedVisible = (text cells : List ℕ) → readCells text ≡ done cells → (i : ℕ) → i < length (queriesOf cells)
     → (r : PathRow (language (rulesOf cells))) → Entry (language (rulesOf cells)) (graphOf cells) (queryAt cells i) r
     → (row : List ℕ) × (rowText (lettersOf cells) (r .mark) (r .path .start) (r .path .hops) ≡ row ++ (10 ∷ []))
-    × (judgeAnswer text i row 63 ≡ done is-visible)
+    × (judgeAnswer text i row 63 ≡ done as-visible)

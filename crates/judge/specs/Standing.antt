@@ -7,8 +7,8 @@ use mathlib.Core.Logic.{_↔_}
 use mathlib.Core.List.{List}
 use lib.ListN.{length}
 use Rattle.scope_graph.specs.Rows.{language}
-use Rattle.scope_graph.specs.Path.{Reached, Shadowed, MarkDeclared, Entry}
-use Rattle.scope_graph.specs.Computed.{Standing, is-visible, is-shadowed, is-unreached}
+use Rattle.scope_graph.specs.Path.{Reached, MarkDeclared, Entry}
+use Rattle.scope_graph.specs.Agree.{Judgement, as-visible, as-shadowed, as-unreached, ShadowedWith}
 use Rattle.text_field.specs.Outcome.{done}
 use Rattle.graph_file.specs.File.{readCells}
 use Rattle.graph_file.specs.Decode.{rulesOf, graphOf, queriesOf}
@@ -16,23 +16,23 @@ use Rattle.path_row.specs.Form.{PathRow, rowHere}
 use Rattle.board.specs.Queries.{queryAt}
 use Rattle.judge.specs.Judge.{ruled, judgeAnswer}
 
--- The row has this standing for query i: its path is visible, shadowed or unreached, and one with a
--- mark that no matching declaration has is unreached.
-abbrev pub Stands : (cells : List ℕ) → ℕ → PathRow → Standing → Type 0
-Stands cells i p is-visible = Entry (language (rulesOf cells)) (graphOf cells) (queryAt cells i) (ruled cells p)
-Stands cells i p is-shadowed =
-    Shadowed (language (rulesOf cells)) (graphOf cells) (queryAt cells i) (ruled cells p .path)
+-- The row has this standing for query i: its path is visible, shadowed with so many steps (02, K7)
+-- or unreached, and one with a mark that no matching declaration has is unreached.
+abbrev pub Stands : (cells : List ℕ) → ℕ → PathRow → Judgement → Type 0
+Stands cells i p as-visible = Entry (language (rulesOf cells)) (graphOf cells) (queryAt cells i) (ruled cells p)
+Stands cells i p (as-shadowed n) =
+    ShadowedWith (language (rulesOf cells)) (graphOf cells) (queryAt cells i) (ruled cells p .path) n
     × MarkDeclared (language (rulesOf cells)) (graphOf cells) (queryAt cells i) (ruled cells p)
-Stands cells i p is-unreached =
+Stands cells i p as-unreached =
     ¬ (Reached (language (rulesOf cells)) (graphOf cells) (queryAt cells i) (ruled cells p .path)
     × MarkDeclared (language (rulesOf cells)) (graphOf cells) (queryAt cells i) (ruled cells p))
 
 -- the answer is a standing, the row has it, and has no other
 pub record RightStanding (cells : List ℕ) (i : ℕ) (p : PathRow) (text row : List ℕ) (room : ℕ) : Type 0 where
-  pub answered : (s : Standing) → (judgeAnswer text i row room ≡ done s) ↔ Stands cells i p s
-  pub standing : Standing
+  pub answered : (s : Judgement) → (judgeAnswer text i row room ≡ done s) ↔ Stands cells i p s
+  pub standing : Judgement
   pub stands : Stands cells i p standing
-  pub only : (s : Standing) → Stands cells i p s → s ≡ standing
+  pub only : (s : Judgement) → Stands cells i p s → s ≡ standing
 
 -- every text that is read, every query of it, every row that is one and fits the records lent for
 -- its steps

@@ -1,9 +1,10 @@
 -- What the steps of the judge's code answer: which refusal is told, a declaration with the mark, an
--- edge that leaves a scope, the state after a hop, whether a row's path is reached and whether it
--- is cut. Assumes nothing: these are definitions.
+-- edge that leaves a scope, the state after a hop, whether a row's path is reached and where it is
+-- cut. Assumes nothing: these are definitions.
 use Prim.Native.Nat.{ℕ, zero, suc, _≤_}
 use mathlib.Core.Path.{_≡_}
 use mathlib.Core.Bool.{Bool, true, false, not, _&&_}
+use mathlib.Core.Option.{Option}
 use mathlib.Core.List.{List, [], _∷_, map}
 use lib.Dec.{eqb, leb, ltb}
 use lib.ListN.{length, drop}
@@ -11,14 +12,14 @@ use Rattle.scope_graph.specs.Language.{End, stop}
 use Rattle.scope_graph.specs.Path.{HopOf}
 use Rattle.scope_graph.specs.Turns.{Turned, sameTurned, turnBy}
 use Rattle.scope_graph.specs.Rows.{anyOf, language}
-use Rattle.scope_graph.specs.Computed.{Standing, judged}
+use Rattle.scope_graph.specs.Agree.{Judgement, judgement}
 use Rattle.graph_file.specs.Admission.{Row}
 use Rattle.graph_file.specs.Decode.{rulesOf, graphOf}
 use Rattle.block.specs.Layout.{IsBlock}
 use Rattle.block.specs.Sets.{hasScope}
 use Rattle.block.specs.Block.{Bounds, nextCell, scopesCell, blockHops}
 use Rattle.search.specs.declared.Node.{Node}
-use Rattle.search.specs.Board.{reachedBy, cutHere, cutAlong}
+use Rattle.search.specs.Board.{reachedBy, cutHere}
 use Rattle.search.specs.Conditions.{Inside, LiveAt, freeAt}
 use Rattle.search.specs.Tables.{tableBoard, tableOrder}
 use Rattle.graph_table.specs.declared.rows.DeclarationRow.{DeclarationRow}
@@ -30,6 +31,7 @@ use Rattle.path_row.specs.Form.{stepsOf, stepsIn}
 use Rattle.path_row.specs.Numbering.{hopsOf}
 use Rattle.comparison.specs.Letters.{blockLetters}
 use Rattle.judge.specs.Judge.{ruled}
+use Rattle.judge.specs.LastCut.{lastCut}
 
 -- The refusal of query number i where there are n queries, and of a table with room for fewer
 -- records than there are steps (01, "Who can cause a refusal"); 0 for none.
@@ -117,13 +119,13 @@ unfoldable pub endCut : List ℕ → ℕ → Node → End Turned → Bool
 endCut block goal n e =
     cutHere (tableBoard block goal) (tableOrder block) (n .left) (hasScope (n .free)) (n .scope) (n .state) e
 
--- some end along the hops from the node is cut where they go by it, or `$` where they end
-unfoldable pub rowCut : List ℕ → ℕ → Node → List (HopOf Turned) → Bool
-rowCut block goal n hs =
-    cutAlong (tableBoard block goal) (tableOrder block) (suc (n .left)) (hasScope (n .free)) (n .scope) (n .state) hs stop
+-- the last place along the hops from the node whose own end is cut, that where they end included
+unfoldable pub rowLast : List ℕ → ℕ → Node → List (HopOf Turned) → Option ℕ
+rowLast block goal n hs =
+    lastCut (tableBoard block goal) (tableOrder block) (suc (n .left)) (hasScope (n .free)) (n .scope) (n .state) hs stop
 
 -- the standing of a row with this mark, this start and these steps in its text, for a query
-abbrev pub judgedRow : List ℕ → QueryRow → ℕ → ℕ → List ℕ → Standing
+abbrev pub judgedRow : List ℕ → QueryRow → ℕ → ℕ → List ℕ → Judgement
 judgedRow cells x mark from row =
-    judged (language (rulesOf cells)) (graphOf cells) (queryOn cells x)
+    judgement (language (rulesOf cells)) (graphOf cells) (queryOn cells x)
     (ruled cells (record { mark = mark; start = from; steps = stepsIn row }))

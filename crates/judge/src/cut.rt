@@ -1,4 +1,4 @@
-// Is some end on the way of a path row's path cut?
+// Where the ends on the way of a path row's path are cut.
 use crate::hops::behind;
 use crate::hops::state_on;
 use crate::limits::LABELS;
@@ -20,7 +20,8 @@ ghost use Rattle.scope_graph.specs.Language.{by};
 ghost use Rattle.scope_graph.specs.Order.{endOf};
 ghost use Rattle.search.specs.Tables.{plainEnd};
 ghost use Rattle.path_row.specs.Form.{mostSteps};
-ghost use Rattle.judge.specs.Steps.{hopTo, Ready, stepHops, endCut, rowCut};
+ghost use Rattle.judge.specs.LastCut.{caughtAt, latest};
+ghost use Rattle.judge.specs.Steps.{hopTo, Ready, stepHops, endCut, rowLast};
 
 // Is the end with this number cut at the node?
 fn end_cut(block: &[u64], goal: u64, live: &[u64], n: Node, e: u64) -> bool
@@ -58,36 +59,63 @@ fn step_cut(block: &[u64], goal: u64, live: &[u64], n: Node, label: u64, to: u64
     told.cut
 }
 
-// Is some end cut where the steps from place `at` of the row on go by it, or `$` where they end?
-// The table of places worth entering serves all the way: a closed one stays closed with fewer free
-// scopes.
-pub fn is_cut(block: &[u64], goal: u64, live: &[u64], from: Node, row: &[u8], at: usize) -> bool
-    requires ready { ⌜ Ready (now block) goal (now live) from ⌝ }
-    ensures answer { λ r. ⌜ r
-        ≡ rowCut (now (block .entry)) goal from (stepHops (now (block .entry)) (now (row .entry)) mostSteps at (from .scope)) ⌝ }
+// The last place on a path's way whose own end is cut, if one is: how many steps lie before it.
+pub struct Caught {
+    pub found: bool,
+    pub place: usize,
+}
+
+// Of two places that were looked at the one that is kept: the later one if its end is cut, else the
+// sooner one.
+fn kept(sooner: Caught, later: Caught) -> Caught
+    ensures answer { λ r. ⌜ caughtAt r ≡ latest (caughtAt sooner) (later .found) (later .place) ⌝ }
 {
-    let mut left: usize = MOST_STEPS;
+    if !later.found {
+        return sooner;
+    }
+    later
+}
+
+// With the end at a place looked at: that place if the end is cut, else the last one before it.
+fn noted(last: Caught, cut: bool, place: usize) -> Caught
+    ensures answer { λ r. ⌜ caughtAt r ≡ latest (caughtAt last) cut place ⌝ }
+{
+    kept(last, Caught { found: cut, place })
+}
+
+// The last place where the end is cut that the steps from place `at` of the row on go by, or `$`
+// where they end. A more specific path leaves this one where such an end is, so the last one tells
+// how many steps they share. The table of places worth entering serves all the way: a closed one
+// stays closed with fewer free scopes.
+pub fn last_cut(block: &[u64], goal: u64, live: &[u64], from: Node, row: &[u8], at: usize) -> Caught
+    requires ready { ⌜ Ready (now block) goal (now live) from ⌝ }
+    ensures answer { λ r. ⌜ caughtAt r
+        ≡ rowLast (now (block .entry)) goal from (stepHops (now (block .entry)) (now (row .entry)) mostSteps at (from .scope)) ⌝ }
+{
+    let mut place: usize = 0;
     let mut i = at;
     let mut n = from;
-    while left > 0 {
+    let mut last = Caught {
+        found: false,
+        place: 0,
+    };
+    while place < MOST_STEPS {
         let StepRead::Taken(x, v, next) = next_step(row, i) else {
-            return end_cut(block, goal, live, n, STOP);
+            return noted(last, end_cut(block, goal, live, n, STOP), place);
         };
         let to = v as u64;
         let label = label_number(block, x);
-        if step_cut(block, goal, live, n, label, to) {
-            return true;
-        }
+        last = noted(last, step_cut(block, goal, live, n, label, to), place);
         let state = state_on(block, n, label, to);
         if NO_STATE <= state {
-            return false;
+            return last;
         }
         if n.left == 0 {
-            return false;
+            return last;
         }
         n = behind(n, to, state, n.left - 1);
         i = next;
-        left -= 1;
+        place += 1;
     }
-    end_cut(block, goal, live, n, STOP)
+    noted(last, end_cut(block, goal, live, n, STOP), place)
 }

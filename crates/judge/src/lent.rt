@@ -18,7 +18,7 @@ fn steps_due(answer: Judged, row: &[u8]) -> usize
     match answer {
         Judged::Refused(_) => 0,
         Judged::Visible => step_count(row),
-        Judged::Shadowed => step_count(row),
+        Judged::Shadowed(_) => step_count(row),
         Judged::Unreached => step_count(row),
     }
 }

@@ -1,5 +1,5 @@
-// The standing of a path row's path: is it reached, with its mark, and is it cut on its way?
-use crate::cut::is_cut;
+// The standing of a path row's path: is it reached, with its mark, and where is it cut on its way?
+use crate::cut::last_cut;
 use crate::reached::is_reached;
 use block::scope_count;
 use block::taken;
@@ -21,10 +21,11 @@ ghost use Rattle.board.specs.Queries.{queryOn, Asked};
 ghost use Rattle.judge.specs.Judge.{meaning};
 ghost use Rattle.judge.specs.Steps.{Begins, judgedRow};
 
-// The standing of a path row, or the refusal's number.
+// The standing of a path row, or the refusal's number. `Shadowed` carries the greatest number of
+// steps in which a reached path that is more specific agrees with the row's.
 pub enum Judged {
     Visible,
-    Shadowed,
+    Shadowed(usize),
     Unreached,
     Refused(u64),
 }
@@ -70,8 +71,9 @@ pub fn standing(
         return Judged::Unreached;
     }
     let live = goal_table(block, goal, n.free, start);
-    if is_cut(block, goal, &live, n, row, at) {
-        return Judged::Shadowed;
+    let last = last_cut(block, goal, &live, n, row, at);
+    if last.found {
+        return Judged::Shadowed(last.place);
     }
     Judged::Visible
 }

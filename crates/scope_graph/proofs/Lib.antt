@@ -16,6 +16,7 @@ pub mod FollowedAt
 pub mod Among
 pub mod Found
 pub mod Ends
+pub mod Agree
 pub mod Settled
 pub mod Promises
 pub mod Examples

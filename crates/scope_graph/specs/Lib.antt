@@ -8,5 +8,6 @@ pub mod Followed
 pub mod Computed
 pub mod Listing
 pub mod Ends
+pub mod Agree
 pub mod Promises
 pub mod Order

@@ -8,7 +8,7 @@ pub fn judging<'s>(text: &'s [u8], query: usize, row: &'s [u8], room: usize) {
     let r = judge_text(text, query, row, room);
     match r {
         Judged::Visible => say::word(b"visible"),
-        Judged::Shadowed => say::word(b"shadowed"),
+        Judged::Shadowed(n) => say::counted(b"shadowed", n),
         Judged::Unreached => say::word(b"unreached"),
         Judged::Refused(k) => say::refused(k),
     }

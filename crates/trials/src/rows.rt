@@ -157,9 +157,9 @@ pub fn apart(body: &[u8], room: usize, out: &mut [u8]) {
 pub fn comparing<'s>(text: &'s [u8], a: &'s [u8], b: &'s [u8], n: usize, m: usize) {
     let r = decide(text, a, b, n, m);
     match r {
-        Compared::First => say::word(b"first"),
-        Compared::Second => say::word(b"second"),
-        Compared::Neither => say::word(b"neither"),
+        Compared::First(k) => say::counted(b"first", k),
+        Compared::Second(k) => say::counted(b"second", k),
+        Compared::Neither(k) => say::counted(b"neither", k),
         Compared::Refused(k) => say::refused(k),
     }
     say::records(steps_due(r, a), steps_due(r, b));

@@ -18,6 +18,13 @@ pub fn refused(n: u64) {
     number(n);
 }
 
+// A word with the number of steps that comes with it.
+pub fn counted(name: &[u8], steps: usize) {
+    word(name);
+    word(b" ");
+    number(steps as u64);
+}
+
 // What was put into the lent memory: how much, and its sum.
 pub fn done(verb: &[u8], n: usize, sum: u64) {
     word(verb);

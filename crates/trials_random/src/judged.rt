@@ -31,7 +31,7 @@ const REFUSED: usize = 3;
 fn judged<'s>(text: &'s [u8], i: usize, row: &'s [u8]) -> usize {
     match judge_text(text, i, row, 63) {
         Judged::Visible => VISIBLE,
-        Judged::Shadowed => SHADOWED,
+        Judged::Shadowed(_) => SHADOWED,
         Judged::Unreached => UNREACHED,
         Judged::Refused(_) => REFUSED,
     }

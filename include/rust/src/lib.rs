@@ -103,19 +103,21 @@ impl fmt::Display for Refusal {
 
 impl Error for Refusal {}
 
-/// Which of two path rows is more specific.
+/// Which of two path rows is more specific, and how many steps are equal before the first
+/// difference: 0 for different starts, all for equal paths.
 #[derive(Clone, Copy, Debug, PartialEq, Eq)]
 pub enum Compared {
-    First,
-    Second,
-    Neither,
+    First(usize),
+    Second(usize),
+    Neither(usize),
 }
 
-/// What a path row is for a query.
+/// What a path row is for a query. `Shadowed` has the number of steps after which its name was
+/// caught: the most in which a reached path that is more specific agrees with the row's.
 #[derive(Clone, Copy, Debug, PartialEq, Eq)]
 pub enum Standing {
     Visible,
-    Shadowed,
+    Shadowed(usize),
     Unreached,
 }
 
@@ -176,9 +178,9 @@ fn written(answer: u64) -> Result<usize, Refusal> {
 }
 
 /// Which case holds and the steps that come with it, or the refusal.
-fn case(answer: u64) -> Result<(u64, u64), Refusal> {
+fn case(answer: u64) -> Result<(u64, usize), Refusal> {
     match (answer / DONE).checked_sub(1) {
-        Some(case) => Ok((case, answer % DONE)),
+        Some(case) => Ok((case, (answer % DONE) as usize)),
         None => Err(Refusal::of(answer)),
     }
 }
@@ -232,7 +234,7 @@ pub fn judge(text: &[u8], query: usize, row: &[u8], steps: &mut [Step]) -> Resul
     };
     Ok(match case(answer)? {
         (0, 0) => Standing::Visible,
-        (1, 0) => Standing::Shadowed,
+        (1, n) => Standing::Shadowed(n),
         (2, 0) => Standing::Unreached,
         _ => unreachable!("the library answers no such number: {answer}"),
     })
@@ -262,9 +264,9 @@ pub fn compare(
         )
     };
     Ok(match case(answer)? {
-        (0, 0) => Compared::First,
-        (1, 0) => Compared::Second,
-        (2, 0) => Compared::Neither,
+        (0, n) => Compared::First(n),
+        (1, n) => Compared::Second(n),
+        (2, n) => Compared::Neither(n),
         _ => unreachable!("the library answers no such number: {answer}"),
     })
 }

@@ -17,7 +17,7 @@ impl Tally {
     }
 }
 
-/// A result's case, without the number of what was written.
+/// A result's case: with the number of equal steps, without that of what was written.
 fn case<T: Debug>(result: &Result<T, u8>) -> String {
     match result {
         Ok(value) => {
@@ -25,7 +25,7 @@ fn case<T: Debug>(result: &Result<T, u8>) -> String {
             if shown.parse::<usize>().is_ok() {
                 "written".to_string()
             } else {
-                shown.to_lowercase()
+                shown.to_lowercase().replace('(', " ").replace(')', "")
             }
         }
         Err(number) => format!("refused {number}"),
@@ -257,7 +257,10 @@ impl Test {
         }
         for _ in 0..3 {
             let first = self.row(&shown, scopes, &letters);
-            let second = self.row(&shown, scopes, &letters);
+            let second = match self.rng.below(6) {
+                0 => first.clone(),
+                _ => self.row(&shown, scopes, &letters),
+            };
             self.compare(text, &first, &second);
         }
         for query in [queries + 1, usize::MAX] {
@@ -274,16 +277,16 @@ pub fn number(refusal: tewhoranu::Refusal) -> u8 {
 fn standing(standing: tewhoranu::Standing) -> plain::answers::Standing {
     match standing {
         tewhoranu::Standing::Visible => plain::answers::Standing::Visible,
-        tewhoranu::Standing::Shadowed => plain::answers::Standing::Shadowed,
+        tewhoranu::Standing::Shadowed(n) => plain::answers::Standing::Shadowed(n),
         tewhoranu::Standing::Unreached => plain::answers::Standing::Unreached,
     }
 }
 
 fn compared(compared: tewhoranu::Compared) -> plain::path_row::Compared {
     match compared {
-        tewhoranu::Compared::First => plain::path_row::Compared::First,
-        tewhoranu::Compared::Second => plain::path_row::Compared::Second,
-        tewhoranu::Compared::Neither => plain::path_row::Compared::Neither,
+        tewhoranu::Compared::First(n) => plain::path_row::Compared::First(n),
+        tewhoranu::Compared::Second(n) => plain::path_row::Compared::Second(n),
+        tewhoranu::Compared::Neither(n) => plain::path_row::Compared::Neither(n),
     }
 }
 

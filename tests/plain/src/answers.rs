@@ -4,14 +4,8 @@ use crate::gym::{
     in_form, push_end, push_name, push_number, with_rules, Form, Gym, Query, Refusal,
 };
 use crate::path_row::{fill, PathRow, Step};
+pub use crate::search::Standing;
 use crate::search::{Go, Rules, Search};
-
-#[derive(Clone, Copy, Debug, PartialEq, Eq)]
-pub enum Standing {
-    Visible,
-    Shadowed,
-    Unreached,
-}
 
 const HEAD: &[u8] = b"start seek found awaits\n";
 const HEAD_WITH_KIND: &[u8] = b"start kind seek found awaits\n";
@@ -200,11 +194,7 @@ pub fn judge_row(gym: &Gym, rules: &Rules, query: Query, row: &PathRow) -> Stand
             None => return Standing::Unreached,
         }
     }
-    match Search::new(rules, query.start, query.name).visible(row.start, &steps, row.mark) {
-        None => Standing::Unreached,
-        Some(true) => Standing::Visible,
-        Some(false) => Standing::Shadowed,
-    }
+    Search::new(rules, query.start, query.name).standing(row.start, &steps, row.mark)
 }
 
 pub fn judge(

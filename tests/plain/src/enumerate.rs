@@ -39,10 +39,11 @@ pub struct Path {
 
 pub type Entry = (Path, u64);
 
+/// `Shadowed` has the most steps in which a reached path that is more specific agrees (02, K7).
 #[derive(Clone, Copy, Debug, PartialEq, Eq)]
 pub enum Verdict {
     Visible,
-    Shadowed,
+    Shadowed(usize),
     Unreached,
 }
 
@@ -65,6 +66,17 @@ impl Path {
     fn visits(&self, scope: usize) -> bool {
         self.start == scope || self.steps.iter().any(|step| step.1 == scope)
     }
+}
+
+/// The number of equal steps before the first difference, 0 for different starts (02, K7): the
+/// longest beginning that both paths have.
+pub fn agree(p: &Path, q: &Path) -> usize {
+    if p.start != q.start {
+        return 0;
+    }
+    let most = p.steps.len().min(q.steps.len());
+    let shared = |n: &usize| p.steps[..*n] == q.steps[..*n];
+    (0..=most).rev().find(shared).unwrap_or(0)
 }
 
 impl Graph {
@@ -210,11 +222,12 @@ impl Graph {
     pub fn verdict(&self, start: usize, name: &Name, path: &Path, mark: u64) -> Verdict {
         let reached = self.reached(start, name);
         if !reached.contains(path) || !self.marks(path.last(), name).contains(&mark) {
-            Verdict::Unreached
-        } else if reached.iter().any(|other| self.more_specific(other, path)) {
-            Verdict::Shadowed
-        } else {
-            Verdict::Visible
+            return Verdict::Unreached;
+        }
+        let specific = reached.iter().filter(|r| self.more_specific(r, path));
+        match specific.map(|r| agree(r, path)).max() {
+            Some(most) => Verdict::Shadowed(most),
+            None => Verdict::Visible,
         }
     }
 

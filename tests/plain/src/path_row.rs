@@ -19,11 +19,13 @@ pub struct PathRow {
     pub steps: Vec<Step>,
 }
 
+/// Which of two rows is more specific, and how many of their steps are equal before the first
+/// difference: 0 for different starts.
 #[derive(Clone, Copy, Debug, PartialEq, Eq)]
 pub enum Compared {
-    First,
-    Second,
-    Neither,
+    First(usize),
+    Second(usize),
+    Neither(usize),
 }
 
 fn scope(text: &[u8], at: usize) -> Option<(u8, usize)> {
@@ -108,7 +110,7 @@ fn prefers(gym: &Gym, a: Option<Numbered>, b: Option<Numbered>) -> bool {
 
 pub fn compare_rows(gym: &Gym, first: &PathRow, second: &PathRow) -> Compared {
     if first.start != second.start {
-        return Compared::Neither;
+        return Compared::Neither(0);
     }
     let same = first
         .steps
@@ -121,18 +123,18 @@ pub fn compare_rows(gym: &Gym, first: &PathRow, second: &PathRow) -> Compared {
     for (end, row) in ends.iter_mut().zip([first, second]) {
         if let Some(&step) = row.steps.get(same) {
             let Some(numbered) = numbered(gym, at, step) else {
-                return Compared::Neither;
+                return Compared::Neither(same);
             };
             *end = Some(numbered);
         }
     }
     let [a, b] = ends;
     if prefers(gym, a, b) {
-        Compared::First
+        Compared::First(same)
     } else if prefers(gym, b, a) {
-        Compared::Second
+        Compared::Second(same)
     } else {
-        Compared::Neither
+        Compared::Neither(same)
     }
 }
 

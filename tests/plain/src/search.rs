@@ -107,6 +107,15 @@ impl<'a> Rules<'a> {
     }
 }
 
+/// What a path row is for a query. `Shadowed` has the number of steps after which the name was
+/// caught.
+#[derive(Clone, Copy, Debug, PartialEq, Eq)]
+pub enum Standing {
+    Visible,
+    Shadowed(usize),
+    Unreached,
+}
+
 /// The visitor's word on whether the walk goes on.
 #[derive(Clone, Copy, PartialEq)]
 pub enum Go {
@@ -488,8 +497,32 @@ impl<'a> Search<'a> {
         false
     }
 
-    /// The place of a path, by its labels and scopes, with a mark: `None` if it is unreached, else whether it is visible.
-    pub fn visible(&self, start: u8, steps: &[(u8, u8)], mark: u16) -> Option<bool> {
+    /// What a path, by its labels and scopes, is with a mark. Another path that is more specific
+    /// leaves it where its own end is cut, so it was caught at the last such place.
+    pub fn standing(&self, start: u8, steps: &[(u8, u8)], mark: u16) -> Standing {
+        let Some(turns) = self.reached_by(start, steps, mark) else {
+            return Standing::Unreached;
+        };
+        let (mut at, mut state, mut path) = (start, 0, bit(start));
+        let mut caught = None;
+        for (n, (&(label, to), turn)) in steps.iter().zip(turns).enumerate() {
+            let end = 1 << (label + 1);
+            if self.cuts(at, state, path, &self.live, end) != 0
+                || turn < self.turns(at, state, path, &self.live, end)[label as usize]
+            {
+                caught = Some(n);
+            }
+            state = self.rules.next[state as usize][label as usize];
+            (at, path) = (to, path | bit(to));
+        }
+        if self.cuts(at, state, path, &self.live, 1 << STOP) != 0 {
+            caught = Some(steps.len());
+        }
+        caught.map_or(Standing::Visible, Standing::Shadowed)
+    }
+
+    /// The turns of a path's steps; `None` if it is not reached, or not with this mark.
+    fn reached_by(&self, start: u8, steps: &[(u8, u8)], mark: u16) -> Option<Vec<u8>> {
         if start != self.start {
             return None;
         }
@@ -505,21 +538,8 @@ impl<'a> Search<'a> {
             turns.push(self.rules.turns_leaving(at)[i]);
             (at, state, path) = (to, next, path | bit(to));
         }
-        if !self.rules.accepts(state) || !self.marks(at).any(|m| m == mark) {
-            return None;
-        }
-        let (mut at, mut state, mut path) = (start, 0, bit(start));
-        for (&(label, to), turn) in steps.iter().zip(turns) {
-            let end = 1 << (label + 1);
-            if self.cuts(at, state, path, &self.live, end) != 0
-                || turn < self.turns(at, state, path, &self.live, end)[label as usize]
-            {
-                return Some(false);
-            }
-            state = self.rules.next[state as usize][label as usize];
-            (at, path) = (to, path | bit(to));
-        }
-        Some(self.cuts(at, state, path, &self.live, 1 << STOP) == 0)
+        let ends = self.rules.accepts(state) && self.marks(at).any(|m| m == mark);
+        ends.then_some(turns)
     }
 }
 

@@ -78,7 +78,7 @@ fn marked() {
     );
     assert_eq!(listed(&back, 2), "0 service one - / 21 0P2");
     let text = lines(EXAMPLE);
-    assert_eq!(judged(&text, 0, "10 2P1"), Ok(Standing::Shadowed));
+    assert_eq!(judged(&text, 0, "10 2P1"), Ok(Standing::Shadowed(0)));
     assert_eq!(judged(&text, 0, "21 2"), Ok(Standing::Visible));
     assert_eq!(judged(&text, 0, "5 2P1P0"), Ok(Standing::Unreached));
 }
@@ -147,7 +147,7 @@ fn kinds() {
     assert!(printed(&text).ends_with("5 4 0 1 80\n"));
     assert_eq!(judged(&text, 0, "10 2P1"), Ok(Standing::Visible));
     assert_eq!(judged(&text, 0, "11 2P1"), Ok(Standing::Unreached));
-    assert_eq!(judged(&text, 1, "11 2P1"), Ok(Standing::Shadowed));
+    assert_eq!(judged(&text, 1, "11 2P1"), Ok(Standing::Shadowed(0)));
     assert_eq!(gym::name_sought(text.as_bytes(), 3), b"hours");
 }
 
@@ -288,17 +288,61 @@ fn turns() {
     assert_eq!(refused("1 I 3 3 / 1 I 2 4 / "), Err(4));
     let text = two_imports(later, both, "");
     assert_eq!(judged(&text, 0, "40 2I4"), Ok(Standing::Visible));
-    assert_eq!(judged(&text, 0, "30 2I3"), Ok(Standing::Shadowed));
+    assert_eq!(judged(&text, 0, "30 2I3"), Ok(Standing::Shadowed(0)));
     let compared = |a: &str, b: &str| {
         let (mut first, mut second) = ([BLANK; 63], [BLANK; 63]);
         let (a, b) = (a.as_bytes(), b.as_bytes());
         path_row::compare(text.as_bytes(), a, b, &mut first, &mut second)
     };
-    assert_eq!(compared("1 2I4", "1 2I3"), Ok(Compared::First));
-    assert_eq!(compared("1 2I3", "1 2I4"), Ok(Compared::Second));
-    assert_eq!(compared("1 2I1", "1 2I4"), Ok(Compared::Neither));
+    assert_eq!(compared("1 2I4", "1 2I3"), Ok(Compared::First(0)));
+    assert_eq!(compared("1 2I3", "1 2I4"), Ok(Compared::Second(0)));
+    assert_eq!(compared("1 2I1", "1 2I4"), Ok(Compared::Neither(0)));
     let mixed = text.replace("at kind name mark", "at name mark");
     assert_eq!(answers::summary(mixed.as_bytes(), &mut []), Err(2));
+}
+
+/// How far two rows agree, and after how many steps a judged path was caught (02, K7).
+#[test]
+fn agreement() {
+    let text = lines(EXAMPLE);
+    let compared = |a: &str, b: &str| {
+        let (mut first, mut second) = ([BLANK; 63], [BLANK; 63]);
+        let (a, b) = (a.as_bytes(), b.as_bytes());
+        path_row::compare(text.as_bytes(), a, b, &mut first, &mut second)
+    };
+    let chain = |n: usize| (1..=n).map(|i| format!("P{i}")).collect::<String>();
+    let (full, less) = (format!("1 0{}", chain(63)), format!("1 0{}", chain(62)));
+    let (full, less) = (full.as_str(), less.as_str());
+    for (a, b, due) in [
+        ("1 2", "1 2", Compared::Neither(0)),
+        ("1 2P1P0", "7 2P1P0", Compared::Neither(2)),
+        (full, full, Compared::Neither(63)),
+        (less, full, Compared::First(62)),
+        ("1 2P1P0", "1 3P1P0", Compared::Neither(0)),
+        ("1 2P1P0", "1 2P1P4", Compared::Neither(1)),
+        ("1 2P1P0", "1 2P1I0", Compared::Second(1)),
+        ("1 2P1", "1 2P1P0I4", Compared::First(1)),
+        ("1 2X1Y0", "1 2X1Z0", Compared::Neither(1)),
+    ] {
+        assert_eq!(compared(a, b), Ok(due), "{a} {b}");
+    }
+    let way = |order: &str, declared: &str| {
+        lines(&format!(
+            "label / I / P / less more / {order}state label next / 0 I 0 / 0 P 0 / accept / 0 / scopes / 6 / \
+            from label to / 0 I 3 / 0 P 1 / 1 I 4 / 1 P 2 / 2 I 5 / at name mark / {declared}at open / start seek / 0 a / "
+        ))
+    };
+    for (order, declared, due) in [
+        ("I P / ", "2 a 2 / 3 a 3 / ", 0),
+        ("I P / ", "2 a 2 / 4 a 4 / ", 1),
+        ("I P / ", "2 a 2 / 3 a 3 / 4 a 4 / ", 1),
+        ("I $ / I P / ", "2 a 2 / 3 a 3 / 5 a 5 / ", 2),
+        ("$ I / $ P / I P / ", "1 a 1 / 2 a 2 / 3 a 3 / ", 1),
+        ("$ I / $ P / I P / ", "0 a 0 / 2 a 2 / ", 0),
+    ] {
+        let due = Ok(Standing::Shadowed(due));
+        assert_eq!(judged(&way(order, declared), 0, "2 0P1P2"), due);
+    }
 }
 
 #[test]
@@ -381,11 +425,11 @@ fn rows() {
             &mut vec![BLANK; room],
         )
     };
-    assert_eq!(compared("1 2", "1 2P1", 63), Ok(Compared::First));
-    assert_eq!(compared("1 2P1", "1 2I1", 63), Ok(Compared::Second));
-    assert_eq!(compared("1 2P1", "1 2P3", 63), Ok(Compared::Neither));
-    assert_eq!(compared("1 2", "1 2Z3", 63), Ok(Compared::Neither));
-    assert_eq!(compared("1 2", "1 3P1", 63), Ok(Compared::Neither));
+    assert_eq!(compared("1 2", "1 2P1", 63), Ok(Compared::First(0)));
+    assert_eq!(compared("1 2P1", "1 2I1", 63), Ok(Compared::Second(0)));
+    assert_eq!(compared("1 2P1", "1 2P3", 63), Ok(Compared::Neither(0)));
+    assert_eq!(compared("1 2", "1 2Z3", 63), Ok(Compared::Neither(0)));
+    assert_eq!(compared("1 2", "1 3P1", 63), Ok(Compared::Neither(0)));
     assert_eq!(compared("1 2", "1 2P1", 0), Err(9));
     assert_eq!(compared("1 2", "1 2P", 0), Err(8));
 }

@@ -29,6 +29,11 @@ def bytes_of(s):
     return s if isinstance(s, bytes) else s.encode("latin-1")
 
 
+def is_told(answer, due):
+    """Is the answer the word that is due, and the number too where one is due?"""
+    return bytes_of(str(due)) in (answer, answer.split()[0])
+
+
 def case(kind, title, due, text=b"", first=b"", second=b"", number=0, room=0):
     """A case, and the bytes that are due after its title."""
     assert title not in TITLES and len(title) < 256, title

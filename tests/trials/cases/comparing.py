@@ -1,5 +1,5 @@
 """Cases of path rows that are compared."""
-from cases.case_file import Dice, bytes_of, case
+from cases.case_file import Dice, bytes_of, case, is_told
 from cases.gyms import EXAMPLE, SMALLEST, changed, refused_files, text_of
 from cases.path_rows import chain
 from reference.gym_file import Refused
@@ -7,12 +7,12 @@ from reference.path_row import compared
 
 
 def compare(title, text, a, b, due=None, n=63, m=63):
-    """Two rows compared. `due` is the answer that the case is there for: a word, or a refusal's number."""
+    """Two rows compared. `due` is the answer that the case is there for: a word, with the number of equal steps or without, or a refusal's number."""
     a, b = bytes_of(a), bytes_of(b)
     try:
-        word, x, y = compared(text, a, b, n, m)
-        assert due is None or due == word.decode(), (title, due, word)
-        answer = b"%s, records %d and %d\n" % (word, x, y)
+        told, x, y = compared(text, a, b, n, m)
+        assert due is None or is_told(told, due), (title, due, told)
+        answer = b"%s, records %d and %d\n" % (told, x, y)
     except Refused as r:
         assert due is None or due == r.number, (title, due, r.number)
         answer = b"refused %d, records 0 and 0\n" % r.number
@@ -53,8 +53,9 @@ TURNED = {"first": "second", "second": "first", "neither": "neither"}
 
 
 def both_ways(title, text, a, b, due):
+    word, *number = due.split()
     compare(title, text, a, b, due)
-    compare(title + ", turned round", text, b, a, TURNED[due])
+    compare(title + ", turned round", text, b, a, " ".join([TURNED[word], *number]))
 
 
 def unlisted_cases(name, text, labels, letters):

@@ -1,5 +1,5 @@
 """Cases of path rows that are judged for a query, in all forms of file."""
-from cases.case_file import Dice, bytes_of, case
+from cases.case_file import Dice, bytes_of, case, is_told
 from cases.file_calls import TOP
 from cases.gyms import EXAMPLE, FORMS, changed, refused_files, with_rows
 from cases.path_rows import chain
@@ -9,11 +9,11 @@ from reference.query import Gym
 
 
 def judge(f, title, text, query, row, due=None, room=63):
-    """A row judged. `due` is the answer that the case is there for: a word, or a refusal's number."""
+    """A row judged. `due` is the answer that the case is there for: a word, with the number behind `shadowed` or without, or a refusal's number."""
     row = bytes_of(row)
     try:
         word = judged(text, query, row, room)
-        assert due is None or due == word.decode(), (title, due, word)
+        assert due is None or is_told(word, due), (title, due, word)
     except Refused as r:
         assert due is None or due == r.number, (title, due, r.number)
         word = b"refused %d" % r.number

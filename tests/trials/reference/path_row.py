@@ -1,4 +1,5 @@
-"""Path rows, from document 01 ("Paths"): taken apart, made from their parts, and compared, with turns as document 02 (K12) has them."""
+"""Path rows, from document 01 ("Paths"): taken apart, made from their parts, and compared, with turns as document 02 (K12) has them and the number of equal steps
+that its K7 asks for."""
 import re
 
 from reference.gym_file import EDGE, ORDER, Refused, read
@@ -34,14 +35,17 @@ def turns_of(edges):
     return {(at, label, to): turn for at, label, turn, to in edges}
 
 
+def equal_steps(p, q):
+    """How many steps of two paths, each its start and its steps, are equal in letter and scope before the first difference; 0 for different starts."""
+    return next((n for n, (a, b) in enumerate(zip(p[1], q[1])) if a != b), min(len(p[1]), len(q[1]))) if p[0] == q[0] else 0
+
+
 def more_specific(order, turns, p, q):
     """Is the path p, its start and its steps, more specific than q? `order` holds pairs of ends; a letter that is not listed is in none. `turns` holds those of
     the edge rows; a step that is none has no turn. At one label the higher turn is preferred."""
     if p[0] != q[0] or p[1] == q[1]:
         return False
-    n = 0
-    while n < len(p[1]) and n < len(q[1]) and p[1][n] == q[1][n]:
-        n += 1
+    n = equal_steps(p, q)
     at = p[1][n - 1][1] if n else p[0]
     end = lambda steps: steps[n][0] if n < len(steps) else b"$"
     turn = lambda steps: turns.get((at, *steps[n])) if n < len(steps) else None
@@ -59,4 +63,4 @@ def compared(text, a, b, n, m):
         raise Refused(9)
     specific = lambda a, b: more_specific(order, turns, a[1:], b[1:])
     word = b"first" if specific(p, q) else b"second" if specific(q, p) else b"neither"
-    return word, len(p[2]), len(q[2])
+    return b"%s %d" % (word, equal_steps(p[1:], q[1:])), len(p[2]), len(q[2])

@@ -42,7 +42,7 @@ use Rattle.text_field.specs.Outcome.{Outcome}
 use Rattle.path_row.specs.declared.form.Step.{Step}
 use Rattle.comparison.specs.declared.rows.Compared.{Compared}
 use Rattle.path_row.specs.Lent.{stepsLeft}
-use Rattle.comparison.specs.Compare.{Comparison, meaning, compareAnswer}
+use Rattle.comparison.specs.Compare.{Told, meaning, compareAnswer}
 use Rattle.path_row.proofs.form.Step as T
 use Rattle.path_row.proofs.form.Step.Laws as T′
 use Rattle.comparison.proofs.rows.Compared as E
@@ -145,7 +145,7 @@ module _ {M : Type 1} (𝓤 : URA M) (H : Heap 𝓤) (A : Atoms 𝓤) (W : Given
     abbrev Second : Fml
     Second = MutSlice (named 2) κ₂ T.the-row .own (ref b₂ o₂ γ₂ zs) (vz ∷ [])
 
-    abbrev what : Outcome Comparison
+    abbrev what : Outcome Told
     what = compareAnswer cs as′ bs (length ys) (length zs)
 
     -- the call of `compare`
@@ -167,7 +167,7 @@ module _ {M : Type 1} (𝓤 : URA M) (H : Heap 𝓤) (A : Atoms 𝓤) (W : Given
     told : (r : Compared) (n : ℕ) (ys′ zs′ : List Step) → n ≡ compared (meaning r) → Said r ys′ zs′
         → (n ≡ compared what) × (ys′ ≡ stepsLeft what as′ ys) × (zs′ ≡ stepsLeft what bs zs)
     told r n ys′ zs′ en (e, ey, ez) =
-        (en ∙ ap compared e, ey ∙ ap (λ (o : Outcome Comparison). stepsLeft o as′ ys) e, ez ∙ ap (λ (o : Outcome Comparison). stepsLeft o bs zs) e)
+        (en ∙ ap compared e, ey ∙ ap (λ (o : Outcome Told). stepsLeft o as′ ys) e, ez ∙ ap (λ (o : Outcome Told). stepsLeft o bs zs) e)
 
     exits : (n : ℕ) (w : Val) (ys′ zs′ : List Step) → Is u64 n (w ∷ []) → (n ≡ compared what) × (ys′ ≡ stepsLeft what as′ ys) × (zs′ ≡ stepsLeft what bs zs) → length ys′ ≡ length ys → length zs′ ≡ length zs
         → ent 𝓤 (⋆ 𝓤 H A (‵ (flft κ q) ∷ ‵ (flft κ₁ q₁) ∷ ‵ (flft κ₂ q₂) ∷ ‵ Text ∷ ‵ RowA ∷ ‵ RowB ∷ ‵ (finally T.the-row γ₁ ys′) ∷ ‵ (finally T.the-row γ₂ zs′) ∷ [])) (Post w)

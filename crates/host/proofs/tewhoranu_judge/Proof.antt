@@ -42,7 +42,7 @@ use Rattle.text_field.specs.Outcome.{Outcome}
 use Rattle.path_row.specs.declared.form.Step.{Step}
 use Rattle.judge.specs.declared.standing.Judged.{Judged}
 use Rattle.path_row.specs.Lent.{stepsLeft}
-use Rattle.scope_graph.specs.Computed.{Standing}
+use Rattle.scope_graph.specs.Agree.{Judgement}
 use Rattle.judge.specs.Judge.{meaning, judgeAnswer}
 use Rattle.path_row.proofs.form.Step as T
 use Rattle.path_row.proofs.form.Step.Laws as T′
@@ -130,7 +130,7 @@ module _ {M : Type 1} (𝓤 : URA M) (H : Heap 𝓤) (A : Atoms 𝓤) (W : Given
     abbrev Steps : Fml
     Steps = MutSlice (named 1) κ₁ T.the-row .own (ref b₁ o₁ γ₁ ys) (vy ∷ [])
 
-    abbrev what : Outcome Standing
+    abbrev what : Outcome Judgement
     what = judgeAnswer cs i rs (length ys)
 
     -- the call of `judge`
@@ -149,7 +149,7 @@ module _ {M : Type 1} (𝓤 : URA M) (H : Heap 𝓤) (A : Atoms 𝓤) (W : Given
 
     -- what is said of the standing, said of its number
     told : (r : Judged) (n : ℕ) (ys′ : List Step) → n ≡ judged (meaning r) → Said r ys′ → (n ≡ judged what) × (ys′ ≡ stepsLeft what rs ys)
-    told r n ys′ en (e, ey) = (en ∙ ap judged e, ey ∙ ap (λ (o : Outcome Standing). stepsLeft o rs ys) e)
+    told r n ys′ en (e, ey) = (en ∙ ap judged e, ey ∙ ap (λ (o : Outcome Judgement). stepsLeft o rs ys) e)
 
     exits : (n : ℕ) (w : Val) (ys′ : List Step) → Is u64 n (w ∷ []) → (n ≡ judged what) × (ys′ ≡ stepsLeft what rs ys) → length ys′ ≡ length ys
         → ent 𝓤 (⋆ 𝓤 H A (‵ (flft κ q) ∷ ‵ (flft κ₁ q₁) ∷ ‵ Text ∷ ‵ Query ∷ ‵ Row ∷ ‵ (finally T.the-row γ₁ ys′) ∷ [])) (Post w)

@@ -2,6 +2,7 @@
 //! beside it: a check of this implementation against answers made by other code.
 //! `tests/trials/cases/case_file.py` says how cases stand.
 
+use plain::answers::Standing;
 use plain::path_row::{self, Compared, PathRow, Step};
 use plain::{answers, gym};
 use std::io::{self, Read, Write};
@@ -165,7 +166,9 @@ fn edge_rows(body: &[u8], scope: u64) -> String {
 fn judge(text: &[u8], query: usize, row: &[u8], room: usize) -> String {
     match answers::judge(text, query, row, &mut vec![BLANK; room]) {
         Err(number) => format!("refused {number}\n"),
-        Ok(standing) => format!("{standing:?}\n").to_lowercase(),
+        Ok(Standing::Visible) => "visible\n".to_string(),
+        Ok(Standing::Shadowed(n)) => format!("shadowed {n}\n"),
+        Ok(Standing::Unreached) => "unreached\n".to_string(),
     }
 }
 
@@ -174,9 +177,9 @@ fn compare(text: &[u8], first: &[u8], second: &[u8], n: usize, m: usize) -> Stri
     let (mut a, mut b) = (vec![BLANK; n.min(1000)], vec![BLANK; m.min(1000)]);
     let answer = match path_row::compare(text, first, second, &mut a, &mut b) {
         Err(number) => format!("refused {number}"),
-        Ok(Compared::First) => "first".to_string(),
-        Ok(Compared::Second) => "second".to_string(),
-        Ok(Compared::Neither) => "neither".to_string(),
+        Ok(Compared::First(n)) => format!("first {n}"),
+        Ok(Compared::Second(n)) => format!("second {n}"),
+        Ok(Compared::Neither(n)) => format!("neither {n}"),
     };
     let records = |table: &[Step]| table.iter().filter(|s| **s != BLANK).count();
     format!("{answer}, records {} and {}\n", records(&a), records(&b))

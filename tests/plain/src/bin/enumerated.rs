@@ -2,7 +2,7 @@
 //! said.
 //!
 //! Same listing (entries, found, awaits), the same verdict on random path rows, comparison as the
-//! rules have it; a settled listing stays the same in random completions, and any listing in those
+//! rules have it, both with their numbers of equal steps; a settled listing stays the same in random completions, and any listing in those
 //! that add at a pair that is not decisive; reading and writing are inverse, on damaged files and
 //! tables too; an old file, the same file with every kind `v` and that with every turn 0 give the
 //! same answers, and convert to one another.
@@ -37,10 +37,14 @@ struct Counts {
     completions_at_one_pair: usize,
     visible: usize,
     shadowed: usize,
+    /// By the number of steps after which the name was caught, the last for all above.
+    caught_after: [usize; 5],
     shadowed_by_turns: usize,
     unreached: usize,
     more_specific: usize,
     more_specific_by_turns: usize,
+    /// By the number of equal steps, the last for all above.
+    agree_in: [usize; 5],
     damaged_accepted: usize,
     damaged_refused: [usize; 10],
     table_refused: [usize; 10],
@@ -246,7 +250,8 @@ fn check_rows(
                 graph.verdict(start, &name_of(query.name), &p, mark)
             }
         };
-        if due == Verdict::Shadowed {
+        if let Verdict::Shadowed(after) = due {
+            c.caught_after[after.min(4)] += 1;
             let p = path_of(gym, &parsed).expect("a path");
             let (start, mark) = (query.start as usize, u64::from(parsed.mark));
             let without = by_labels.verdict(start, &name_of(query.name), &p, mark);
@@ -256,7 +261,7 @@ fn check_rows(
         let got = answers::judge(text, n, row, &mut table);
         let (same, counter) = match due {
             Verdict::Visible => (Ok(Standing::Visible), &mut c.visible),
-            Verdict::Shadowed => (Ok(Standing::Shadowed), &mut c.shadowed),
+            Verdict::Shadowed(after) => (Ok(Standing::Shadowed(after)), &mut c.shadowed),
             Verdict::Unreached => (Ok(Standing::Unreached), &mut c.unreached),
         };
         *counter += 1;
@@ -285,14 +290,17 @@ fn check_rows(
         );
         let got = path_row::compare(text, &pair[0], &pair[1], &mut [BLANK; 63], &mut [BLANK; 63]);
         if let (Some(p), Some(q)) = (path_of(gym, &a), path_of(gym, &b)) {
+            let steps = enumerate::agree(&p, &q);
+            c.agree_in[steps.min(4)] += 1;
             let due = match (graph.more_specific(&p, &q), graph.more_specific(&q, &p)) {
-                (true, false) => Compared::First,
-                (false, true) => Compared::Second,
-                _ => Compared::Neither,
+                (true, false) => Compared::First(steps),
+                (false, true) => Compared::Second(steps),
+                _ => Compared::Neither(steps),
             };
-            c.more_specific += usize::from(due != Compared::Neither);
+            let decided = due != Compared::Neither(steps);
+            c.more_specific += usize::from(decided);
             let neither = !by_labels.more_specific(&p, &q) && !by_labels.more_specific(&q, &p);
-            c.more_specific_by_turns += usize::from(due != Compared::Neither && neither);
+            c.more_specific_by_turns += usize::from(decided && neither);
             if got != Ok(due) {
                 fail(seed, "compare", text);
             }

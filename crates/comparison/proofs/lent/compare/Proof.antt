@@ -44,7 +44,7 @@ use Rattle.path_row.specs.declared.form.Step.{Step}
 use Rattle.comparison.specs.declared.rows.Compared.{Compared}
 use Rattle.path_row.specs.Form.{stepsIn}
 use Rattle.path_row.specs.Lent.{stepsLeft, filled, stepsDue}
-use Rattle.comparison.specs.Compare.{Comparison, meaning, compareAnswer}
+use Rattle.comparison.specs.Compare.{Told, meaning, compareAnswer}
 use Rattle.comparison.proofs.LentLaws.{due-a, due-b, left-a, left-b}
 use Rattle.path_row.proofs.form.Step as T
 use Rattle.path_row.proofs.form.Step.Laws as T′
@@ -167,7 +167,7 @@ module _ {M : Type 1} (𝓤 : URA M) (H : Heap 𝓤) (A : Atoms 𝓤) (W : Given
     abbrev RowB : Fml
     RowB = ShrSlice (named 0) κ u8 .own (ref bb ob γb bs) (vb ∷ [])
 
-    abbrev what : Outcome Comparison
+    abbrev what : Outcome Told
     what = compareAnswer cs as′ bs (length ys) (length zs)
 
     -- the call of `decide`

@@ -31,13 +31,13 @@ returns : tie.Need-returns
 returns c = due-none (c .before .before .before .args .answer) _ (stepsIn (now (c .before .before .before .args .row))) (c .enum-told .given .1)
 
 returns-2 : tie.Need-returns-2
-returns-2 c = due-first (c .before .before .before .before .args .answer) (stepsIn (now (c .before .before .before .before .args .row))) (c .step-count .result) (c .step-count .ensures) (c .before .enum-told2 .given .1)
+returns-2 c = due-first (c .before .before .before .before .args .answer) _ (stepsIn (now (c .before .before .before .before .args .row))) (c .step-count .result) (c .step-count .ensures) (c .before .enum-told2 .given .1)
 
 returns-3 : tie.Need-returns-3
-returns-3 c = due-second (c .before .before .before .before .args .answer) (stepsIn (now (c .before .before .before .before .args .row))) (c .step-count2 .result) (c .step-count2 .ensures) (c .before .enum-told3 .given .1)
+returns-3 c = due-second (c .before .before .before .before .args .answer) _ (stepsIn (now (c .before .before .before .before .args .row))) (c .step-count2 .result) (c .step-count2 .ensures) (c .before .enum-told3 .given .1)
 
 returns-4 : tie.Need-returns-4
-returns-4 c = due-neither (c .before .before .before .before .args .answer) (stepsIn (now (c .before .before .before .before .args .row))) (c .step-count3 .result) (c .step-count3 .ensures) (c .before .enum-told4 .given .1)
+returns-4 c = due-neither (c .before .before .before .before .args .answer) _ (stepsIn (now (c .before .before .before .before .args .row))) (c .step-count3 .result) (c .step-count3 .ensures) (c .before .enum-told4 .given .1)
 
 pub steps-due-spec : {M : Type 1} → statement M
 steps-due-spec =

@@ -9,16 +9,16 @@ row-preferred-requires : tie.Need-row-preferred-requires
 row-preferred-requires c κs = c .before .before .before .pre
 
 returns : tie.Need-returns
-returns c = first-is (now (c .before .before .before .before .before .args .block)) (c .before .before .before .before .before .args .start) (stepsIn (now (c .before .before .before .before .before .args .a))) (stepsIn (now (c .before .before .before .before .before .args .b))) (c .before .row-preferred .result) (c .before .row-preferred .ensures) (c .if1 .taken)
+returns c = first-is (now (c .before .before .before .before .before .args .block)) (c .before .before .before .before .before .args .start) (stepsIn (now (c .before .before .before .before .before .args .a))) (stepsIn (now (c .before .before .before .before .before .args .b))) (c .before .before .before .before .before .args .equal) (c .before .row-preferred .result) (c .before .row-preferred .ensures) (c .if1 .taken)
 
 row-preferred-requires-2 : tie.Need-row-preferred-requires-2
 row-preferred-requires-2 c κs = c .before .before .before .before .before .pre
 
 returns-2 : tie.Need-returns-2
-returns-2 c = second-is (now (c .before .before .before .before .before .before .before .args .block)) (c .before .before .before .before .before .before .before .args .start) (stepsIn (now (c .before .before .before .before .before .before .before .args .a))) (stepsIn (now (c .before .before .before .before .before .before .before .args .b))) (c .before .before .before .row-preferred .result) (c .before .before .before .row-preferred .ensures) (c .before .before .if1 .left) (c .before .row-preferred2 .result) (c .before .row-preferred2 .ensures) (c .if2 .taken)
+returns-2 c = second-is (now (c .before .before .before .before .before .before .before .args .block)) (c .before .before .before .before .before .before .before .args .start) (stepsIn (now (c .before .before .before .before .before .before .before .args .a))) (stepsIn (now (c .before .before .before .before .before .before .before .args .b))) (c .before .before .before .before .before .before .before .args .equal) (c .before .before .before .row-preferred .result) (c .before .before .before .row-preferred .ensures) (c .before .before .if1 .left) (c .before .row-preferred2 .result) (c .before .row-preferred2 .ensures) (c .if2 .taken)
 
 returns-3 : tie.Need-returns-3
-returns-3 c = neither-is (now (c .before .before .before .before .before .before .before .args .block)) (c .before .before .before .before .before .before .before .args .start) (stepsIn (now (c .before .before .before .before .before .before .before .args .a))) (stepsIn (now (c .before .before .before .before .before .before .before .args .b))) (c .before .before .before .row-preferred .result) (c .before .before .before .row-preferred .ensures) (c .before .before .if1 .left) (c .before .row-preferred2 .result) (c .before .row-preferred2 .ensures) (c .if2 .left)
+returns-3 c = neither-is (now (c .before .before .before .before .before .before .before .args .block)) (c .before .before .before .before .before .before .before .args .start) (stepsIn (now (c .before .before .before .before .before .before .before .args .a))) (stepsIn (now (c .before .before .before .before .before .before .before .args .b))) (c .before .before .before .before .before .before .before .args .equal) (c .before .before .before .row-preferred .result) (c .before .before .before .row-preferred .ensures) (c .before .before .if1 .left) (c .before .row-preferred2 .result) (c .before .row-preferred2 .ensures) (c .if2 .left)
 
 pub more-specific-spec : {M : Type 1} → statement M
 more-specific-spec =

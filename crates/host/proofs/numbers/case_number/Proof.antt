@@ -1,5 +1,5 @@
 use mathlib.Core.Path.{refl}
-use Rattle.host.specs.Numbers.{caseNumber}
+use Rattle.host.specs.Numbers.{caseNumber, stepsNumber}
 use borrow.Author.Needs.{needs}
 use Rattle.host.proofs.numbers.case_number.Statement.{statement}
 use Rattle.host.proofs.numbers.case_number.Tie as tie
@@ -16,7 +16,7 @@ add-result-2 : tie.Need-add-result-2
 add-result-2 c = search needs
 
 returns : tie.Need-returns
-unfolding caseNumber
+unfolding caseNumber stepsNumber
 returns c = refl
 
 pub case-number-spec : {M : Type 1} → statement M

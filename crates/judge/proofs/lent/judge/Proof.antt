@@ -37,7 +37,7 @@ use denote.Triple.Table.{entered, cited}
 use denote.Triple.Walked.{says, Stays, stay-none, stay-none-slice, gave-slice, walkOf, goes-none, goes-none-slice, goes-gave-slice, Walks, ends-at, walked, walk-meets}
 use denote.Exit.{yes}
 use denote.Signature.{plain}
-use Rattle.scope_graph.specs.Computed.{Standing}
+use Rattle.scope_graph.specs.Agree.{Judgement}
 use Rattle.text_field.specs.Outcome.{Outcome}
 use Rattle.path_row.specs.declared.form.Step.{Step}
 use Rattle.path_row.specs.Form.{stepsIn}
@@ -125,7 +125,7 @@ module _ {M : Type 1} (𝓤 : URA M) (H : Heap 𝓤) (A : Atoms 𝓤) (W : Given
     abbrev Row : Fml
     Row = ShrSlice (named 0) κ u8 .own (ref ba oa γa rs) (va ∷ [])
 
-    abbrev what : Outcome Standing
+    abbrev what : Outcome Judgement
     what = judgeAnswer cs i rs (length ys)
 
     -- the call of `judge_text`

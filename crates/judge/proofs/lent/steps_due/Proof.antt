@@ -46,7 +46,7 @@ returns-2 c = let a = c .before .before .before .before .args in due-visible (a 
 
 -- src/lent.rt:15:1
 returns-3 : tie.Need-returns-3
-returns-3 c = let a = c .before .before .before .before .args in due-shadowed (a .answer) (stepsIn (a .row .now)) _ (c .step-count2 .ensures) (c .before .enum-told3 .given .1)
+returns-3 c = let a = c .before .before .before .before .args in due-shadowed (a .answer) (stepsIn (a .row .now)) _ (c .step-count2 .ensures) _ (c .before .enum-told3 .given .1)
 
 -- src/lent.rt:15:1
 returns-4 : tie.Need-returns-4

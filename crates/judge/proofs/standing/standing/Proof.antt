@@ -33,17 +33,17 @@ returns-2 c = let a = c .before .before .before .before .before .before .before 
 goal-table-requires : tie.Need-goal-table-requires
 goal-table-requires c κs = let a = c .before .before .before .before .before .before .before .before .before .before .args in let p = c .before .before .before .before .before .before .before .before .before .before .pre in (p .1 .size, (p .1 .bounds, start-small (a .table .now) (a .sought) (a .mark) (a .from) (a .row .now) (p .0)))
 
-slice-aggregate-is-cut : tie.Need-slice-aggregate-is-cut
-slice-aggregate-is-cut c = search needs
+slice-aggregate-last-cut : tie.Need-slice-aggregate-last-cut
+slice-aggregate-last-cut c = search needs
 
-is-cut-requires : tie.Need-is-cut-requires
-is-cut-requires c κs = let a = c .before .before .before .before .before .before .before .before .before .before .before .before .args in let p = c .before .before .before .before .before .before .before .before .before .before .before .before .pre in let n = slice-aggregate-is-cut c in record { size = p .1 .size; bounds = p .1 .bounds; table = omega arith; inside = begins-inside (a .block .now) (a .sought .start) _ (c .before .before .before .before .before .begin .ensures) (start-small (a .table .now) (a .sought) (a .mark) (a .from) (a .row .now) (p .0)); closed = c .before .goal-table .ensures }
+last-cut-requires : tie.Need-last-cut-requires
+last-cut-requires c κs = let a = c .before .before .before .before .before .before .before .before .before .before .before .before .args in let p = c .before .before .before .before .before .before .before .before .before .before .before .before .pre in let n = slice-aggregate-last-cut c in record { size = p .1 .size; bounds = p .1 .bounds; table = omega arith; inside = begins-inside (a .block .now) (a .sought .start) _ (c .before .before .before .before .before .begin .ensures) (start-small (a .table .now) (a .sought) (a .mark) (a .from) (a .row .now) (p .0)); closed = c .before .goal-table .ensures }
 
 returns-3 : tie.Need-returns-3
-returns-3 c = let a = c .before .before .before .before .before .before .before .before .before .before .before .before .before .before .args in let p = c .before .before .before .before .before .before .before .before .before .before .before .before .before .before .pre in is-cut (a .table .now) (a .sought) (a .mark) (a .from) (a .row .now) (p .0) (c .before .before .before .before .before .before .before .before .before .before .if1 .left) (a .block .now) (p .1) _ (c .before .before .before .before .before .before .before .before .before .part .ensures) _ (c .before .before .before .before .before .before .before .before .declaring .ensures) _ (c .before .before .before .before .before .before .before .begin .ensures) (c .before .before .before .before .before .before .first-step .result) (steps-first _ _ (c .before .before .before .before .before .before .first-step .ensures)) _ (c .before .before .before .before .before .is-reached .ensures) (not-false _ (c .before .before .before .before .if2 .left)) _ (c .before .is-cut .ensures) (c .if3 .taken)
+returns-3 c = let a = c .before .before .before .before .before .before .before .before .before .before .before .before .before .before .args in let p = c .before .before .before .before .before .before .before .before .before .before .before .before .before .before .pre in is-cut (a .table .now) (a .sought) (a .mark) (a .from) (a .row .now) (p .0) (c .before .before .before .before .before .before .before .before .before .before .if1 .left) (a .block .now) (p .1) _ (c .before .before .before .before .before .before .before .before .before .part .ensures) _ (c .before .before .before .before .before .before .before .before .declaring .ensures) _ (c .before .before .before .before .before .before .before .begin .ensures) (c .before .before .before .before .before .before .first-step .result) (steps-first _ _ (c .before .before .before .before .before .before .first-step .ensures)) _ (c .before .before .before .before .before .is-reached .ensures) (not-false _ (c .before .before .before .before .if2 .left)) _ (c .before .last-cut .ensures) (c .if3 .taken)
 
 returns-4 : tie.Need-returns-4
-returns-4 c = let a = c .before .before .before .before .before .before .before .before .before .before .before .before .before .before .args in let p = c .before .before .before .before .before .before .before .before .before .before .before .before .before .before .pre in not-cut (a .table .now) (a .sought) (a .mark) (a .from) (a .row .now) (p .0) (c .before .before .before .before .before .before .before .before .before .before .if1 .left) (a .block .now) (p .1) _ (c .before .before .before .before .before .before .before .before .before .part .ensures) _ (c .before .before .before .before .before .before .before .before .declaring .ensures) _ (c .before .before .before .before .before .before .before .begin .ensures) (c .before .before .before .before .before .before .first-step .result) (steps-first _ _ (c .before .before .before .before .before .before .first-step .ensures)) _ (c .before .before .before .before .before .is-reached .ensures) (not-false _ (c .before .before .before .before .if2 .left)) _ (c .before .is-cut .ensures) (c .if3 .left)
+returns-4 c = let a = c .before .before .before .before .before .before .before .before .before .before .before .before .before .before .args in let p = c .before .before .before .before .before .before .before .before .before .before .before .before .before .before .pre in not-cut (a .table .now) (a .sought) (a .mark) (a .from) (a .row .now) (p .0) (c .before .before .before .before .before .before .before .before .before .before .if1 .left) (a .block .now) (p .1) _ (c .before .before .before .before .before .before .before .before .before .part .ensures) _ (c .before .before .before .before .before .before .before .before .declaring .ensures) _ (c .before .before .before .before .before .before .before .begin .ensures) (c .before .before .before .before .before .before .first-step .result) (steps-first _ _ (c .before .before .before .before .before .before .first-step .ensures)) _ (c .before .before .before .before .before .is-reached .ensures) (not-false _ (c .before .before .before .before .if2 .left)) _ (c .before .last-cut .ensures) (c .if3 .left)
 
 pub standing-spec : {M : Type 1} → statement M
 standing-spec =
@@ -57,7 +57,7 @@ standing-spec =
     is-reached-requires
     returns-2
     goal-table-requires
-    slice-aggregate-is-cut
-    is-cut-requires
+    slice-aggregate-last-cut
+    last-cut-requires
     returns-3
     returns-4)
