@@ -240,7 +240,8 @@ pub fn judge(text: &[u8], query: usize, row: &[u8], steps: &mut [Step]) -> Resul
     })
 }
 
-/// Compares two path rows by the file's order; the steps of each go into its table.
+/// Compares two path rows by the file's order and turns, with the number of equal steps before the
+/// first difference; the steps of each go into its table.
 pub fn compare(
     text: &[u8],
     first: &[u8],

@@ -22,7 +22,7 @@ def judge(f, title, text, query, row, due=None, room=63):
 
 def example_cases(f):
     text = f.text(EXAMPLE)
-    judge(f, "M10: 10 2P1 for 2 service", text, 0, "10 2P1", "shadowed")
+    judge(f, "M10: 10 2P1 for 2 service", text, 0, "10 2P1", "shadowed 0")
     judge(f, "M10: 21 2 for 2 service", text, 0, "21 2", "visible")
     judge(f, "M10: 5 2P1P0 for 2 service", text, 0, "5 2P1P0", "unreached")
     for title, query, row, due in [
