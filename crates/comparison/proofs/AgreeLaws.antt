@@ -8,7 +8,7 @@ use Prim.Native.Nat.{ℕ, zero, suc, _+_, _-_, _≤_, _<_}
 use native.Mathlib.Omega.{arith}
 use borrow.Author.Tests.{eqb-true, eq-eqb}
 use lib.Dec.{eqb}
-use lib.ListN.{take, drop}
+use lib.ListN.{getD, take, drop}
 use Rattle.graph_file.specs.Decode.{lettersOf, rulesOf, graphOf}
 use Rattle.scope_graph.specs.Language.{Language}
 use Rattle.scope_graph.specs.Rows.{Rules, language}
@@ -20,12 +20,11 @@ use Rattle.scope_graph.specs.Agree.{sameStep as sameHopStep}
 use Rattle.scope_graph.proofs.Lists.{Two, not-true, true-false, and-left, and-right, and-both}
 use Rattle.scope_graph.proofs.Agree.{agree-on, agree-off, agree-ended, agree-over, agree-from, agree-apart}
 use Rattle.path_row.specs.declared.form.Step.{Step}
-use Rattle.path_row.specs.declared.form.StepRead.{StepRead}
-use Rattle.path_row.specs.declared.form.StepRead.the-variants.{Taken, NoStep}
-use Rattle.path_row.specs.Form.{PathRow, stepsOf, stepMeaning, stepFrom}
+use Rattle.path_row.specs.declared.taken.Steps.{Steps}
+use Rattle.path_row.specs.Form.{PathRow, noStep, stepsTaken}
 use Rattle.path_row.specs.Numbering.{labelNumber, hopOf, hopsOf, pathOf, pathIn}
 use Rattle.path_row.proofs.NumberingLaws.{number-tells}
-use Rattle.path_row.proofs.Steps.{steps-next, steps-none}
+use Rattle.path_row.proofs.TakenLaws.{taken-none, taken-next}
 use Rattle.comparison.specs.Compare.{agreement}
 use Rattle.comparison.specs.Promises.{sameShown, agreeSteps}
 
@@ -57,66 +56,38 @@ unfolding agreeSteps
 steps-over [] = refl
 steps-over (t ∷ ts) = refl
 
--- the steps that are left of two rows
-abbrev pub agrees : List ℕ → List ℕ → ℕ → ℕ → ℕ → ℕ
-agrees a b left i j = agreeSteps (stepsOf left (drop i a)) (stepsOf left (drop j b))
-
-module _ (a b : List ℕ) (i j left : ℕ) where
-  pub agrees-full : left ≤ 0 → agrees a b left i j ≡ 0
-  unfolding stepsOf
-  agrees-full h = at left h
-    where
-      at : (n : ℕ) → n ≤ 0 → agrees a b n i j ≡ 0
-      at zero h = steps-ended []
-      at (suc n) h = absurd (omega arith)
-
-  module _ (r : StepRead) (e : stepMeaning r ≡ stepFrom i a) where
-    pub agrees-ends : r ≡ NoStep → agrees a b left i j ≡ 0
-    agrees-ends n = rw (steps-none a i left r e n) (steps-ended (stepsOf left (drop j b)))
-
-    module _ (x v ni : ℕ) (n : r ≡ Taken x v ni) (h : 1 ≤ left) (r′ : StepRead) (e′ : stepMeaning r′ ≡ stepFrom j b) where
-      pub agrees-stops : r′ ≡ NoStep → agrees a b left i j ≡ 0
-      agrees-stops n′ = rw (steps-none b j left r′ e′ n′) (steps-over (stepsOf left (drop i a)))
-
-      module _ (y w nj : ℕ) (n′ : r′ ≡ Taken y w nj) where
-        abbrev mine : Step
-        mine = record { label = x; scope = v }
-
-        abbrev other : Step
-        other = record { label = y; scope = w }
-
-        abbrev opened : ℕ
-        opened = agreeSteps (mine ∷ stepsOf (left - 1) (drop ni a)) (other ∷ stepsOf (left - 1) (drop nj b))
-
-        opens : agrees a b left i j ≡ opened
-        opens = rw (steps-next a i left r e x v ni n h, steps-next b j left r′ e′ y w nj n′ h)
-
-        pub agrees-letter : (x ≡ y → ⊥) → agrees a b left i j ≡ 0
-        agrees-letter d = opens ∙ steps-apart mine other _ _ (not-true _ (λ t. d (ap (λ (z : Step). z .label) (shown-is mine other t))))
-
-        pub agrees-scope : (v ≡ w → ⊥) → agrees a b left i j ≡ 0
-        agrees-scope d = opens ∙ steps-apart mine other _ _ (not-true _ (λ t. d (ap (λ (z : Step). z .scope) (shown-is mine other t))))
-
-        pub agrees-on : x ≡ y → v ≡ w → agrees a b left i j ≡ suc (agrees a b (left - 1) ni nj)
-        agrees-on f g = opens ∙ steps-same mine other _ _ (shown-same mine other f g)
+-- the steps of two rows from step n on
+abbrev pub agrees : Steps → Steps → ℕ → ℕ
+agrees a b n = agreeSteps (drop n (stepsTaken a)) (drop n (stepsTaken b))
 
 pub starts-at : (total : ℕ) → total ≡ 0 + total
 starts-at total = omega arith
 
 -- n steps are equal, and the rows go on: there ends what is equal, or one step more is
-module _ (a b : List ℕ) (i j n total : ℕ) (e : total ≡ n + agrees a b (63 - n) i j) where
-  pub ends-here : agrees a b (63 - n) i j ≡ 0 → n ≡ total
-  ends-here z = omega (arith, e, z)
+module _ (a b : Steps) (n total : ℕ) (is : total ≡ n + agrees a b n) where
+  ended : agrees a b n ≡ 0 → n ≡ total
+  ended z = omega (arith, is, z)
 
-  pub goes-on : (ni nj : ℕ) → n < 63 → agrees a b (63 - n) i j ≡ suc (agrees a b ((63 - n) - 1) ni nj)
-      → total ≡ (n + 1) + agrees a b (63 - (n + 1)) ni nj
-  goes-on ni nj h k =
-      let z : (63 - n) - 1 ≡ 63 - (n + 1) = omega arith in
-      let f : agrees a b (63 - n) i j ≡ suc (agrees a b (63 - (n + 1)) ni nj) = k ∙ ap (λ (x : ℕ). suc (agrees a b x ni nj)) z in
-      omega (arith, e, f)
+  pub agrees-ends : a .count ≤ n → n ≡ total
+  agrees-ends h = ended (rw (taken-none a n h) (steps-ended (drop n (stepsTaken b))))
 
-pub steps-as : (ts ts′ us us′ : List Step) → ts ≡ ts′ → us ≡ us′ → agreeSteps ts us ≡ agreeSteps ts′ us′
-steps-as ts ts′ us us′ e f = rw (e, f)
+  pub agrees-stops : b .count ≤ n → n ≡ total
+  agrees-stops h = ended (rw (taken-none b n h) (steps-over (drop n (stepsTaken a))))
+
+  module _ (h : n < a .count) (k : n < b .count) (t u : Step) (e : t ≡ getD (stepsTaken a) n noStep) (f : u ≡ getD (stepsTaken b) n noStep) where
+    opens : agrees a b n ≡ agreeSteps (t ∷ drop (n + 1) (stepsTaken a)) (u ∷ drop (n + 1) (stepsTaken b))
+    opens = rw (taken-next a n h t e, taken-next b n k u f)
+
+    pub agrees-letter : (t .label ≡ u .label → ⊥) → n ≡ total
+    agrees-letter d = ended (opens ∙ steps-apart t u _ _ (not-true _ (λ z. d (ap (λ (x : Step). x .label) (shown-is t u z)))))
+
+    pub agrees-scope : (t .scope ≡ u .scope → ⊥) → n ≡ total
+    agrees-scope d = ended (opens ∙ steps-apart t u _ _ (not-true _ (λ z. d (ap (λ (x : Step). x .scope) (shown-is t u z)))))
+
+    pub agrees-on : t .label ≡ u .label → t .scope ≡ u .scope → total ≡ (n + 1) + agrees a b (n + 1)
+    agrees-on p q =
+        let z : agrees a b n ≡ suc (agrees a b (n + 1)) = opens ∙ steps-same t u _ _ (shown-same t u p q) in
+        omega (arith, is, z)
 
 -- over a file's rules: steps that leave one scope
 module _ (r : Rules) (leaving : ℕ → List (HopOf Turned)) (letters : List ℕ) where

@@ -150,10 +150,10 @@ module _ (cells a b : List ℕ) (n m : ℕ) where
               let apart : p .row .start ≡ q .row .start → ⊥ = λ e. z (sym (p .starts) ∙ e ∙ q .starts) in
               sym (fits ∙ rw (compared-apart cells (p .row) (q .row) apart, agreement-apart cells (p .row) (q .row) apart))
 
-          pub starts-same : WasRead cells → start ≡ other → (block : List ℕ) → Made cells block → (k : ℕ) → k ≡ agreeSteps (stepsIn a) (stepsIn b) → (r : Compared)
-              → meaning r ≡ done (asTold (stepsCompared block start (stepsIn a) (stepsIn b)) k) → meaning r ≡ whole
+          pub starts-same : WasRead cells → start ≡ other → (block : List ℕ) → Made cells block → (ts us : List Step) → ts ≡ stepsIn a → us ≡ stepsIn b → (k : ℕ) → k ≡ agreeSteps ts us → (r : Compared)
+              → meaning r ≡ done (asTold (stepsCompared block start ts us) k) → meaning r ≡ whole
           unfolding told
-          starts-same was z block made k f r e =
+          starts-same was z block made ts us ta ub k f r e =
               let one : p .row .start ≡ q .row .start = p .starts ∙ z ∙ sym (q .starts) in
-              e ∙ rw (f, ← p .steps, ← q .steps, ← p .starts)
+              e ∙ rw (f, ta, ub, ← p .steps, ← q .steps, ← p .starts)
               (sym (fits ∙ rw (compared-same cells block was made (p .row) (q .row) one, agreement-same cells (p .row) (q .row) one)))

@@ -7,7 +7,7 @@ use Prim.Native.Nat.{ℕ, zero, suc, _+_, _-_, _≤_, _<_}
 use native.Mathlib.Omega.{arith}
 use borrow.Author.Tests.{ne-eqb, eq-eqb}
 use lib.Dec.{eqb}
-use lib.ListN.{drop}
+use lib.ListN.{getD, drop}
 use Rattle.scope_graph.specs.Language.{End, stop, by}
 use Rattle.scope_graph.specs.Path.{HopOf}
 use Rattle.scope_graph.specs.Turns.{Turned, turnBy}
@@ -21,14 +21,12 @@ use Rattle.block.specs.Block.{hopOf as edgeHop}
 use Rattle.block.proofs.BlockLaws.{blockHops-past}
 use Rattle.search.specs.Tables.{tableOrder}
 use Rattle.path_row.specs.declared.form.Step.{Step}
-use Rattle.path_row.specs.declared.form.StepRead.{StepRead}
-use Rattle.path_row.specs.declared.form.StepRead.the-variants.{Taken, NoStep}
-use Rattle.path_row.specs.Form.{stepHere, stepsOf, stepPlaced, stepMeaning, stepFrom}
+use Rattle.path_row.specs.declared.taken.Steps.{Steps}
+use Rattle.path_row.specs.Form.{noStep, stepsTaken}
 use Rattle.path_row.specs.Numbering.{labelNumber, hopOf}
-use Rattle.path_row.proofs.FormLaws.{steps-on, steps-off}
-use Rattle.path_row.proofs.Steps.{same-step, steps-next, steps-none}
+use Rattle.path_row.proofs.TakenLaws.{taken-none, taken-next}
 use Rattle.comparison.specs.Letters.{blockLetters}
-use Rattle.comparison.specs.Steps.{endHere, stepAt, sameStep, stepsPreferred}
+use Rattle.comparison.specs.Steps.{endFirst, stepAt, sameStep, stepsPreferred}
 
 -- a step's turn, by the edge that was looked up
 module _ (block : List ℕ) (s label to : ℕ) where
@@ -45,28 +43,18 @@ module _ (block : List ℕ) (s label to : ℕ) where
     unfolding turnMeaning edgeHop
     turn-edge h x n f g = rw (g, f) (ap (λ (k : HopOf Turned). k .step .turn) (e .is (omega arith)))
 
--- how a path goes on by a step that was read
-module _ (block : List ℕ) (s : ℕ) where
-  pub end-stop : (i : ℕ) (r a : StepRead) → stepMeaning a ≡ stepMeaning (stepPlaced i r) → a ≡ NoStep → meaning Stop ≡ endHere block s r
-  unfolding stepPlaced endHere meaning
-  end-stop i NoStep a e f = refl
-  end-stop i (Taken x v w) a e f = absurd (let g = same-step a (Taken x v (i + w)) e in let z : _≡_ {A = ℕ} 0 1 = cc in omega arith)
+-- how steps go on from step i
+module _ (block : List ℕ) (s : ℕ) (t : Steps) (i : ℕ) where
+  pub end-stop : t .count ≤ i → meaning Stop ≡ endFirst block s (drop i (stepsTaken t))
+  unfolding endFirst meaning
+  end-stop h = rw (taken-none t i h)
 
-  pub end-label : (i : ℕ) (r a : StepRead) (x v next n : ℕ) (t : Turn) → stepMeaning a ≡ stepMeaning (stepPlaced i r) → a ≡ Taken x v next
-      → n ≡ labelNumber (blockLetters block) x → turnMeaning t ≡ turnBy (blockHops block s) n v → meaning (Label n t) ≡ endHere block s r
-  unfolding stepPlaced endHere meaning hopOf
-  end-label i NoStep a x v next n t e f g h = absurd (let d = same-step a NoStep e in let z : _≡_ {A = ℕ} 0 1 = cc in omega arith)
-  end-label i (Taken y u w) a x v next n t e f g h =
-      let d = same-step a (Taken y u (i + w)) e in
-      let p : y ≡ x = cc in
-      let q : u ≡ v = cc in
-      rw (h, p, q, ← g)
+  pub end-label : i < t .count → (x : Step) → x ≡ getD (stepsTaken t) i noStep → (n : ℕ) (u : Turn)
+      → n ≡ labelNumber (blockLetters block) (x .label) → turnMeaning u ≡ turnBy (blockHops block s) n (x .scope) → meaning (Label n u) ≡ endFirst block s (drop i (stepsTaken t))
+  unfolding endFirst meaning hopOf
+  end-label h x e n u g k = rw (taken-next t i h x e, k, ← g)
 
 module _ (block : List ℕ) (s : ℕ) where
-  abbrev endFirst : List Step → End Turned
-  endFirst [] = stop
-  endFirst (t ∷ ts) = by (stepAt block s t)
-
   -- what decides where the ends do not
   abbrev further : List Step → List Step → Bool
   further [] us = false
@@ -77,64 +65,56 @@ module _ (block : List ℕ) (s : ℕ) where
   further-none [] = refl
   further-none (t ∷ ts) = refl
 
-  ends-first : (ts us : List Step) → stepsPreferred block s ts us ≡ (tableOrder block (endFirst ts) (endFirst us) || further ts us)
-  unfolding stepsPreferred
+  ends-first : (ts us : List Step) → stepsPreferred block s ts us ≡ (tableOrder block (endFirst block s ts) (endFirst block s us) || further ts us)
+  unfolding stepsPreferred endFirst
   ends-first [] [] = sym (or-false (tableOrder block stop stop))
   ends-first [] (u ∷ us) = sym (or-false (tableOrder block stop (by (stepAt block s u))))
   ends-first (t ∷ ts) [] = sym (or-false (tableOrder block (by (stepAt block s t)) stop))
   ends-first (t ∷ ts) (u ∷ us) = refl
 
-  end-first : (n : ℕ) (text : List ℕ) → endFirst (stepsOf (suc n) text) ≡ endHere block s (stepHere text)
-  unfolding endHere
-  end-first n text = by-step (stepHere text) refl
-    where
-      by-step : (r : StepRead) → stepHere text ≡ r → endFirst (stepsOf (suc n) text) ≡ endHere block s (stepHere text)
-      by-step NoStep e = rw (steps-off n text e, e)
-      by-step (Taken x v w) e = rw (steps-on n text x v w e, e)
+  module _ (a b : Steps) (i : ℕ) where
+    abbrev left : List Step
+    left = drop i (stepsTaken a)
 
-  module _ (a b : List ℕ) (i j left : ℕ) (h : 1 ≤ left) (ea eb : CodeEnd) (fa : meaning ea ≡ endHere block s (stepHere (drop i a))) (fb : meaning eb ≡ endHere block s (stepHere (drop j b)))
-      (u : Bool) (m : u ≡ tableOrder block (meaning ea) (meaning eb)) where
+    abbrev right : List Step
+    right = drop i (stepsTaken b)
+
     abbrev here : Bool
-    here = stepsPreferred block s (stepsOf left (drop i a)) (stepsOf left (drop j b))
+    here = stepsPreferred block s left right
 
-    split : here ≡ (u || further (stepsOf left (drop i a)) (stepsOf left (drop j b)))
-    split =
-        let n : left ≡ suc (left - 1) = omega arith
-        in let p : endFirst (stepsOf left (drop i a)) ≡ meaning ea = ap (λ (k : ℕ). endFirst (stepsOf k (drop i a))) n ∙ end-first (left - 1) (drop i a) ∙ sym fa
-        in let q : endFirst (stepsOf left (drop j b)) ≡ meaning eb = ap (λ (k : ℕ). endFirst (stepsOf k (drop j b))) n ∙ end-first (left - 1) (drop j b) ∙ sym fb
-        in ends-first (stepsOf left (drop i a)) (stepsOf left (drop j b)) ∙ rw (p, q, ← m)
+    -- where the steps of a have ended the two ends decide
+    pub preferred-ends : a .count ≤ i → (eb : CodeEnd) → meaning eb ≡ endFirst block s right → (u : Bool) → u ≡ tableOrder block (meaning Stop) (meaning eb) → here ≡ u
+    unfolding meaning endFirst
+    preferred-ends h eb f u m =
+        ends-first left right ∙ rw (taken-none a i h, ← f, ← m) (or-false u)
 
-    pub preferred-here : u ≡ true → here ≡ true
-    preferred-here f = split ∙ rw f
+    module _ (ea eb : CodeEnd) (fa : meaning ea ≡ endFirst block s left) (fb : meaning eb ≡ endFirst block s right) (u : Bool) (m : u ≡ tableOrder block (meaning ea) (meaning eb)) where
+      split : here ≡ (u || further left right)
+      split = ends-first left right ∙ rw (← fa, ← fb, ← m)
 
-    module _ (f : u ≡ false) (r : StepRead) (e : stepMeaning r ≡ stepFrom i a) where
-      onward : here ≡ further (stepsOf left (drop i a)) (stepsOf left (drop j b))
-      onward = split ∙ rw f
+      pub preferred-here : u ≡ true → here ≡ true
+      preferred-here f = split ∙ rw f
 
-      pub preferred-ends : r ≡ NoStep → here ≡ false
-      preferred-ends n = onward ∙ rw (steps-none a i left r e n)
+      module _ (f : u ≡ false) where
+        onward : here ≡ further left right
+        onward = split ∙ rw f
 
-      module _ (x v ni : ℕ) (n : r ≡ Taken x v ni) (r′ : StepRead) (e′ : stepMeaning r′ ≡ stepFrom j b) where
-        pub preferred-stops : r′ ≡ NoStep → here ≡ false
-        preferred-stops n′ = onward ∙ rw (steps-none b j left r′ e′ n′) (further-none (stepsOf left (drop i a)))
+        pub preferred-stops : b .count ≤ i → here ≡ false
+        preferred-stops h = onward ∙ rw (taken-none b i h) (further-none left)
 
-        module _ (y w nj : ℕ) (n′ : r′ ≡ Taken y w nj) (l k : ℕ) (el : l ≡ labelNumber (blockLetters block) x) (ek : k ≡ labelNumber (blockLetters block) y) where
-          both-on : here ≡ ((eqb l k && eqb v w) && stepsPreferred block v (stepsOf (left - 1) (drop ni a)) (stepsOf (left - 1) (drop nj b)))
-          both-on = onward ∙ rw (steps-next a i left r e x v ni n h, steps-next b j left r′ e′ y w nj n′ h, el, ek)
+        module _ (h : i < a .count) (k : i < b .count) (t t′ : Step) (e : t ≡ getD (stepsTaken a) i noStep) (e′ : t′ ≡ getD (stepsTaken b) i noStep)
+            (l l′ : ℕ) (is : l ≡ labelNumber (blockLetters block) (t .label)) (is′ : l′ ≡ labelNumber (blockLetters block) (t′ .label)) where
+          abbrev behind : Bool
+          behind = stepsPreferred block (t .scope) (drop (i + 1) (stepsTaken a)) (drop (i + 1) (stepsTaken b))
 
-          pub preferred-label : (l ≡ k → ⊥) → here ≡ false
-          preferred-label z = both-on ∙ rw (ne-eqb l k z)
+          both-on : here ≡ ((eqb l l′ && eqb (t .scope) (t′ .scope)) && behind)
+          both-on = onward ∙ rw (taken-next a i h t e, taken-next b i k t′ e′, is, is′)
 
-          pub preferred-scope : l ≡ k → (v ≡ w → ⊥) → here ≡ false
-          preferred-scope z z′ = both-on ∙ rw (eq-eqb l k z, ne-eqb v w z′)
+          pub preferred-label : (l ≡ l′ → ⊥) → here ≡ false
+          preferred-label z = both-on ∙ rw (ne-eqb l l′ z)
 
-          pub preferred-on : l ≡ k → v ≡ w → here ≡ stepsPreferred block v (stepsOf (left - 1) (drop ni a)) (stepsOf (left - 1) (drop nj b))
-          preferred-on z z′ = both-on ∙ rw (eq-eqb l k z, eq-eqb v w z′)
+          pub preferred-scope : l ≡ l′ → (t .scope ≡ t′ .scope → ⊥) → here ≡ false
+          preferred-scope z z′ = both-on ∙ rw (eq-eqb l l′ z, ne-eqb (t .scope) (t′ .scope) z′)
 
-  pub preferred-full : (left : ℕ) (a b : List ℕ) (u : Bool) → left ≤ 0 → u ≡ tableOrder block (meaning Stop) (meaning Stop) → stepsPreferred block s (stepsOf left a) (stepsOf left b) ≡ u
-  unfolding stepsOf meaning
-  preferred-full zero a b u h m = ends-first [] [] ∙ or-false (tableOrder block stop stop) ∙ sym m
-  preferred-full (suc n) a b u h m = absurd (omega arith)
-
-pub steps-as : (block : List ℕ) (s : ℕ) (ts ts′ us us′ : List Step) → ts ≡ ts′ → us ≡ us′ → stepsPreferred block s ts us ≡ stepsPreferred block s ts′ us′
-steps-as block s ts ts′ us us′ e f = rw (e, f)
+          pub preferred-on : l ≡ l′ → t .scope ≡ t′ .scope → here ≡ behind
+          preferred-on z z′ = both-on ∙ rw (eq-eqb l l′ z, eq-eqb (t .scope) (t′ .scope) z′)

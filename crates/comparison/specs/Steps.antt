@@ -11,8 +11,6 @@ use Rattle.scope_graph.specs.Turns.{Turned}
 use Rattle.block.specs.Block.{blockHops}
 use Rattle.search.specs.Tables.{tableOrder}
 use Rattle.path_row.specs.declared.form.Step.{Step}
-use Rattle.path_row.specs.declared.form.StepRead.{StepRead}
-use Rattle.path_row.specs.declared.form.StepRead.the-variants.{Taken, NoStep}
 use Rattle.path_row.specs.Numbering.{labelNumber, hopOf}
 use Rattle.comparison.specs.Compare.{Comparison, whichOf}
 use Rattle.comparison.specs.Letters.{blockLetters}
@@ -26,10 +24,10 @@ labelPlace l = elim (ltb l 8) [ true ↦ suc l | false ↦ 9 ]
 abbrev pub stepAt : List ℕ → ℕ → Step → Turned
 stepAt block s t = hopOf (blockHops block) (blockLetters block) s t .step
 
--- how a path goes on from scope s by a step that was read
-unfoldable pub endHere : List ℕ → ℕ → StepRead → End Turned
-endHere block s (Taken x v width) = by (stepAt block s (record { label = x; scope = v }))
-endHere block s NoStep = stop
+-- how steps that leave scope s go on
+unfoldable pub endFirst : List ℕ → ℕ → List Step → End Turned
+endFirst block s [] = stop
+endFirst block s (t ∷ ts) = by (stepAt block s t)
 
 -- Is it the same step, by label and scope? Steps that leave one scope then have the same turn.
 abbrev pub sameStep : List ℕ → Step → Step → Bool

@@ -1,15 +1,17 @@
 // Two path rows compared by the order in a graph table that was read.
 use crate::agree::agreed;
-use crate::steps::row_preferred;
+use crate::steps::steps_preferred;
 use block::SIZE;
 use board::put_board;
 use path_row::form::RowRead;
 use path_row::form::read_row;
+use path_row::taken::Steps;
+use path_row::taken::steps_of;
 ghost use mathlib.Core.Path.{_≡_};
 ghost use Rattle.text_field.specs.Outcome.{done};
 ghost use Rattle.graph_file.specs.Decode.{WasRead};
 ghost use Rattle.block.specs.Layout.{IsBlock};
-ghost use Rattle.path_row.specs.Form.{stepsIn};
+ghost use Rattle.path_row.specs.Form.{stepsTaken};
 ghost use Rattle.comparison.specs.Compare.{asTold, meaning, compareRows};
 ghost use Rattle.comparison.specs.Steps.{stepsCompared};
 
@@ -27,15 +29,15 @@ pub enum Compared {
 
 // Which of two rows that start at the scope is more specific, by the board's order and turns? Their
 // first `equal` steps are.
-fn more_specific(block: &[u64], start: u64, a: &[u8], b: &[u8], equal: usize) -> Compared
+fn more_specific(block: &[u64], start: u64, a: Steps, b: Steps, equal: usize) -> Compared
     requires block { ⌜ IsBlock (now block) ⌝ }
     ensures answer { λ r. ⌜ meaning r
-        ≡ done (asTold (stepsCompared (now (block .entry)) start (stepsIn (now (a .entry))) (stepsIn (now (b .entry)))) equal) ⌝ }
+        ≡ done (asTold (stepsCompared (now (block .entry)) start (stepsTaken a) (stepsTaken b)) equal) ⌝ }
 {
-    if row_preferred(block, start, a, b) {
+    if steps_preferred(block, start, a, b) {
         return Compared::First(equal);
     }
-    if row_preferred(block, start, b, a) {
+    if steps_preferred(block, start, b, a) {
         return Compared::Second(equal);
     }
     Compared::Neither(equal)
@@ -59,11 +61,13 @@ pub fn compare_rows(cells: &[u64], a: &[u8], b: &[u8], n: usize, m: usize) -> Co
     if m < more {
         return Compared::Refused(9);
     }
-    let equal = agreed(a, b);
+    let first = steps_of(a);
+    let second = steps_of(b);
+    let equal = agreed(first, second);
     if start != other {
         return Compared::Neither(NO_STEPS);
     }
     let mut block = [0u64; SIZE];
     put_board(cells, &mut block);
-    more_specific(&block, start, a, b, equal)
+    more_specific(&block, start, first, second, equal)
 }

@@ -7,6 +7,7 @@ use mathlib.Core.List.{List, [], _∷_}
 use Prim.Native.Nat.{ℕ, zero, suc, _+_, _-_, _≤_, _<_}
 use native.Mathlib.Omega.{arith}
 use native.Mathlib.Numerals.{add-one}
+use lib.ListN.{getD, drop}
 use Rattle.scope_graph.specs.Language.{End, stop, by}
 use Rattle.scope_graph.specs.Order.{endOf}
 use Rattle.scope_graph.specs.Path.{HopOf}
@@ -18,9 +19,9 @@ use Rattle.search.specs.declared.Node.{Node}
 use Rattle.search.specs.Board.{without, cutHere}
 use Rattle.search.specs.Tables.{endNumber, plainEnd, tableOrder, tableBoard}
 use Rattle.search.proofs.RulesLists.{anyOf-no}
-use Rattle.path_row.specs.declared.form.StepRead.{StepRead}
-use Rattle.path_row.specs.declared.form.StepRead.the-variants.{Taken, NoStep}
-use Rattle.path_row.specs.Form.{stepMeaning, stepFrom}
+use Rattle.path_row.specs.declared.form.Step.{Step}
+use Rattle.path_row.specs.declared.taken.Steps.{Steps}
+use Rattle.path_row.specs.Form.{noStep, stepsTaken}
 use Rattle.path_row.specs.Numbering.{labelNumber}
 use Rattle.path_row.proofs.TurnLaws.{never-earlier}
 use Rattle.comparison.specs.Letters.{blockLetters}
@@ -28,7 +29,7 @@ use Rattle.judge.specs.declared.cut.Caught.{Caught}
 use Rattle.judge.specs.LastCut.{caughtAt, deeper, latest, laterOf, leadsBy, lastCut}
 use Rattle.judge.specs.Steps.{hopTo, stepHops, stateOn, Behind, endCut, rowLast}
 use Rattle.judge.proofs.HopLaws.{free-is}
-use Rattle.judge.proofs.WalkLaws.{hops-full, hops-end, hops-on, leads-no, leads-on}
+use Rattle.judge.proofs.WalkLaws.{hops-end, hops-on, leads-no, leads-on}
 
 module _ (block : List ℕ) (goal : ℕ) (n : Node) where
   -- what is learnt of an end tells
@@ -145,41 +146,35 @@ module _ (last : Option ℕ) (i : ℕ) (u : Bool) where
   on-later none = here-last
   on-later (some n) = ap some (let z : i + suc n ≡ (i + 1) + n = omega arith in z)
 
--- along the steps that are left of the row, where `last` is kept of those before place `place`
-module _ (block : List ℕ) (goal : ℕ) (n : Node) (row : List ℕ) (i left : ℕ) (last : Option ℕ) (place : ℕ) where
-  abbrev pub lasts : Node → ℕ → ℕ → Option ℕ
-  lasts m left′ i′ = rowLast block goal m (stepHops block row left′ i′ (m .scope))
+-- along the steps from step i on, where `last` is kept of the places before it
+module _ (block : List ℕ) (goal : ℕ) (n : Node) (t : Steps) (i : ℕ) (last : Option ℕ) where
+  abbrev pub lasts : Node → ℕ → Option ℕ
+  lasts m j = rowLast block goal m (stepHops block (drop j (stepsTaken t)) (m .scope))
 
-  module _ (u : Bool) (f : u ≡ endCut block goal n (plainEnd (endOf 0))) where
-    ends : stepHops block row left i (n .scope) ≡ [] → latest last u place ≡ laterOf last place (lasts n left i)
-    ends e = sym (ap (laterOf last place) (ap (rowLast block goal n) e ∙ stop-end block goal n ∙ ap (deeper none) (sym f)) ∙ here-last last place u)
+  pub lasts-end : (u : Bool) → u ≡ endCut block goal n (plainEnd (endOf 0)) → t .count ≤ i → latest last u i ≡ laterOf last i (lasts n i)
+  lasts-end u f h =
+      sym (ap (laterOf last i) (ap (rowLast block goal n) (hops-end block t i (n .scope) h) ∙ stop-end block goal n ∙ ap (deeper none) (sym f)) ∙ here-last last i u)
 
-    pub lasts-full : left ≤ 0 → latest last u place ≡ laterOf last place (lasts n left i)
-    lasts-full h = ends (hops-full block row left i (n .scope) h)
-
-    pub lasts-end : (a : StepRead) → stepMeaning a ≡ stepFrom i row → a ≡ NoStep → latest last u place ≡ laterOf last place (lasts n left i)
-    lasts-end a e k = ends (hops-end block row i left (n .scope) a e k)
-
-  module _ (a : StepRead) (e : stepMeaning a ≡ stepFrom i row) (y v next : ℕ) (f : a ≡ Taken y v next) (h : 1 ≤ left) (l : ℕ) (k : l ≡ labelNumber (blockLetters block) y)
-      (u : Bool) (c : u ≡ endCut block goal n (by (hopTo block (n .scope) l v .step))) (r : ℕ) (is : r ≡ stateOn block n (hopTo block (n .scope) l v)) where
+  module _ (h : i < t .count) (y : Step) (e : y ≡ getD (stepsTaken t) i noStep) (l : ℕ) (k : l ≡ labelNumber (blockLetters block) (y .label))
+      (u : Bool) (c : u ≡ endCut block goal n (by (hopTo block (n .scope) l (y .scope) .step))) (r : ℕ) (is : r ≡ stateOn block n (hopTo block (n .scope) l (y .scope))) where
     abbrev rest : List (HopOf Turned)
-    rest = stepHops block row (left - 1) next v
+    rest = stepHops block (drop (i + 1) (stepsTaken t)) (y .scope)
 
-    opens : lasts n left i ≡ rowLast block goal n (hopTo block (n .scope) l v ∷ rest)
-    opens = ap (rowLast block goal n) (hops-on block row i left (n .scope) a e y v next f h l k)
+    opens : lasts n i ≡ rowLast block goal n (hopTo block (n .scope) l (y .scope) ∷ rest)
+    opens = ap (rowLast block goal n) (hops-on block t i (n .scope) h y e l k)
 
-    no-more : rowLast block goal n (hopTo block (n .scope) l v ∷ rest) ≡ deeper none u → latest last u place ≡ laterOf last place (lasts n left i)
-    no-more z = sym (ap (laterOf last place) (opens ∙ z) ∙ here-last last place u)
+    no-more : rowLast block goal n (hopTo block (n .scope) l (y .scope) ∷ rest) ≡ deeper none u → latest last u i ≡ laterOf last i (lasts n i)
+    no-more z = sym (ap (laterOf last i) (opens ∙ z) ∙ here-last last i u)
 
-    pub lasts-no : 16 ≤ r → latest last u place ≡ laterOf last place (lasts n left i)
-    lasts-no g = no-more (hop-no block goal n l v rest u c r is g)
+    pub lasts-no : 16 ≤ r → latest last u i ≡ laterOf last i (lasts n i)
+    lasts-no g = no-more (hop-no block goal n l (y .scope) rest u c r is g)
 
-    pub lasts-last : r < 16 → n .left ≡ 0 → latest last u place ≡ laterOf last place (lasts n left i)
-    lasts-last g z = no-more (hop-last block goal n l v rest u c r is g z)
+    pub lasts-last : r < 16 → n .left ≡ 0 → latest last u i ≡ laterOf last i (lasts n i)
+    lasts-last g z = no-more (hop-last block goal n l (y .scope) rest u c r is g z)
 
-    pub lasts-on : r < 16 → (n .left ≡ 0 → ⊥) → (m : Node) → Behind n v r (n .left - 1) m → (o : Option ℕ) → o ≡ latest last u place → (left′ : ℕ) → left′ ≡ left - 1
-        → laterOf o (place + 1) (lasts m left′ next) ≡ laterOf last place (lasts n left i)
-    lasts-on g z m b o oe left′ le =
-        rw (oe, le)
-        (ap (λ (s : ℕ). laterOf (latest last u place) (place + 1) (rowLast block goal m (stepHops block row (left - 1) next s))) (b .scope)
-        ∙ sym (ap (laterOf last place) (opens ∙ hop-on block goal n l v rest u c r is g z m b) ∙ on-later last place u (rowLast block goal m rest)))
+    pub lasts-on : r < 16 → (n .left ≡ 0 → ⊥) → (m : Node) → Behind n (y .scope) r (n .left - 1) m → (o : Option ℕ) → o ≡ latest last u i
+        → laterOf o (i + 1) (lasts m (i + 1)) ≡ laterOf last i (lasts n i)
+    lasts-on g z m b o oe =
+        rw oe
+        (ap (λ (s : ℕ). laterOf (latest last u i) (i + 1) (rowLast block goal m (stepHops block (drop (i + 1) (stepsTaken t)) s))) (b .scope)
+        ∙ sym (ap (laterOf last i) (opens ∙ hop-on block goal n l (y .scope) rest u c r is g z m b) ∙ on-later last i u (rowLast block goal m rest)))

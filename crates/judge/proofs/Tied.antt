@@ -8,7 +8,7 @@ use Prim.Native.Nat.{ℕ, _<_}
 use native.Mathlib.Omega.{arith}
 use borrow.Author.Tests.{eq-eqb, ne-eqb, lt-ltb}
 use lib.Dec.{eqb, ltb}
-use lib.ListN.{getD, drop}
+use lib.ListN.{getD}
 use Rattle.scope_graph.specs.Language.{stop, Language, Laws}
 use Rattle.scope_graph.specs.Graph.{Declaration, Graph, InRange, Query}
 use Rattle.scope_graph.specs.Path.{HopOf, lastFrom}
@@ -39,7 +39,8 @@ use Rattle.board.specs.Made.{Made}
 use Rattle.board.specs.Queries.{queryOn, Asked}
 use Rattle.board.proofs.Queries.{accepted, sound, rows-are}
 use Rattle.board.proofs.Board.{scopes-are, board-is, order-is}
-use Rattle.path_row.specs.Form.{mostSteps, stepsOf, stepsIn}
+use Rattle.path_row.specs.declared.form.Step.{Step}
+use Rattle.path_row.specs.Form.{stepsIn}
 use Rattle.path_row.specs.Numbering.{hopsOf, pathOf}
 use Rattle.comparison.proofs.RowLaws.{steps-here}
 use Rattle.judge.specs.declared.standing.Judged.the-variants.{Visible, Shadowed, Unreached}
@@ -185,7 +186,7 @@ module _ (cells : List ℕ) (x : QueryRow) (mark from : ℕ) (row : List ℕ) (a
   module _ (same : from ≡ x .start) (block : List ℕ) (made : Made cells block) (decls : List ℕ)
       (decls-is : decls ≡ partOf declarationSection cells) (goal : ℕ)
       (goal-is : DeclaringIs decls (packed (x .name)) goal)
-      (n : Node) (begins : Begins block (x .start) n) (at : ℕ) (at-is : stepsOf mostSteps (drop at row) ≡ stepsIn row) where
+      (n : Node) (begins : Begins block (x .start) n) (ts : List Step) (ts-is : ts ≡ stepsIn row) where
     free-start : hasScope (n .free) ≡ freeAt (x .start)
     free-start = fun-ext (begins .free)
 
@@ -195,8 +196,8 @@ module _ (cells : List ℕ) (x : QueryRow) (mark from : ℕ) (row : List ℕ) (a
         (subst (λ (rows : List ℕ). DeclaringIs rows (q .name) goal) decls-is goal-is)
 
     -- the row's hops by the block's letters and edges are those by the file's
-    hops-here : stepHops block row mostSteps at (n .scope) ≡ hs
-    hops-here = rw (at-is, begins .scope, ← same) (sym (steps-here cells block (a .read) made from (stepsIn row)))
+    hops-here : stepHops block ts (n .scope) ≡ hs
+    hops-here = rw (ts-is, begins .scope, ← same) (sym (steps-here cells block (a .read) made from (stepsIn row)))
 
     marked-is : hasMark x mark (lastOf (x .start) hs) (rowsOf decls) ≡ ruledMark
     unfolding graphOf
@@ -205,7 +206,7 @@ module _ (cells : List ℕ) (x : QueryRow) (mark from : ℕ) (row : List ℕ) (a
         ∙ rw (decls-is, rows-are cells (a .read) declarationSection, last-is (rulesOf cells) from hs)
         (marked (rulesOf cells) x mark (lastFrom L from hs) (rowsIn declarationSection cells))
 
-    reached-is : rowReached block decls goal x mark n (stepHops block row mostSteps at (n .scope)) ≡ (ruledReached && ruledMark)
+    reached-is : rowReached block decls goal x mark n (stepHops block ts (n .scope)) ≡ (ruledReached && ruledMark)
     unfolding rowReached
     reached-is = rw (hops-here, board-here, free-start, begins .scope, begins .state, marked-is)
 
@@ -218,7 +219,7 @@ module _ (cells : List ℕ) (x : QueryRow) (mark from : ℕ) (row : List ℕ) (a
     both false true c = refl
     both false false c = refl
 
-    module _ (u : Bool) (e : u ≡ rowReached block decls goal x mark n (stepHops block row mostSteps at (n .scope))) where
+    module _ (u : Bool) (e : u ≡ rowReached block decls goal x mark n (stepHops block ts (n .scope))) where
       by-reached : judged L g q theRow ≡ byTests true u ruledCut
       by-reached =
           judged-same ∙ both ruledMark ruledReached ruledCut ∙ ap (λ (z : Bool). byTests true z ruledCut) (sym (e ∙ reached-is))
@@ -227,7 +228,7 @@ module _ (cells : List ℕ) (x : QueryRow) (mark from : ℕ) (row : List ℕ) (a
       unfolding meaning withSteps
       not-reached h = tells is-unreached (by-reached ∙ ap (λ (z : Bool). byTests true z ruledCut) h)
 
-      module _ (h : u ≡ true) (w : Caught) (f : caughtAt w ≡ rowLast block goal n (stepHops block row mostSteps at (n .scope))) where
+      module _ (h : u ≡ true) (w : Caught) (f : caughtAt w ≡ rowLast block goal n (stepHops block ts (n .scope))) where
         place-is : caughtAt w ≡ ruledLast
         unfolding rowLast
         place-is =

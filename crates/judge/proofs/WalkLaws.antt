@@ -4,8 +4,9 @@ use mathlib.Core.Path.{_≡_, refl, sym, ap, _∙_}
 use mathlib.Core.Bool.{Bool, true, false}
 use mathlib.Core.Logic.{_⊎_, inl, inr}
 use mathlib.Core.List.{List, [], _∷_}
-use Prim.Native.Nat.{ℕ, zero, suc, _-_, _≤_, _<_}
+use Prim.Native.Nat.{ℕ, zero, suc, _+_, _-_, _≤_, _<_}
 use native.Mathlib.Omega.{arith}
+use lib.ListN.{getD, drop}
 use Rattle.scope_graph.specs.Path.{HopOf}
 use Rattle.scope_graph.specs.Turns.{Turned}
 use Rattle.scope_graph.proofs.Lists.{Two}
@@ -17,32 +18,26 @@ use Rattle.search.specs.Board.{without, leadsTo, among, reachedBy}
 use Rattle.search.specs.Tables.{tableBoard}
 use Rattle.graph_table.specs.declared.rows.QueryRow.{QueryRow}
 use Rattle.graph_table.specs.Sections.{rowsOf}
-use Rattle.path_row.specs.declared.form.StepRead.{StepRead}
-use Rattle.path_row.specs.declared.form.StepRead.the-variants.{Taken, NoStep}
-use Rattle.path_row.specs.Form.{stepMeaning, stepFrom, stepsOf}
+use Rattle.path_row.specs.declared.form.Step.{Step}
+use Rattle.path_row.specs.declared.taken.Steps.{Steps}
+use Rattle.path_row.specs.Form.{noStep, stepsTaken}
 use Rattle.path_row.specs.Numbering.{labelNumber, hopOf, hopsOf}
-use Rattle.path_row.proofs.Steps.{steps-next, steps-none}
+use Rattle.path_row.proofs.TakenLaws.{taken-none, taken-next}
 use Rattle.comparison.specs.Letters.{blockLetters}
 use Rattle.judge.specs.LastCut.{leadsBy}
 use Rattle.judge.specs.Steps.{hasMark, hopTo, sameHop, hasHop, stepHops, stateOn, stateAlong, Behind, lastOf, rowReached}
 use Rattle.judge.proofs.HopLaws.{on-taken, on-free, free-is}
 
--- the hops of the steps that are left
-module _ (block row : List ℕ) where
-  pub hops-full : (left i s : ℕ) → left ≤ 0 → stepHops block row left i s ≡ []
-  unfolding stepsOf hopsOf
-  hops-full zero i s h = refl
-  hops-full (suc left) i s h = absurd (omega arith)
+-- the hops of the steps from step i on
+module _ (block : List ℕ) (t : Steps) (i s : ℕ) where
+  pub hops-end : t .count ≤ i → stepHops block (drop i (stepsTaken t)) s ≡ []
+  unfolding hopsOf
+  hops-end h = rw (taken-none t i h)
 
-  module _ (i left s : ℕ) (a : StepRead) (e : stepMeaning a ≡ stepFrom i row) where
-    pub hops-end : a ≡ NoStep → stepHops block row left i s ≡ []
-    unfolding hopsOf
-    hops-end f = rw (steps-none row i left a e f)
-
-    pub hops-on : (x v next : ℕ) → a ≡ Taken x v next → 1 ≤ left → (l : ℕ) → l ≡ labelNumber (blockLetters block) x
-        → stepHops block row left i s ≡ hopTo block s l v ∷ stepHops block row (left - 1) next v
-    unfolding hopsOf hopOf
-    hops-on x v next f h l k = rw (steps-next row i left a e x v next f h, k)
+  pub hops-on : i < t .count → (y : Step) → y ≡ getD (stepsTaken t) i noStep → (l : ℕ) → l ≡ labelNumber (blockLetters block) (y .label)
+      → stepHops block (drop i (stepsTaken t)) s ≡ hopTo block s l (y .scope) ∷ stepHops block (drop (i + 1) (stepsTaken t)) (y .scope)
+  unfolding hopsOf hopOf
+  hops-on h y e l k = rw (taken-next t i h y e, k)
 
 -- where a hop leads
 module _ (block : List ℕ) (goal : ℕ) (n : Node) (l t r : ℕ) (is : r ≡ stateOn block n (hopTo block (n .scope) l t)) {A : Type 0} (other : A) (enter : ℕ → ℕ → A) where
@@ -117,25 +112,24 @@ module _ (block decls : List ℕ) (goal : ℕ) (x : QueryRow) (mark : ℕ) (n : 
     unfolding rowReached reachedBy tableBoard lastOf
     end-yes h = rw (← e, h)
 
-  -- a row is reached along the steps that are left of it
-  module _ (row : List ℕ) (i left : ℕ) where
-    abbrev pub reaches : Node → ℕ → ℕ → Bool
-    reaches m left′ i′ = reached m (stepHops block row left′ i′ (m .scope))
+  -- a row is reached along its steps from step i on
+  module _ (t : Steps) (i : ℕ) where
+    abbrev pub reaches : Node → ℕ → Bool
+    reaches m j = reached m (stepHops block (drop j (stepsTaken t)) (m .scope))
 
-    pub reaches-full : (u : Bool) → u ≡ reached n [] → left ≤ 0 → u ≡ reaches n left i
-    reaches-full u e h = rw (hops-full block row left i (n .scope) h) e
+    pub reaches-end : (u : Bool) → u ≡ reached n [] → t .count ≤ i → u ≡ reaches n i
+    reaches-end u e h = rw (hops-end block t i (n .scope) h) e
 
-    module _ (a : StepRead) (e : stepMeaning a ≡ stepFrom i row) where
-      pub reaches-end : (u : Bool) → u ≡ reached n [] → a ≡ NoStep → u ≡ reaches n left i
-      reaches-end u f k = rw (hops-end block row i left (n .scope) a e k) f
+    module _ (h : i < t .count) (y : Step) (e : y ≡ getD (stepsTaken t) i noStep) (l : ℕ) (k : l ≡ labelNumber (blockLetters block) (y .label))
+        (r : ℕ) (is : r ≡ stateAlong block n (hopTo block (n .scope) l (y .scope))) where
+      abbrev behindIt : ℕ → List (HopOf Turned)
+      behindIt s = stepHops block (drop (i + 1) (stepsTaken t)) s
 
-      module _ (y v next : ℕ) (f : a ≡ Taken y v next) (h : 1 ≤ left) (l : ℕ) (k : l ≡ labelNumber (blockLetters block) y)
-          (r : ℕ) (is : r ≡ stateAlong block n (hopTo block (n .scope) l v)) where
-        pub reaches-no : 16 ≤ r → reaches n left i ≡ false
-        reaches-no g = rw (hops-on block row i left (n .scope) a e y v next f h l k) (reach-no l v r is (stepHops block row (left - 1) next v) g)
+      pub reaches-no : 16 ≤ r → reaches n i ≡ false
+      reaches-no g = rw (hops-on block t i (n .scope) h y e l k) (reach-no l (y .scope) r is (behindIt (y .scope)) g)
 
-        pub reaches-on : r < 16 → (more : ℕ) (m : Node) → Behind n v r more m → reaches n left i ≡ reaches m (left - 1) next
-        reaches-on g more m b =
-            ap (reached n) (hops-on block row i left (n .scope) a e y v next f h l k)
-            ∙ reach-on l v r is (stepHops block row (left - 1) next v) g more m b
-            ∙ ap (λ (s : ℕ). reached m (stepHops block row (left - 1) next s)) (sym (b .scope))
+      pub reaches-on : r < 16 → (more : ℕ) (m : Node) → Behind n (y .scope) r more m → reaches n i ≡ reaches m (i + 1)
+      reaches-on g more m b =
+          ap (reached n) (hops-on block t i (n .scope) h y e l k)
+          ∙ reach-on l (y .scope) r is (behindIt (y .scope)) g more m b
+          ∙ ap (λ (s : ℕ). reached m (behindIt s)) (sym (b .scope))

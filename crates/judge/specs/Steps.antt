@@ -7,7 +7,7 @@ use mathlib.Core.Bool.{Bool, true, false, not, _&&_}
 use mathlib.Core.Option.{Option}
 use mathlib.Core.List.{List, [], _∷_, map}
 use lib.Dec.{eqb, leb, ltb}
-use lib.ListN.{length, drop}
+use lib.ListN.{length}
 use Rattle.scope_graph.specs.Language.{End, stop}
 use Rattle.scope_graph.specs.Path.{HopOf}
 use Rattle.scope_graph.specs.Turns.{Turned, sameTurned, turnBy}
@@ -27,7 +27,8 @@ use Rattle.graph_table.specs.declared.rows.QueryRow.{QueryRow}
 use Rattle.graph_table.specs.Sections.{rowsOf}
 use Rattle.graph_table.specs.Values.{packed, rowDeclared, declares}
 use Rattle.board.specs.Queries.{queryOn}
-use Rattle.path_row.specs.Form.{stepsOf, stepsIn}
+use Rattle.path_row.specs.declared.form.Step.{Step}
+use Rattle.path_row.specs.Form.{stepsIn}
 use Rattle.path_row.specs.Numbering.{hopsOf}
 use Rattle.comparison.specs.Letters.{blockLetters}
 use Rattle.judge.specs.Judge.{ruled}
@@ -64,10 +65,9 @@ sameHop h k = sameTurned (k .step) (h .step) && eqb (k .to) (h .to)
 unfoldable pub hasHop : HopOf Turned → List (HopOf Turned) → Bool
 hasHop h hops = anyOf (sameHop h) hops
 
--- at most `left` steps from a place of a row on, as hops that leave scope s: by their letters'
--- numbers, with their turns
-abbrev pub stepHops : List ℕ → List ℕ → ℕ → ℕ → ℕ → List (HopOf Turned)
-stepHops block row left at s = hopsOf (blockHops block) (blockLetters block) s (stepsOf left (drop at row))
+-- steps as hops that leave scope s: by their letters' numbers, with their turns
+abbrev pub stepHops : List ℕ → List Step → ℕ → List (HopOf Turned)
+stepHops block steps s = hopsOf (blockHops block) (blockLetters block) s steps
 
 -- the state after a hop from a node to a free scope, or 16; and the same for a hop along an edge
 -- that leaves the node's scope

@@ -8,9 +8,8 @@ use block::edge_at;
 use block::edge_to;
 use block::edges_end;
 use comparison::label_number;
-use path_row::form::MOST_STEPS;
-use path_row::form::StepRead;
-use path_row::form::next_step;
+use path_row::taken::Steps;
+use path_row::taken::step_of;
 use search::NOTHING_KNOWN;
 use search::Node;
 use search::edge_cut;
@@ -19,7 +18,7 @@ ghost use mathlib.Core.Path.{_≡_};
 ghost use Rattle.scope_graph.specs.Language.{by};
 ghost use Rattle.scope_graph.specs.Order.{endOf};
 ghost use Rattle.search.specs.Tables.{plainEnd};
-ghost use Rattle.path_row.specs.Form.{mostSteps};
+ghost use Rattle.path_row.specs.Form.{stepsTaken};
 ghost use Rattle.judge.specs.LastCut.{caughtAt, latest};
 ghost use Rattle.judge.specs.Steps.{hopTo, Ready, stepHops, endCut, rowLast};
 
@@ -83,29 +82,27 @@ fn noted(last: Caught, cut: bool, place: usize) -> Caught
     kept(last, Caught { found: cut, place })
 }
 
-// The last place where the end is cut that the steps from place `at` of the row on go by, or `$`
-// where they end. A more specific path leaves this one where such an end is, so the last one tells
-// how many steps they share. The table of places worth entering serves all the way: a closed one
-// stays closed with fewer free scopes.
-pub fn last_cut(block: &[u64], goal: u64, live: &[u64], from: Node, row: &[u8], at: usize) -> Caught
+// The last place where the end is cut that the steps go by, or `$` where they end. A more specific
+// path leaves this one where such an end is, so the last one tells how many steps they share. The
+// table of places worth entering serves all the way: a closed one stays closed with fewer free
+// scopes.
+pub fn last_cut(block: &[u64], goal: u64, live: &[u64], from: Node, steps: Steps) -> Caught
     requires ready { ⌜ Ready (now block) goal (now live) from ⌝ }
     ensures answer { λ r. ⌜ caughtAt r
-        ≡ rowLast (now (block .entry)) goal from (stepHops (now (block .entry)) (now (row .entry)) mostSteps at (from .scope)) ⌝ }
+        ≡ rowLast (now (block .entry)) goal from (stepHops (now (block .entry)) (stepsTaken steps) (from .scope)) ⌝ }
 {
     let mut place: usize = 0;
-    let mut i = at;
     let mut n = from;
     let mut last = Caught {
         found: false,
         place: 0,
     };
-    while place < MOST_STEPS {
-        let StepRead::Taken(x, v, next) = next_step(row, i) else {
-            return noted(last, end_cut(block, goal, live, n, STOP), place);
-        };
-        let to = v as u64;
-        let label = label_number(block, x);
+    while place < steps.count {
+        let step = step_of(steps, place);
+        let to = step.scope as u64;
+        let label = label_number(block, step.label);
         last = noted(last, step_cut(block, goal, live, n, label, to), place);
+        place += 1;
         let state = state_on(block, n, label, to);
         if NO_STATE <= state {
             return last;
@@ -114,8 +111,6 @@ pub fn last_cut(block: &[u64], goal: u64, live: &[u64], from: Node, row: &[u8], 
             return last;
         }
         n = behind(n, to, state, n.left - 1);
-        i = next;
-        place += 1;
     }
     noted(last, end_cut(block, goal, live, n, STOP), place)
 }

@@ -8,9 +8,8 @@ use graph_table::QueryRow;
 use graph_table::ROW;
 use graph_table::declaration_row;
 use graph_table::declares;
-use path_row::form::MOST_STEPS;
-use path_row::form::StepRead;
-use path_row::form::next_step;
+use path_row::taken::Steps;
+use path_row::taken::step_of;
 use search::Node;
 use search::is_goal;
 ghost use mathlib.Core.Path.{_≡_};
@@ -18,7 +17,7 @@ ghost use mathlib.Core.List.{[]};
 ghost use Rattle.block.specs.Layout.{IsBlock};
 ghost use Rattle.search.specs.Conditions.{Inside};
 ghost use Rattle.graph_table.specs.Sections.{rowsOf};
-ghost use Rattle.path_row.specs.Form.{mostSteps};
+ghost use Rattle.path_row.specs.Form.{stepsTaken};
 ghost use Rattle.judge.specs.Steps.{isMarked, hasMark, stepHops, rowReached};
 
 // Is the declaration that of what is sought, at the scope, with the mark?
@@ -57,8 +56,8 @@ fn ends_here(block: &[u64], decls: &[u64], goal: u64, sought: QueryRow, mark: u6
     has_mark(decls, sought, mark, n.scope)
 }
 
-// Do the steps from place `at` of the row on lead from the node, along edges and by free scopes, to
-// what is sought, declared with the mark?
+// Do the steps lead from the node, along edges and by free scopes, to what is sought, declared with
+// the mark?
 pub fn is_reached(
     block: &[u64],
     decls: &[u64],
@@ -66,30 +65,25 @@ pub fn is_reached(
     sought: QueryRow,
     mark: u64,
     from: Node,
-    row: &[u8],
-    at: usize,
+    steps: Steps,
 ) -> bool
     requires block { ⌜ IsBlock (now block) ⌝ }
     requires inside { ⌜ Inside from ⌝ }
     ensures answer { λ r. ⌜ r
         ≡ rowReached (now (block .entry)) (now (decls .entry)) goal sought mark from
-        (stepHops (now (block .entry)) (now (row .entry)) mostSteps at (from .scope)) ⌝ }
+        (stepHops (now (block .entry)) (stepsTaken steps) (from .scope)) ⌝ }
 {
-    let mut left: usize = MOST_STEPS;
-    let mut i = at;
+    let mut i: usize = 0;
     let mut n = from;
-    while left > 0 {
-        let StepRead::Taken(x, v, next) = next_step(row, i) else {
-            return ends_here(block, decls, goal, sought, mark, n);
-        };
-        let to = v as u64;
-        let state = state_along(block, n, label_number(block, x), to);
+    while i < steps.count {
+        let step = step_of(steps, i);
+        let to = step.scope as u64;
+        let state = state_along(block, n, label_number(block, step.label), to);
         if NO_STATE <= state {
             return false;
         }
         n = behind(n, to, state, n.left);
-        i = next;
-        left -= 1;
+        i += 1;
     }
     ends_here(block, decls, goal, sought, mark, n)
 }

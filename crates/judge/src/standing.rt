@@ -7,7 +7,7 @@ use board::declaring;
 use board::part;
 use graph_table::DECLARATIONS;
 use graph_table::QueryRow;
-use path_row::form::first_step;
+use path_row::taken::steps_of;
 use search::ALL;
 use search::Node;
 use search::goal_table;
@@ -66,12 +66,12 @@ pub fn standing(
     let decls = part(table, block, DECLARATIONS);
     let goal = declaring(decls, sought.name);
     let n = begin(block, start);
-    let at = first_step(row);
-    if !is_reached(block, decls, goal, sought, mark, n, row, at) {
+    let steps = steps_of(row);
+    if !is_reached(block, decls, goal, sought, mark, n, steps) {
         return Judged::Unreached;
     }
     let live = goal_table(block, goal, n.free, start);
-    let last = last_cut(block, goal, &live, n, row, at);
+    let last = last_cut(block, goal, &live, n, steps);
     if last.found {
         return Judged::Shadowed(last.place);
     }

@@ -3,6 +3,7 @@ pub mod Steps
 pub mod RowReads
 pub mod LentLaws
 pub mod WriterLaws
+pub mod TakenLaws
 pub mod NumberingLaws
 pub mod TurnLaws
 pub mod Promises

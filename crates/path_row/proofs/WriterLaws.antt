@@ -101,7 +101,7 @@ module _ (ls ss : List ℕ) (count : ℕ) where
     pub are-on : t ≡ true → areSteps (stepsFrom ls ss count i) ≡ areSteps (stepsFrom ls ss count (i + 1))
     are-on f = are-next ∙ rw f
 
-made-length : (count : ℕ) (ls ss : List ℕ) → length (stepsMade count ls ss) ≡ count
+pub made-length : (count : ℕ) (ls ss : List ℕ) → length (stepsMade count ls ss) ≡ count
 unfolding stepsMade
 made-length zero ls ss = refl
 made-length (suc count) ls ss = ap suc (made-length count (drop 1 ls) (drop 1 ss))

@@ -20,6 +20,7 @@ use Rattle.path_row.specs.declared.form.RowRead.{RowRead}
 use Rattle.path_row.specs.declared.form.RowRead.the-variants.{Row, NoRow}
 use Rattle.path_row.specs.declared.form.StepRead.{StepRead}
 use Rattle.path_row.specs.declared.form.StepRead.the-variants.{Taken, NoStep}
+use Rattle.path_row.specs.declared.taken.Steps.{Steps}
 
 -- A path row taken apart. A step is a label's letter and the scope that it comes to.
 pub record PathRow : Type 0 where
@@ -195,6 +196,10 @@ rowText r = numberText (r .mark) ++ (32 ∷ (numberText (r .start) ++ stepsText 
 unfoldable pub stepsMade : ℕ → List ℕ → List ℕ → List Step
 stepsMade zero letters scopes = []
 stepsMade (suc count) letters scopes = record { label = getD letters 0 0; scope = getD scopes 0 0 } ∷ stepsMade count (drop 1 letters) (drop 1 scopes)
+
+-- the steps that were taken from a row, before they are judged, compared or lent (01, "Paths")
+unfoldable pub stepsTaken : Steps → List Step
+stepsTaken t = stepsMade (t .count) (t .letters) (t .scopes)
 
 -- with a mark and a start
 unfoldable pub rowMade : ℕ → ℕ → ℕ → List ℕ → List ℕ → PathRow

@@ -1,4 +1,5 @@
 // Path rows: taken apart, put together.
 pub mod form;
 pub mod lent;
+pub mod taken;
 pub mod writer;

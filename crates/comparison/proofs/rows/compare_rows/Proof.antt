@@ -37,11 +37,17 @@ returns-3 c = first-over (now (c .before .before .before .before .before .before
 returns-4 : tie.Need-returns-4
 returns-4 c = second-over (now (c .before .before .before .before .before .before .before .before .before .before .before .before .before .args .cells)) (now (c .before .before .before .before .before .before .before .before .before .before .before .before .before .args .a)) (now (c .before .before .before .before .before .before .before .before .before .before .before .before .before .args .b)) (c .before .before .before .before .before .before .before .before .before .before .before .before .before .args .n) (c .before .before .before .before .before .before .before .before .before .before .before .before .before .args .m) (c .before .before .before .before .before .before .before .start .given .0 .0) (c .before .before .before .before .before .before .before .start .given .0 .1 .0) (c .before .before .before .before .before .before .before .start .given .0 .1 .1 .0) (row-is (now (c .before .before .before .before .before .before .before .before .before .before .before .before .before .args .a)) (c .before .before .before .before .before .before .before .before .before .read-row .result) (c .before .before .before .before .before .before .before .before .before .read-row .ensures) (c .before .before .before .before .before .before .before .start .given .0 .0) (c .before .before .before .before .before .before .before .start .given .0 .1 .0) (c .before .before .before .before .before .before .before .start .given .0 .1 .1 .0) (c .before .before .before .before .before .before .before .start .given .1)) (c .before .before .before .other .given .0 .0) (c .before .before .before .other .given .0 .1 .0) (c .before .before .before .other .given .0 .1 .1 .0) (row-is (now (c .before .before .before .before .before .before .before .before .before .before .before .before .before .args .b)) (c .before .before .before .before .before .read-row2 .result) (c .before .before .before .before .before .read-row2 .ensures) (c .before .before .before .other .given .0 .0) (c .before .before .before .other .given .0 .1 .0) (c .before .before .before .other .given .0 .1 .1 .0) (c .before .before .before .other .given .1)) (c .before .if1 .left) (c .if2 .taken)
 
+steps-of-requires : tie.Need-steps-of-requires
+steps-of-requires c κs = search needs
+
+steps-of-requires-2 : tie.Need-steps-of-requires-2
+steps-of-requires-2 c κs = search needs
+
 agreed-requires : tie.Need-agreed-requires
 agreed-requires c κs = search needs
 
 returns-5 : tie.Need-returns-5
-returns-5 c = starts-apart (now (c .before .before .before .before .before .before .before .before .before .before .before .before .before .before .before .args .cells)) (now (c .before .before .before .before .before .before .before .before .before .before .before .before .before .before .before .args .a)) (now (c .before .before .before .before .before .before .before .before .before .before .before .before .before .before .before .args .b)) (c .before .before .before .before .before .before .before .before .before .before .before .before .before .before .before .args .n) (c .before .before .before .before .before .before .before .before .before .before .before .before .before .before .before .args .m) (c .before .before .before .before .before .before .before .before .before .start .given .0 .0) (c .before .before .before .before .before .before .before .before .before .start .given .0 .1 .0) (c .before .before .before .before .before .before .before .before .before .start .given .0 .1 .1 .0) (row-is (now (c .before .before .before .before .before .before .before .before .before .before .before .before .before .before .before .args .a)) (c .before .before .before .before .before .before .before .before .before .before .before .read-row .result) (c .before .before .before .before .before .before .before .before .before .before .before .read-row .ensures) (c .before .before .before .before .before .before .before .before .before .start .given .0 .0) (c .before .before .before .before .before .before .before .before .before .start .given .0 .1 .0) (c .before .before .before .before .before .before .before .before .before .start .given .0 .1 .1 .0) (c .before .before .before .before .before .before .before .before .before .start .given .1)) (c .before .before .before .before .before .other .given .0 .0) (c .before .before .before .before .before .other .given .0 .1 .0) (c .before .before .before .before .before .other .given .0 .1 .1 .0) (row-is (now (c .before .before .before .before .before .before .before .before .before .before .before .before .before .before .before .args .b)) (c .before .before .before .before .before .before .before .read-row2 .result) (c .before .before .before .before .before .before .before .read-row2 .ensures) (c .before .before .before .before .before .other .given .0 .0) (c .before .before .before .before .before .other .given .0 .1 .0) (c .before .before .before .before .before .other .given .0 .1 .1 .0) (c .before .before .before .before .before .other .given .1)) (c .before .before .before .if1 .left) (c .before .before .if2 .left) (c .if3 .taken)
+returns-5 c = starts-apart (now (c .before .before .before .before .before .before .before .before .before .before .before .before .before .before .before .before .before .args .cells)) (now (c .before .before .before .before .before .before .before .before .before .before .before .before .before .before .before .before .before .args .a)) (now (c .before .before .before .before .before .before .before .before .before .before .before .before .before .before .before .before .before .args .b)) (c .before .before .before .before .before .before .before .before .before .before .before .before .before .before .before .before .before .args .n) (c .before .before .before .before .before .before .before .before .before .before .before .before .before .before .before .before .before .args .m) (c .before .before .before .before .before .before .before .before .before .before .before .start .given .0 .0) (c .before .before .before .before .before .before .before .before .before .before .before .start .given .0 .1 .0) (c .before .before .before .before .before .before .before .before .before .before .before .start .given .0 .1 .1 .0) (row-is (now (c .before .before .before .before .before .before .before .before .before .before .before .before .before .before .before .before .before .args .a)) (c .before .before .before .before .before .before .before .before .before .before .before .before .before .read-row .result) (c .before .before .before .before .before .before .before .before .before .before .before .before .before .read-row .ensures) (c .before .before .before .before .before .before .before .before .before .before .before .start .given .0 .0) (c .before .before .before .before .before .before .before .before .before .before .before .start .given .0 .1 .0) (c .before .before .before .before .before .before .before .before .before .before .before .start .given .0 .1 .1 .0) (c .before .before .before .before .before .before .before .before .before .before .before .start .given .1)) (c .before .before .before .before .before .before .before .other .given .0 .0) (c .before .before .before .before .before .before .before .other .given .0 .1 .0) (c .before .before .before .before .before .before .before .other .given .0 .1 .1 .0) (row-is (now (c .before .before .before .before .before .before .before .before .before .before .before .before .before .before .before .before .before .args .b)) (c .before .before .before .before .before .before .before .before .before .read-row2 .result) (c .before .before .before .before .before .before .before .before .before .read-row2 .ensures) (c .before .before .before .before .before .before .before .other .given .0 .0) (c .before .before .before .before .before .before .before .other .given .0 .1 .0) (c .before .before .before .before .before .before .before .other .given .0 .1 .1 .0) (c .before .before .before .before .before .before .before .other .given .1)) (c .before .before .before .before .before .if1 .left) (c .before .before .before .before .if2 .left) (c .if3 .taken)
 
 slice-aggregate-put-board : tie.Need-slice-aggregate-put-board
 slice-aggregate-put-board c = search needs
@@ -56,7 +62,7 @@ more-specific-requires : tie.Need-more-specific-requires
 more-specific-requires c κs = c .before .before .put-board .ensures .size
 
 returns-6 : tie.Need-returns-6
-returns-6 c = starts-same (now (c .before .before .before .before .before .before .before .before .before .before .before .before .before .before .before .before .before .before .before .before .args .cells)) (now (c .before .before .before .before .before .before .before .before .before .before .before .before .before .before .before .before .before .before .before .before .args .a)) (now (c .before .before .before .before .before .before .before .before .before .before .before .before .before .before .before .before .before .before .before .before .args .b)) (c .before .before .before .before .before .before .before .before .before .before .before .before .before .before .before .before .before .before .before .before .args .n) (c .before .before .before .before .before .before .before .before .before .before .before .before .before .before .before .before .before .before .before .before .args .m) (c .before .before .before .before .before .before .before .before .before .before .before .before .before .before .start .given .0 .0) (c .before .before .before .before .before .before .before .before .before .before .before .before .before .before .start .given .0 .1 .0) (c .before .before .before .before .before .before .before .before .before .before .before .before .before .before .start .given .0 .1 .1 .0) (row-is (now (c .before .before .before .before .before .before .before .before .before .before .before .before .before .before .before .before .before .before .before .before .args .a)) (c .before .before .before .before .before .before .before .before .before .before .before .before .before .before .before .before .read-row .result) (c .before .before .before .before .before .before .before .before .before .before .before .before .before .before .before .before .read-row .ensures) (c .before .before .before .before .before .before .before .before .before .before .before .before .before .before .start .given .0 .0) (c .before .before .before .before .before .before .before .before .before .before .before .before .before .before .start .given .0 .1 .0) (c .before .before .before .before .before .before .before .before .before .before .before .before .before .before .start .given .0 .1 .1 .0) (c .before .before .before .before .before .before .before .before .before .before .before .before .before .before .start .given .1)) (c .before .before .before .before .before .before .before .before .before .before .other .given .0 .0) (c .before .before .before .before .before .before .before .before .before .before .other .given .0 .1 .0) (c .before .before .before .before .before .before .before .before .before .before .other .given .0 .1 .1 .0) (row-is (now (c .before .before .before .before .before .before .before .before .before .before .before .before .before .before .before .before .before .before .before .before .args .b)) (c .before .before .before .before .before .before .before .before .before .before .before .before .read-row2 .result) (c .before .before .before .before .before .before .before .before .before .before .before .before .read-row2 .ensures) (c .before .before .before .before .before .before .before .before .before .before .other .given .0 .0) (c .before .before .before .before .before .before .before .before .before .before .other .given .0 .1 .0) (c .before .before .before .before .before .before .before .before .before .before .other .given .0 .1 .1 .0) (c .before .before .before .before .before .before .before .before .before .before .other .given .1)) (c .before .before .before .before .before .before .before .before .if1 .left) (c .before .before .before .before .before .before .before .if2 .left) (c .before .before .before .before .before .before .before .before .before .before .before .before .before .before .before .before .before .before .before .before .pre) (c .before .before .before .before .before .if3 .left) _ (c .before .before .before .put-board .ensures) (c .before .before .before .before .before .before .agreed .result) (c .before .before .before .before .before .before .agreed .ensures) (c .more-specific .result) (c .more-specific .ensures)
+returns-6 c = starts-same (now (c .before .before .before .before .before .before .before .before .before .before .before .before .before .before .before .before .before .before .before .before .before .before .args .cells)) (now (c .before .before .before .before .before .before .before .before .before .before .before .before .before .before .before .before .before .before .before .before .before .before .args .a)) (now (c .before .before .before .before .before .before .before .before .before .before .before .before .before .before .before .before .before .before .before .before .before .before .args .b)) (c .before .before .before .before .before .before .before .before .before .before .before .before .before .before .before .before .before .before .before .before .before .before .args .n) (c .before .before .before .before .before .before .before .before .before .before .before .before .before .before .before .before .before .before .before .before .before .before .args .m) (c .before .before .before .before .before .before .before .before .before .before .before .before .before .before .before .before .start .given .0 .0) (c .before .before .before .before .before .before .before .before .before .before .before .before .before .before .before .before .start .given .0 .1 .0) (c .before .before .before .before .before .before .before .before .before .before .before .before .before .before .before .before .start .given .0 .1 .1 .0) (row-is (now (c .before .before .before .before .before .before .before .before .before .before .before .before .before .before .before .before .before .before .before .before .before .before .args .a)) (c .before .before .before .before .before .before .before .before .before .before .before .before .before .before .before .before .before .before .read-row .result) (c .before .before .before .before .before .before .before .before .before .before .before .before .before .before .before .before .before .before .read-row .ensures) (c .before .before .before .before .before .before .before .before .before .before .before .before .before .before .before .before .start .given .0 .0) (c .before .before .before .before .before .before .before .before .before .before .before .before .before .before .before .before .start .given .0 .1 .0) (c .before .before .before .before .before .before .before .before .before .before .before .before .before .before .before .before .start .given .0 .1 .1 .0) (c .before .before .before .before .before .before .before .before .before .before .before .before .before .before .before .before .start .given .1)) (c .before .before .before .before .before .before .before .before .before .before .before .before .other .given .0 .0) (c .before .before .before .before .before .before .before .before .before .before .before .before .other .given .0 .1 .0) (c .before .before .before .before .before .before .before .before .before .before .before .before .other .given .0 .1 .1 .0) (row-is (now (c .before .before .before .before .before .before .before .before .before .before .before .before .before .before .before .before .before .before .before .before .before .before .args .b)) (c .before .before .before .before .before .before .before .before .before .before .before .before .before .before .read-row2 .result) (c .before .before .before .before .before .before .before .before .before .before .before .before .before .before .read-row2 .ensures) (c .before .before .before .before .before .before .before .before .before .before .before .before .other .given .0 .0) (c .before .before .before .before .before .before .before .before .before .before .before .before .other .given .0 .1 .0) (c .before .before .before .before .before .before .before .before .before .before .before .before .other .given .0 .1 .1 .0) (c .before .before .before .before .before .before .before .before .before .before .before .before .other .given .1)) (c .before .before .before .before .before .before .before .before .before .before .if1 .left) (c .before .before .before .before .before .before .before .before .before .if2 .left) (c .before .before .before .before .before .before .before .before .before .before .before .before .before .before .before .before .before .before .before .before .before .before .pre) (c .before .before .before .before .before .if3 .left) _ (c .before .before .before .put-board .ensures) _ _ (c .before .before .before .before .before .before .before .before .steps-of .ensures) (c .before .before .before .before .before .before .before .steps-of2 .ensures) (c .before .before .before .before .before .before .agreed .result) (c .before .before .before .before .before .before .agreed .ensures) (c .more-specific .result) (c .more-specific .ensures)
 
 pub compare-rows-spec : {M : Type 1} → statement M
 compare-rows-spec =
@@ -72,6 +78,8 @@ compare-rows-spec =
     returns-2
     returns-3
     returns-4
+    steps-of-requires
+    steps-of-requires-2
     agreed-requires
     returns-5
     slice-aggregate-put-board

@@ -2,7 +2,6 @@
 -- Assumes nothing.
 use native.Mathlib.Omega.{arith}
 use borrow.Author.Tests.{not-true, not-false}
-use Rattle.path_row.proofs.RowReads.{steps-first}
 use Rattle.judge.proofs.HopLaws.{begins-inside}
 use Rattle.judge.proofs.Tied.{start-small, start-below, starts-apart, not-reached, is-cut, not-cut}
 use borrow.Author.Needs.{needs}
@@ -21,14 +20,14 @@ declaring-requires c κs = search needs
 begin-requires : tie.Need-begin-requires
 begin-requires c κs = let a = c .before .before .before .before .before .before .args in let p = c .before .before .before .before .before .before .pre in (p .1 .size, (start-small (a .table .now) (a .sought) (a .mark) (a .from) (a .row .now) (p .0), start-below (a .table .now) (a .sought) (a .mark) (a .from) (a .row .now) (p .0) (a .block .now) (p .1)))
 
-first-step-requires : tie.Need-first-step-requires
-first-step-requires c κs = search needs
+steps-of-requires : tie.Need-steps-of-requires
+steps-of-requires c κs = search needs
 
 is-reached-requires : tie.Need-is-reached-requires
 is-reached-requires c κs = let a = c .before .before .before .before .before .before .before .before .args in let p = c .before .before .before .before .before .before .before .before .pre in (p .1 .size, begins-inside (a .block .now) (a .sought .start) _ (c .before .begin .ensures) (start-small (a .table .now) (a .sought) (a .mark) (a .from) (a .row .now) (p .0)))
 
 returns-2 : tie.Need-returns-2
-returns-2 c = let a = c .before .before .before .before .before .before .before .before .before .before .args in let p = c .before .before .before .before .before .before .before .before .before .before .pre in not-reached (a .table .now) (a .sought) (a .mark) (a .from) (a .row .now) (p .0) (c .before .before .before .before .before .before .if1 .left) (a .block .now) (p .1) _ (c .before .before .before .before .before .part .ensures) _ (c .before .before .before .before .declaring .ensures) _ (c .before .before .before .begin .ensures) (c .before .before .first-step .result) (steps-first _ _ (c .before .before .first-step .ensures)) _ (c .before .is-reached .ensures) (not-true _ (c .if2 .taken))
+returns-2 c = let a = c .before .before .before .before .before .before .before .before .before .before .args in let p = c .before .before .before .before .before .before .before .before .before .before .pre in not-reached (a .table .now) (a .sought) (a .mark) (a .from) (a .row .now) (p .0) (c .before .before .before .before .before .before .if1 .left) (a .block .now) (p .1) _ (c .before .before .before .before .before .part .ensures) _ (c .before .before .before .before .declaring .ensures) _ (c .before .before .before .begin .ensures) _ (c .before .before .steps-of .ensures) _ (c .before .is-reached .ensures) (not-true _ (c .if2 .taken))
 
 goal-table-requires : tie.Need-goal-table-requires
 goal-table-requires c κs = let a = c .before .before .before .before .before .before .before .before .before .before .args in let p = c .before .before .before .before .before .before .before .before .before .before .pre in (p .1 .size, (p .1 .bounds, start-small (a .table .now) (a .sought) (a .mark) (a .from) (a .row .now) (p .0)))
@@ -40,10 +39,10 @@ last-cut-requires : tie.Need-last-cut-requires
 last-cut-requires c κs = let a = c .before .before .before .before .before .before .before .before .before .before .before .before .args in let p = c .before .before .before .before .before .before .before .before .before .before .before .before .pre in let n = slice-aggregate-last-cut c in record { size = p .1 .size; bounds = p .1 .bounds; table = omega arith; inside = begins-inside (a .block .now) (a .sought .start) _ (c .before .before .before .before .before .begin .ensures) (start-small (a .table .now) (a .sought) (a .mark) (a .from) (a .row .now) (p .0)); closed = c .before .goal-table .ensures }
 
 returns-3 : tie.Need-returns-3
-returns-3 c = let a = c .before .before .before .before .before .before .before .before .before .before .before .before .before .before .args in let p = c .before .before .before .before .before .before .before .before .before .before .before .before .before .before .pre in is-cut (a .table .now) (a .sought) (a .mark) (a .from) (a .row .now) (p .0) (c .before .before .before .before .before .before .before .before .before .before .if1 .left) (a .block .now) (p .1) _ (c .before .before .before .before .before .before .before .before .before .part .ensures) _ (c .before .before .before .before .before .before .before .before .declaring .ensures) _ (c .before .before .before .before .before .before .before .begin .ensures) (c .before .before .before .before .before .before .first-step .result) (steps-first _ _ (c .before .before .before .before .before .before .first-step .ensures)) _ (c .before .before .before .before .before .is-reached .ensures) (not-false _ (c .before .before .before .before .if2 .left)) _ (c .before .last-cut .ensures) (c .if3 .taken)
+returns-3 c = let a = c .before .before .before .before .before .before .before .before .before .before .before .before .before .before .args in let p = c .before .before .before .before .before .before .before .before .before .before .before .before .before .before .pre in is-cut (a .table .now) (a .sought) (a .mark) (a .from) (a .row .now) (p .0) (c .before .before .before .before .before .before .before .before .before .before .if1 .left) (a .block .now) (p .1) _ (c .before .before .before .before .before .before .before .before .before .part .ensures) _ (c .before .before .before .before .before .before .before .before .declaring .ensures) _ (c .before .before .before .before .before .before .before .begin .ensures) _ (c .before .before .before .before .before .before .steps-of .ensures) _ (c .before .before .before .before .before .is-reached .ensures) (not-false _ (c .before .before .before .before .if2 .left)) _ (c .before .last-cut .ensures) (c .if3 .taken)
 
 returns-4 : tie.Need-returns-4
-returns-4 c = let a = c .before .before .before .before .before .before .before .before .before .before .before .before .before .before .args in let p = c .before .before .before .before .before .before .before .before .before .before .before .before .before .before .pre in not-cut (a .table .now) (a .sought) (a .mark) (a .from) (a .row .now) (p .0) (c .before .before .before .before .before .before .before .before .before .before .if1 .left) (a .block .now) (p .1) _ (c .before .before .before .before .before .before .before .before .before .part .ensures) _ (c .before .before .before .before .before .before .before .before .declaring .ensures) _ (c .before .before .before .before .before .before .before .begin .ensures) (c .before .before .before .before .before .before .first-step .result) (steps-first _ _ (c .before .before .before .before .before .before .first-step .ensures)) _ (c .before .before .before .before .before .is-reached .ensures) (not-false _ (c .before .before .before .before .if2 .left)) _ (c .before .last-cut .ensures) (c .if3 .left)
+returns-4 c = let a = c .before .before .before .before .before .before .before .before .before .before .before .before .before .before .args in let p = c .before .before .before .before .before .before .before .before .before .before .before .before .before .before .pre in not-cut (a .table .now) (a .sought) (a .mark) (a .from) (a .row .now) (p .0) (c .before .before .before .before .before .before .before .before .before .before .if1 .left) (a .block .now) (p .1) _ (c .before .before .before .before .before .before .before .before .before .part .ensures) _ (c .before .before .before .before .before .before .before .before .declaring .ensures) _ (c .before .before .before .before .before .before .before .begin .ensures) _ (c .before .before .before .before .before .before .steps-of .ensures) _ (c .before .before .before .before .before .is-reached .ensures) (not-false _ (c .before .before .before .before .if2 .left)) _ (c .before .last-cut .ensures) (c .if3 .left)
 
 pub standing-spec : {M : Type 1} → statement M
 standing-spec =
@@ -53,7 +52,7 @@ standing-spec =
     part-requires
     declaring-requires
     begin-requires
-    first-step-requires
+    steps-of-requires
     is-reached-requires
     returns-2
     goal-table-requires
