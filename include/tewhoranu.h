@@ -77,11 +77,15 @@ extern "C" {
 /* What the program lends for a listing. No size serves every listing. */
 #define TEWHORANU_LISTING 65536
 
-/* Stack that serves every call, in bytes. A walk has at most a frame for each edge and each scope, of about 1,400 and 900
+/* The number of lawful beginnings where there are so many or more. */
+#define TEWHORANU_FOLLOWED 1000000000
+
+/* Stack that serves every call, in bytes. A walk has at most a frame for each edge and each scope, of about 1,500 and 1,000
  * bytes, and a search that it asks for as many again, of about 750 bytes, above some 120,000 bytes of tables: counted from the
- * library as it is built, not proved. The host test runs the files that go deepest on a thread with this much; 640 KiB
- * served them too. tewhoranu_rules walks nothing: it holds two tables, some 200,000 bytes. */
-#define TEWHORANU_STACK (3 * 512 * 1024)
+ * library as it is built, not proved. 1.5 MiB are enough for every call but tewhoranu_listing, which behind the listing walks
+ * again with a memo of 524,288 bytes below it. The host test runs the files that go deepest on a thread with this much; 640 KiB
+ * served them without the count, 900 KiB with it. tewhoranu_rules walks nothing: it holds two tables, some 200,000 bytes. */
+#define TEWHORANU_STACK (4 * 512 * 1024)
 
 /* A step of a path: the label's letter (A to Z) and the scope that it comes to (0 to 63). */
 typedef struct {
@@ -153,14 +157,24 @@ uint64_t tewhoranu_write(const uint64_t *table, size_t table_length, uint8_t *ou
  * Answers its length, 1 to 16, and puts the place of its first byte in the text into *place: the name is
  * text[*place] to text[*place + length - 1].
  * Answers 0 if there is no such name, since a refusal by 1 to 7 stands in the way, and leaves *place as it was;
- * tewhoranu_listing of the same query tells which. The answer is a length: do not hand it to tewhoranu_refused. */
+ * tewhoranu_listing_plain of the same query tells which. The answer is a length: do not hand it to tewhoranu_refused. */
 uint64_t tewhoranu_name_sought(const uint8_t *text, size_t text_length, size_t query, uint64_t *place);
 
 /* Writes the listing of a query of the file: what it sees, and whether rows still to come could change that. The head of
  * a file with kinds, with turns or without, has the query's kind.
+ * Puts into *followed how many lawful beginnings the query follows: the paths from its start, the one without steps
+ * included, after which transitions alone can still lead to an accepting state, and at no step of which a reached path
+ * with the same steps before goes on by a preferred step, or ends where `$` is preferred. It is TEWHORANU_FOLLOWED where
+ * there are so many or more. No listing has it in its text.
  * Answers 64 and the number of bytes; bytes behind them stay as they were.
- * Refuses by 1 to 6 as tewhoranu_read does, then 7, then 9. */
-uint64_t tewhoranu_listing(const uint8_t *text, size_t text_length, size_t query, uint8_t *out, size_t out_length);
+ * Refuses by 1 to 6 as tewhoranu_read does, then 7, then 9, and leaves *followed as it was.
+ * The number may take much longer than the listing (docs/BENCHMARKS.md); tewhoranu_listing_plain leaves it out. */
+uint64_t tewhoranu_listing(const uint8_t *text, size_t text_length, size_t query, uint8_t *out, size_t out_length,
+                           uint64_t *followed);
+
+/* The same listing, answer and refusals, without the number. */
+uint64_t tewhoranu_listing_plain(const uint8_t *text, size_t text_length, size_t query, uint8_t *out,
+                                 size_t out_length);
 
 /* Judges a path row for a query of the file.
  * Answers by a case, TEWHORANU_VISIBLE, TEWHORANU_SHADOWED or TEWHORANU_UNREACHED, and puts the row's steps into the

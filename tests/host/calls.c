@@ -83,6 +83,28 @@ static uint64_t compared(size_t length, const char *first, const char *second)
                              TEWHORANU_STEPS, others, TEWHORANU_STEPS);
 }
 
+/* Does the example's second listing come with its number, 2, and is the number left alone where a listing is refused? */
+static int follows(size_t length, const char *listing)
+{
+    static const uint64_t due[] = {1, 2, 2};
+    size_t query, written = strlen(listing);
+    uint64_t followed = 77;
+
+    if (tewhoranu_listing(text, length, 1, out, written - 1, &followed) != TEWHORANU_NO_ROOM || followed != 77)
+        return 0;
+    if (tewhoranu_listing(text, length, 3, out, sizeof out, &followed) != TEWHORANU_NO_QUERY || followed != 77)
+        return 0;
+    if (tewhoranu_listing(text, length - 1, 1, out, sizeof out, &followed) != TEWHORANU_MALFORMED || followed != 77)
+        return 0;
+    for (query = 0; query < 3; query++) {
+        followed = 77;
+        if (tewhoranu_refused(tewhoranu_listing(text, length, query, out, sizeof out, &followed)) || followed != due[query])
+            return 0;
+    }
+    return tewhoranu_listing(text, length, 1, out, written, &followed) == TEWHORANU_DONE + written
+        && memcmp(out, listing, written) == 0;
+}
+
 /* The example with the path rules of an expression, in a buffer of so many bytes. */
 static uint64_t ruled(size_t length, const char *expression, size_t room)
 {
@@ -99,6 +121,18 @@ static int print_words(void)
         if (strcmp(tewhoranu_refusal_text(number), unknown) != 0)
             printf("refused %d: %s\n", (int)number, tewhoranu_refusal_text(number));
     return 0;
+}
+
+/* Thirty rungs of two routes each, by labels I and P, and the name nowhere: 2^31 - 1 beginnings. */
+static const char *two_routes(void)
+{
+    static char rungs[1024];
+    int at = sprintf(rungs, "label\nI\nP\nless more\nstate label next\n0 I 0\n0 P 0\naccept\n0\nscopes\n31\nfrom label to\n");
+    int scope;
+    for (scope = 0; scope < 30; scope++)
+        at += sprintf(rungs + at, "%d I %d\n%d P %d\n", scope, scope + 1, scope, scope + 1);
+    sprintf(rungs + at, "at name mark\nat open\nstart seek\n0 x\n");
+    return rungs;
 }
 
 int main(int argc, char **argv)
@@ -157,11 +191,12 @@ int main(int argc, char **argv)
     EXPECT(tewhoranu_name_sought(text, length, 2, &place) == 5 && memcmp(text + place, "hours", 5) == 0);
     EXPECT(place == length - 6);
 
-    answer = tewhoranu_listing(text, length, 1, out, sizeof out);
+    answer = tewhoranu_listing_plain(text, length, 1, out, sizeof out);
     EXPECT(answer == TEWHORANU_DONE + strlen(listing) && memcmp(out, listing, strlen(listing)) == 0);
-    EXPECT(tewhoranu_listing(text, length, 1, out, strlen(listing)) == answer);
-    EXPECT(tewhoranu_listing(text, length, 1, out, strlen(listing) - 1) == TEWHORANU_NO_ROOM);
-    EXPECT(tewhoranu_listing(text, length, 3, out, sizeof out) == TEWHORANU_NO_QUERY);
+    EXPECT(tewhoranu_listing_plain(text, length, 1, out, strlen(listing)) == answer);
+    EXPECT(tewhoranu_listing_plain(text, length, 1, out, strlen(listing) - 1) == TEWHORANU_NO_ROOM);
+    EXPECT(tewhoranu_listing_plain(text, length, 3, out, sizeof out) == TEWHORANU_NO_QUERY);
+    EXPECT(follows(length, listing));
 
     answer = tewhoranu_summary(text, length, out, TEWHORANU_SUMMARY);
     EXPECT(answer == TEWHORANU_DONE + strlen(summary) && memcmp(out, summary, strlen(summary)) == 0);
@@ -219,6 +254,11 @@ int main(int argc, char **argv)
     EXPECT(ruled(length - 1, "", 0) == TEWHORANU_MALFORMED && ruled(TEWHORANU_TEXT + 1, "", 0) == TEWHORANU_TOO_LONG);
     EXPECT(out[0] == 'x');
 
+    /* the number beside a listing: a file with turns, and one with more beginnings than are told */
+    EXPECT(!tewhoranu_refused(tewhoranu_listing(bytes(turns), strlen(turns), 0, out, sizeof out, &place)) && place == 2);
+    EXPECT(!tewhoranu_refused(tewhoranu_listing(bytes(two_routes()), strlen(two_routes()), 0, out, sizeof out, &place)));
+    EXPECT(place == TEWHORANU_FOLLOWED);
+
     /* a file with kinds: its cells, its text, its listing, its name sought */
     length = strlen(kinds);
     answer = tewhoranu_read(bytes(kinds), length, table, TEWHORANU_CELLS);
@@ -233,7 +273,7 @@ int main(int argc, char **argv)
     EXPECT(!tewhoranu_refused(tewhoranu_write(table, cells, out, sizeof out)));
     table[0] = TEWHORANU_WITH_TURNS + 1;
     EXPECT(tewhoranu_write(table, cells, out, sizeof out) == TEWHORANU_MALFORMED);
-    answer = tewhoranu_listing(bytes(kinds), length, 1, out, sizeof out);
+    answer = tewhoranu_listing_plain(bytes(kinds), length, 1, out, sizeof out);
     EXPECT(answer == TEWHORANU_DONE + strlen(limit) && memcmp(out, limit, strlen(limit)) == 0);
     EXPECT(tewhoranu_name_sought(bytes(kinds), length, 1, &place) == 1 && place == length - 2);
     answer = tewhoranu_judge(bytes(kinds), length, 1, bytes("2 0"), 3, steps, 0);
@@ -257,7 +297,7 @@ int main(int argc, char **argv)
     table[34] = 1;
     table[0] = TEWHORANU_WITH_KINDS;
     EXPECT(tewhoranu_write(table, cells, out, sizeof out) == TEWHORANU_MALFORMED);
-    answer = tewhoranu_listing(bytes(turns), strlen(turns), 0, out, sizeof out);
+    answer = tewhoranu_listing_plain(bytes(turns), strlen(turns), 0, out, sizeof out);
     EXPECT(answer == TEWHORANU_DONE + strlen(later) && memcmp(out, later, strlen(later)) == 0);
     answer = tewhoranu_judge(bytes(turns), strlen(turns), 0, bytes("1 0I1"), 5, steps, 1);
     EXPECT(is_case(answer, TEWHORANU_VISIBLE, 0));

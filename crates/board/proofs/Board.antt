@@ -36,11 +36,11 @@ use Rattle.board.specs.Tables.{accepted, letterOf}
 use Rattle.graph_table.specs.Values.{packed, rowDeclared, declares}
 use Rattle.board.specs.Marks.{DeclaringIs}
 use Rattle.board.specs.Made.{Made}
-use Rattle.board.specs.Promises.{Sound, LettersAre, ScopesAre, BoardIs, HopsAre, OrderIs, OpenIs, OpenLast, OpenPast}
+use Rattle.board.specs.Promises.{Sound, LettersAre, ScopesAre, BoardIs, HopsAre, OrderIs, OpenIs, HopefulIs, OpenLast, OpenPast}
 use Rattle.graph_table.proofs.Tests.{below-or}
 use Rattle.board.proofs.SectionLaws.{rows-in-part, all-hops}
 use Rattle.board.proofs.Hops.{Fits, past-none, all-placed}
-use Rattle.board.proofs.States.{next-is, usable-is, usable-past}
+use Rattle.board.proofs.States.{next-is, hopeful-is, usable-is, usable-past}
 
 end-number : (a : End ℕ) → endOf (endNumber a) ≡ a
 unfolding endOf endNumber
@@ -175,6 +175,11 @@ order-is cells block sound made = fun-ext (λ a. fun-ext (λ c. order-eq cells s
 
 pub open-is : OpenIs
 open-is cells block sound made query at end h k = fun-ext (λ s. fun-ext (λ q. open-eq cells sound block made query at end h k s q))
+
+pub hopeful-are : HopefulIs
+hopeful-are cells block sound made =
+    hopeful-is (rulesOf cells) (nextCell block) (acceptSet block) (next-eq cells sound block made) (accept-eq cells sound block made)
+    (sound .labels) (sound .states) (sound .listed) (sound .next-states)
 
 pub open-last : OpenLast
 unfolding openEnd endOf laterStep

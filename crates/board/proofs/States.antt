@@ -153,9 +153,22 @@ module _
         (below-more (ruled r (leadsOn (language r) n) q) (r .labels) 8 few (λ l i. label-past r few listed (leadsOn (language r) n) q l i))
         ∙ or-is (anyOf (eqb q) (r .accept)) (anyBelow (ruled r (leadsOn (language r) n) q) (r .labels))
 
-    hopeful-is : (q : ℕ) → q < 16 → hasState (hopefulSet next accept) q ≡ leadsOn (language r) 16 q
+    -- from no state past the last does a transition lead on
+    hope-past : (n q : ℕ) → 16 ≤ q → leadsOn (language r) n q ≡ false
+    unfolding leadsOn anyBelow
+    hope-past zero q h = sym (accept-eq q) ∙ state-past accept q h
+    hope-past (suc n) q h =
+        rw (sym (accept-eq q) ∙ state-past accept q h, leadsOn)
+        (below-more (ruled r (leadsOn (language r) n) q) 0 (r .labels) (omega arith)
+        (λ l i. none-past r (leadsOn (language r) n) q l (λ s e. let z = states _ (nextBy-row (r .transitions) q l s e) in omega arith)))
+
+    hopeful-below : (q : ℕ) → q < 16 → hasState (hopefulSet next accept) q ≡ leadsOn (language r) 16 q
     unfolding hopefulSet
-    hopeful-is q h = hope-is 16 q h
+    hopeful-below q h = hope-is 16 q h
+
+    pub hopeful-is : (q : ℕ) → hasState (hopefulSet next accept) q ≡ leadsOn (language r) 16 q
+    hopeful-is q =
+        ⊎-elim (hopeful-below q) (λ (h : 16 ≤ q). state-past (hopefulSet next accept) q h ∙ sym (hope-past 16 q h)) (below-or q 16)
 
     -- an end is usable by the sets as by the rules
     module _ (g : Graph (language r)) (query : Query (language r)) where
@@ -165,7 +178,7 @@ module _
       flag-is : (q end : ℕ) → usableFlag next accept (hopefulSet next accept) q end ≡ usableBy q end
       unfolding usableFlag usable openEnd endOf
       flag-is q zero = accept-eq q
-      flag-is q (suc l) = set-step (hopefulSet next accept) (leadsOn (language r) 16) hopeful-is q l
+      flag-is q (suc l) = set-step (hopefulSet next accept) (leadsOn (language r) 16) (λ s h. hopeful-is s) q l
 
       state-no : (q end : ℕ) → 16 ≤ q → usableBy q end ≡ false
       unfolding usable openEnd endOf

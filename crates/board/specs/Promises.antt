@@ -14,18 +14,19 @@ use Rattle.scope_graph.specs.Turns.{Turned, laterStep}
 use Rattle.scope_graph.specs.Rows.{OrderPair, Transition, PackedName, language}
 use Rattle.scope_graph.specs.Order.{endOf}
 use Rattle.scope_graph.specs.Graph.{Edge, Declaration, Query}
-use Rattle.scope_graph.specs.Computed.{hopsAt, usable, openEnd}
+use Rattle.scope_graph.specs.Computed.{hopsAt, leadsOn, usable, openEnd}
 use Rattle.graph_file.specs.Format.{turnCount, countSection, edgeSection, declarationSection}
 use Rattle.graph_file.specs.Admission.{value, blank}
 use Rattle.text_field.specs.Outcome.{done}
 use Rattle.graph_file.specs.File.{readCells, writeText}
 use Rattle.graph_file.specs.Decode.{rowsIn, lettersOf, rulesOf, graphOf}
 use Rattle.graph_table.specs.Rows.{rowHops, allHops, RowsAscend}
-use Rattle.block.specs.Sets.{placesOf}
-use Rattle.block.specs.Block.{letterCell, scopesCell, usableSet, blockHops, declaredPart}
+use Rattle.block.specs.Sets.{hasState, placesOf}
+use Rattle.block.specs.Block.{letterCell, scopesCell, nextCell, acceptSet, usableSet, blockHops, declaredPart}
 use Rattle.search.specs.Board.{boardOf}
 use Rattle.search.specs.Tables.{endNumber, tableBoard, tableOrder}
 use Rattle.graph_table.specs.Sections.{SectionsAscend, partOf, rowsOf}
+use Rattle.board.specs.Tables.{hopefulSet}
 use Rattle.board.specs.Marks.{marksIn, DeclaringIs}
 use Rattle.board.specs.Made.{Made}
 
@@ -85,6 +86,11 @@ abbrev pub OpenIs : Type 0
 OpenIs = (cells block : List ℕ) → Sound cells → Made cells block → (q : Query (language (rulesOf cells))) (at end : ℕ) → at < 64 → end < 9
     → placesOf (2 ^ at) (usableSet block end)
     ≡ (λ s st. eqb s at && usable (language (rulesOf cells)) st (openEnd (language (rulesOf cells)) (graphOf cells) q (endOf end)))
+
+-- the states from which transitions alone lead to an accepting one are the rules' (02, K11)
+abbrev pub HopefulIs : Type 0
+HopefulIs = (cells block : List ℕ) → Sound cells → Made cells block → (q : ℕ)
+    → hasState (hopefulSet (nextCell block) (acceptSet block)) q ≡ leadsOn (language (rulesOf cells)) 16 q
 
 -- no hop of the board is later than the end that stands for all that may come at an open pair (02,
 -- K12: the new edge's turn may be above all others)

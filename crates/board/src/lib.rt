@@ -11,6 +11,7 @@ mod order;
 mod sections;
 
 pub use asked::name_asked;
+pub use automaton::hopeful;
 pub use declarations::declaring;
 pub use making::put_board;
 pub use sections::part;

@@ -13,6 +13,9 @@ mod nodes;
 mod rows;
 
 pub use count::is_broken;
+pub use next::Next;
+pub use next::first_followed;
+pub use next::next_followed;
 use nodes::follow_at;
 ghost use mathlib.Core.Path.{_≡_};
 ghost use Prim.Native.Nat.{_≤_, _<_};

@@ -25,8 +25,9 @@ use Rattle.judge.specs.Judge.{judgeOf, judgeAnswer}
 use Rattle.conversion.specs.Conversion.{textOf, oldOf, newOf}
 use Rattle.ruled.specs.Ruled.{ruledText, textBy, ruledOf}
 use Rattle.printing.specs.Printed.{programText, outcomeText}
-use Rattle.gym.specs.Words.{Asked, list, old, new, judge, compare, rules, usage, Word, alone, withOne, withTwo, queryAsked, judgeAsked, listWord, oldWord, newWord, judgeWord, compareWord, rulesWord, laterWords, words, sameBytes, askedOf, asked}
-use Rattle.gym.specs.Said.{Said, judgeLine, compareLine, answered, said}
+use Rattle.beginnings.specs.Beginnings.{countFor}
+use Rattle.gym.specs.Words.{Asked, list, old, new, judge, compare, rules, count, usage, Word, alone, withOne, withTwo, queryAsked, byQuery, judgeAsked, countAsked, listWord, oldWord, newWord, judgeWord, compareWord, rulesWord, countWord, laterWords, words, sameBytes, askedOf, asked}
+use Rattle.gym.specs.Said.{Said, judgeLine, compareLine, countLine, answered, said}
 use Rattle.gym.specs.Handed.{arguments, handed}
 use Rattle.gym.specs.Promises.{wordBytes, inputBytes, wordsRead, ReadEnough}
 
@@ -56,13 +57,14 @@ module _ (input : List ℕ) where
       by (cut h e) = long (take inputBytes input) (omega arith) ∙ sym (long input (omega arith))
 
   pub input-enough : (x : Asked) → answered x (take inputBytes input) ≡ answered x input
-  unfolding answered programText oldOf newOf textOf judgeLine judgeAnswer compareLine compareAnswer ruledOf
+  unfolding answered programText oldOf newOf textOf judgeLine judgeAnswer compareLine compareAnswer ruledOf countLine countFor
   input-enough list = rw input-read
   input-enough old = rw input-read
   input-enough new = rw input-read
   input-enough (judge i row) = rw input-read
   input-enough (compare a b) = rw input-read
   input-enough (rules expression) = rw input-read
+  input-enough (count i) = rw input-read
   input-enough usage = refl
 
 -- a row: past 256 bytes it is refused by 8
@@ -96,15 +98,22 @@ module _ (expression : List ℕ) where
       by (done cells) = ap (λ (r : Rules). ruledText r cells) (expression-read (lettersOf cells))
 
 -- a query's number has five bytes at most
-query-long : (q row : List ℕ) → 5 < length q → queryAsked (numberHere q) q row ≡ usage
-unfolding queryAsked
-query-long q row h = by (numberHere q) refl
+query-long : (x : ℕ → Asked) (q : List ℕ) → 5 < length q → byQuery x q ≡ usage
+unfolding queryAsked byQuery
+query-long x q h = by (numberHere q) refl
   where
-    by : (x : NumberRead) → numberHere q ≡ x → queryAsked x q row ≡ usage
+    by : (n : NumberRead) → numberHere q ≡ n → queryAsked x n q ≡ usage
     by (Number i w) e =
         let n = number-found q i w e .most in
         rw (ne-eqb w (length q) (λ (z : w ≡ length q). omega arith), queryAsked)
     by NoNumber e = refl
+
+query-cut : (x : ℕ → Asked) (q : List ℕ) → byQuery x (take wordBytes q) ≡ byQuery x q
+query-cut x q = by (cut-or-whole wordBytes q)
+  where
+    by : Cut wordBytes q → byQuery x (take wordBytes q) ≡ byQuery x q
+    by (whole e) = ap (byQuery x) e
+    by (cut h e) = query-long x (take wordBytes q) (omega arith) ∙ sym (query-long x q (omega arith))
 
 -- of a word's name
 same-cut : (k : ℕ) (a b : List ℕ) → length b < k → sameBytes (take k a) b ≡ sameBytes a b
@@ -130,7 +139,7 @@ module _ (input : List ℕ) where
   unfolding answered
   rules-expression expression = rw (rules-read expression input)
 
-  query-row : (x : NumberRead) (q row : List ℕ) → saying (queryAsked x q (take wordBytes row)) ≡ saying (queryAsked x q row)
+  query-row : (n : NumberRead) (q row : List ℕ) → saying (queryAsked (λ i. judge i (take wordBytes row)) n q) ≡ saying (queryAsked (λ i. judge i row) n q)
   unfolding queryAsked
   query-row NoNumber q row = refl
   query-row (Number i w) q row = by (eqb w (length q)) (judge-row i row)
@@ -141,12 +150,12 @@ module _ (input : List ℕ) where
       by false h = refl
 
   query-read : (q row : List ℕ) → saying (judgeAsked (take wordBytes q) (take wordBytes row)) ≡ saying (judgeAsked q row)
-  unfolding judgeAsked
-  query-read q row = by (cut-or-whole wordBytes q)
-    where
-      by : Cut wordBytes q → saying (queryAsked (numberHere (take wordBytes q)) (take wordBytes q) (take wordBytes row)) ≡ saying (queryAsked (numberHere q) q row)
-      by (whole e) = ap (λ (s : List ℕ). saying (queryAsked (numberHere s) s (take wordBytes row))) e ∙ query-row (numberHere q) q row
-      by (cut h e) = ap saying (query-long (take wordBytes q) (take wordBytes row) (omega arith) ∙ sym (query-long q row (omega arith)))
+  unfolding judgeAsked byQuery
+  query-read q row = ap saying (query-cut (λ i. judge i (take wordBytes row)) q) ∙ query-row (numberHere q) q row
+
+  count-read : (q : List ℕ) → saying (countAsked (take wordBytes q)) ≡ saying (countAsked q)
+  unfolding countAsked
+  count-read q = ap saying (query-cut count q)
 
   -- the arguments that are read
   abbrev read : List (List ℕ) → List (List ℕ)
@@ -188,14 +197,15 @@ module _ (input : List ℕ) where
         by false = rest
 
     words-enough : Enough words
-    unfolding words listWord oldWord newWord judgeWord compareWord rulesWord laterWords askedOf
+    unfolding words listWord oldWord newWord judgeWord compareWord rulesWord countWord laterWords askedOf
     words-enough =
         one-more listWord (oldWord ∷ newWord ∷ judgeWord ∷ compareWord ∷ laterWords) (omega arith) (alone-read list more)
         (one-more oldWord (newWord ∷ judgeWord ∷ compareWord ∷ laterWords) (omega arith) (alone-read old more)
         (one-more newWord (judgeWord ∷ compareWord ∷ laterWords) (omega arith) (alone-read new more)
         (one-more judgeWord (compareWord ∷ laterWords) (omega arith) (two-read judgeAsked query-read more)
         (one-more compareWord laterWords (omega arith) (two-read compare compare-rows more)
-        (one-more rulesWord [] (omega arith) (one-read rules rules-expression more) refl)))))
+        (one-more rulesWord (countWord ∷ []) (omega arith) (one-read rules rules-expression more)
+        (one-more countWord [] (omega arith) (one-read countAsked count-read more) refl))))))
 
   words-read : (given : List (List ℕ)) → saying (asked (wordsRead given)) ≡ saying (asked given)
   unfolding asked wordsRead handed

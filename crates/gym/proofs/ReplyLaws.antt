@@ -29,11 +29,12 @@ use Rattle.printing.specs.Parts.{answered as answeredIn}
 use Rattle.printing.proofs.Laws.{refused-short, in-place, done-fits, Stands, stands}
 use Rattle.comparison.specs.Compare.{Comparison, first, second, neither, Told, asTold, compareAnswer}
 use Rattle.judge.specs.Judge.{judgeAnswer}
+use Rattle.beginnings.specs.Beginnings.{countFor}
 use Rattle.gym.specs.declared.words.Reply.{Reply}
 use Rattle.gym.specs.declared.words.Command.{Command}
 use Rattle.gym.specs.declared.replies.Stream.{Stream}
-use Rattle.gym.specs.Words.{Asked, listWord, oldWord, newWord, judgeWord, compareWord, rulesWord, laterWords, words, asked}
-use Rattle.gym.specs.Said.{Said, spoken, replyRoom, lineOf, counted, standingName, whichName, comparisonName, judgeLine, compareLine, usageHead, usageLine, usageText, answered, said}
+use Rattle.gym.specs.Words.{Asked, listWord, oldWord, newWord, judgeWord, compareWord, rulesWord, countWord, laterWords, words, asked}
+use Rattle.gym.specs.Said.{Said, spoken, replyRoom, lineOf, counted, standingName, whichName, comparisonName, judgeLine, compareLine, countLine, usageHead, usageLine, usageText, answered, said}
 use Rattle.gym.specs.Handed.{Replied, replyMeaning, meaning}
 
 -- an answer's line, or its refusal's
@@ -76,10 +77,16 @@ module _ (o : Outcome (List ℕ)) (a : Answer) (vs : List Val) (good : Is (row t
       }
 
 -- the names of answers, and the usage text
+digits-few : (n : ℕ) → n < 18446744073709551616 → length (numberText n) ≤ 20
+digits-few n h = length-below 19 n (let z : 10 ^ 20 ≡ 100000000000000000000 = refl in rw z (omega arith))
+
+pub number-short : (n : ℕ) → n < 18446744073709551616 → length (numberText n) ≤ 32
+number-short n h = let d = digits-few n h in omega arith
+
 counted-short : (name : List ℕ) (n : ℕ) → length name ≤ 9 → n < 18446744073709551616 → length (counted name n) ≤ 32
 unfolding counted
 counted-short name n few h =
-    let d = length-below 19 n (let z : 10 ^ 20 ≡ 100000000000000000000 = refl in rw z (omega arith)) in
+    let d = digits-few n h in
     let l = length-append name (32 ∷ numberText n) in
     omega arith
 
@@ -111,7 +118,7 @@ unfolding puts
 counted-puts name n b c d e f g h = puts-then b c e name (numberText n ++ (10 ∷ [])) f (puts-then c d e (numberText n) (10 ∷ []) g h)
 
 pub usage-replied : (lent left : List ℕ) (size : ℕ) → _≡_ {A = Buf} (left, size) (puts (lent, 0) usageText) → Replied lent left size usageText
-unfolding usageText usageHead flatMap words usageLine listWord oldWord newWord judgeWord compareWord rulesWord laterWords
+unfolding usageText usageHead flatMap words usageLine listWord oldWord newWord judgeWord compareWord rulesWord countWord laterWords
 usage-replied lent left size h = record { written = h; fits = omega arith }
 
 -- a reply by what was computed for it
@@ -123,6 +130,10 @@ module _ (lent left : List ℕ) (size : ℕ) where
   pub compare-replied : (text a b : List ℕ) (o : Outcome Told) → Replied lent left size (inPlace replyRoom (lineOf comparisonName o)) → o ≡ compareAnswer text a b 63 63 → Replied lent left size (inPlace replyRoom (compareLine text a b))
   unfolding compareLine
   compare-replied text a b o h e = rw (sym e) h
+
+  pub count-replied : (text : List ℕ) (i : ℕ) (o : Outcome ℕ) → Replied lent left size (inPlace replyRoom (lineOf numberText o)) → o ≡ countFor text i → Replied lent left size (inPlace replyRoom (countLine text i))
+  unfolding countLine
+  count-replied text i o h e = rw (sym e) h
 
   -- of what is asked for
   pub reply-is : (q r : Reply) (a b text : List ℕ) → q ≡ r → Replied lent left size (answered (replyMeaning r a b) text .text)

@@ -11,8 +11,9 @@ use Rattle.text_field.specs.declared.NumberRead.{NumberRead}
 use Rattle.text_field.specs.declared.NumberRead.the-variants.{Number, NoNumber}
 use Rattle.text_field.specs.Number.{numberHere, numberPlaced}
 use Rattle.text_field.proofs.Steps.{drop-next, drop-end}
-use Rattle.gym.specs.Words.{Asked, list, old, new, judge, compare, rules, usage, Word, alone, withOne, withTwo, queryAsked, judgeAsked, listWord, oldWord, newWord, judgeWord, compareWord, rulesWord, laterWords, words, sameBytes, askedOf, asked}
-use Rattle.gym.specs.Handed.{arguments, handed}
+use Rattle.gym.specs.declared.words.Query.{Query}
+use Rattle.gym.specs.Words.{Asked, list, old, new, compare, rules, usage, Word, alone, withOne, withTwo, queryAsked, byQuery, countAsked, judgeAsked, listWord, oldWord, newWord, judgeWord, compareWord, rulesWord, countWord, laterWords, words, sameBytes, askedOf, asked}
+use Rattle.gym.specs.Handed.{arguments, handed, queried}
 
 -- two texts byte by byte, from place i on
 module _ (a b : List ℕ) (i : ℕ) where
@@ -74,7 +75,13 @@ two-not (suc zero) a b x e = refl
 two-not (suc (suc zero)) a b x e = absurd (e refl)
 two-not (suc (suc (suc n))) a b x e = refl
 
--- of two arguments it is asked what they ask for, and nothing else
+-- of its arguments it is asked what they ask for, and nothing else
+pub one-same : (count : ℕ) (a b : List ℕ) (x y : List ℕ → Asked) → x a ≡ y a → withOne x (arguments count a b) ≡ withOne y (arguments count a b)
+unfolding withOne arguments
+one-same zero a b x y e = refl
+one-same (suc zero) a b x y e = e
+one-same (suc (suc n)) a b x y e = refl
+
 pub two-same : (count : ℕ) (a b : List ℕ) (x y : List ℕ → List ℕ → Asked) → x a b ≡ y a b → withTwo x (arguments count a b) ≡ withTwo y (arguments count a b)
 unfolding withTwo arguments
 two-same zero a b x y e = refl
@@ -83,7 +90,7 @@ two-same (suc (suc zero)) a b x y e = e
 two-same (suc (suc (suc n))) a b x y e = refl
 
 -- the query's number, read from the argument's front
-module _ (a b : List ℕ) (r : NumberRead) (e : r ≡ numberPlaced 0 (numberHere (drop 0 a))) where
+module _ (a : List ℕ) (r : NumberRead) (e : r ≡ numberPlaced 0 (numberHere (drop 0 a))) (x : ℕ → Asked) where
   from-front : (x : NumberRead) → numberPlaced 0 x ≡ x
   unfolding numberPlaced
   from-front (Number v w) = let z : 0 + w ≡ w = omega arith in rw z
@@ -92,22 +99,26 @@ module _ (a b : List ℕ) (r : NumberRead) (e : r ≡ numberPlaced 0 (numberHere
   front : r ≡ numberHere a
   front = e ∙ from-front (numberHere a)
 
-  pub query-none : r ≡ NoNumber → usage ≡ judgeAsked a b
-  unfolding queryAsked judgeAsked
+  pub query-none : r ≡ NoNumber → usage ≡ byQuery x a
+  unfolding queryAsked byQuery
   query-none h = rw (sym front, h)
 
   module _ (i end : ℕ) (h : r ≡ Number i end) where
-    by-width : judgeAsked a b ≡ queryAsked (Number i end) a b
-    unfolding judgeAsked
-    by-width = ap (λ (x : NumberRead). queryAsked x a b) (sym front ∙ h)
+    by-width : byQuery x a ≡ queryAsked x (Number i end) a
+    unfolding byQuery
+    by-width = ap (λ (n : NumberRead). queryAsked x n a) (sym front ∙ h)
 
-    pub query-long : (end ≡ length a → ⊥) → usage ≡ judgeAsked a b
+    pub query-long : (end ≡ length a → ⊥) → usage ≡ byQuery x a
     unfolding queryAsked
     query-long k = sym (by-width ∙ rw (ne-eqb end (length a) k, queryAsked))
 
-    pub query-is : end ≡ length a → judge i b ≡ judgeAsked a b
+    pub query-is : end ≡ length a → x i ≡ byQuery x a
     unfolding queryAsked
     query-is k = sym (by-width ∙ rw (eq-eqb end (length a) k, queryAsked))
+
+-- what is asked for, by the query that was found
+pub query-asks : (x : ℕ → Asked) (r q : Query) (y : Asked) → r ≡ q → queried x r ≡ y → queried x q ≡ y
+query-asks x r q y e h = ap (queried x) (sym e) ∙ h
 
 -- a word by its name: found, or looked for in the rest
 module _ (w : Word) (ws : List Word) (name : List ℕ) (more : List (List ℕ)) where
@@ -184,8 +195,17 @@ module _ (count : ℕ) (name a b : List ℕ) where
 module _ (name : List ℕ) (more : List (List ℕ)) where
   pub as-rules : true ≡ sameBytes name (rulesWord .name) → askedOf laterWords name more ≡ withOne rules more
   unfolding laterWords rulesWord
-  as-rules e = named rulesWord [] name more e
+  as-rules e = named rulesWord (countWord ∷ []) name more e
 
-  pub as-unknown : false ≡ sameBytes name (rulesWord .name) → askedOf laterWords name more ≡ usage
-  unfolding laterWords askedOf
-  as-unknown e = passed rulesWord [] name more e
+  module _ (f : false ≡ sameBytes name (rulesWord .name)) where
+    past-rules : askedOf laterWords name more ≡ askedOf (countWord ∷ []) name more
+    unfolding laterWords
+    past-rules = passed rulesWord (countWord ∷ []) name more f
+
+    pub as-count : true ≡ sameBytes name (countWord .name) → askedOf laterWords name more ≡ withOne countAsked more
+    unfolding countWord
+    as-count e = past-rules ∙ named countWord [] name more e
+
+    pub as-unknown : false ≡ sameBytes name (countWord .name) → askedOf laterWords name more ≡ usage
+    unfolding askedOf
+    as-unknown e = past-rules ∙ passed countWord [] name more e

@@ -9,21 +9,28 @@ use Rattle.text_field.specs.Buffer.{Buf, puts}
 use Rattle.gym.specs.declared.replies.Stream.{Stream}
 use Rattle.gym.specs.declared.replies.Stream.the-variants.{Out, Err}
 use Rattle.gym.specs.declared.words.Reply.{Reply}
-use Rattle.gym.specs.declared.words.Reply.the-variants.{Old, New, Judge, Compare, Rules, Usage}
+use Rattle.gym.specs.declared.words.Reply.the-variants.{Old, New, Judge, Compare, Rules, Count, Usage}
+use Rattle.gym.specs.declared.words.Query.{Query}
+use Rattle.gym.specs.declared.words.Query.the-variants.{At, None}
 use Rattle.gym.specs.declared.words.Command.{Command}
 use Rattle.gym.specs.declared.words.Command.the-variants.{Listings, One}
-use Rattle.gym.specs.Words.{Asked, list, old, new, judge, compare, rules, usage}
+use Rattle.gym.specs.Words.{Asked, list, old, new, judge, compare, rules, count, usage}
 use Rattle.gym.specs.Said.{replyRoom}
 
 -- so many arguments, the first two given. No word has more, so of three or more only their number
 -- counts: an empty third one stands for all that follow.
 unfoldable pub arguments : ℕ → List ℕ → List ℕ → List (List ℕ)
-arguments count a b = take count (a ∷ b ∷ [] ∷ [])
+arguments n a b = take n (a ∷ b ∷ [] ∷ [])
 
 -- so many words, the first three given; an absent one is not looked at
 unfoldable pub handed : ℕ → List ℕ → List ℕ → List ℕ → List (List ℕ)
 handed zero name a b = []
-handed (suc count) name a b = name ∷ arguments count a b
+handed (suc n) name a b = name ∷ arguments n a b
+
+-- what is asked for of a query, if an argument names one
+unfoldable pub queried : (ℕ → Asked) → Query → Asked
+queried x (At i) = x i
+queried x None = usage
 
 -- what a command asks for, with its arguments
 unfoldable pub replyMeaning : Reply → List ℕ → List ℕ → Asked
@@ -32,6 +39,7 @@ replyMeaning New a b = new
 replyMeaning (Judge i) a b = judge i b
 replyMeaning Compare a b = compare a b
 replyMeaning Rules a b = rules a
+replyMeaning (Count i) a b = count i
 replyMeaning Usage a b = usage
 
 unfoldable pub meaning : Command → List ℕ → List ℕ → Asked

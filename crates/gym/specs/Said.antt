@@ -10,10 +10,11 @@ use Rattle.comparison.specs.Compare.{Comparison, first, second, neither, Told, 
 use Rattle.judge.specs.Judge.{judgeAnswer}
 use Rattle.conversion.specs.Conversion.{oldOf, newOf}
 use Rattle.ruled.specs.Ruled.{ruledOf}
+use Rattle.beginnings.specs.Beginnings.{countFor}
 use Rattle.printing.specs.Printed.{inPlace, programText}
 use Rattle.gym.specs.declared.replies.Stream.{Stream}
 use Rattle.gym.specs.declared.replies.Stream.the-variants.{Out, Err}
-use Rattle.gym.specs.Words.{Asked, list, old, new, judge, compare, rules, usage, Word, words, asked}
+use Rattle.gym.specs.Words.{Asked, list, old, new, judge, compare, rules, count, usage, Word, words, asked}
 
 -- the text, and the stream that gets it; the other one gets nothing
 pub record Said : Type 0 where
@@ -63,6 +64,10 @@ judgeLine text i row = lineOf standingName (judgeAnswer text i row mostSteps)
 unfoldable pub compareLine : List ℕ → List ℕ → List ℕ → Outcome (List ℕ)
 compareLine text a b = lineOf comparisonName (compareAnswer text a b mostSteps mostSteps)
 
+-- the count of a query's lawful beginnings (02, K11)
+unfoldable pub countLine : List ℕ → ℕ → Outcome (List ℕ)
+countLine text i = lineOf numberText (countFor text i)
+
 -- `usage: gym WORD [ARGUMENT..] < FILE`
 unfoldable pub usageHead : List ℕ
 usageHead =
@@ -85,6 +90,7 @@ answered new text = replied (newOf text)
 answered (judge i row) text = replied (judgeLine text i row)
 answered (compare a b) text = replied (compareLine text a b)
 answered (rules expression) text = replied (ruledOf expression text)
+answered (count i) text = replied (countLine text i)
 answered usage text = spoken Err usageText
 
 -- What the program says for a list of words, its own name left off, and an input.

@@ -16,6 +16,7 @@ pub data Asked : Type 0 where
   judge : ℕ → List ℕ → Asked
   compare : List ℕ → List ℕ → Asked
   rules : List ℕ → Asked
+  count : ℕ → Asked
   usage : Asked
 
 -- a word without arguments
@@ -37,12 +38,18 @@ withTwo x (a ∷ b ∷ []) = x a b
 withTwo x (a ∷ b ∷ c ∷ more) = usage
 
 -- QUERY is a number of the file's form (01, "The gym file"), with nothing behind it
-unfoldable pub queryAsked : NumberRead → List ℕ → List ℕ → Asked
-queryAsked (Number i width) query row = elim (eqb width (length query)) [ true ↦ judge i row | false ↦ usage ]
-queryAsked NoNumber query row = usage
+unfoldable pub queryAsked : (ℕ → Asked) → NumberRead → List ℕ → Asked
+queryAsked x (Number i width) query = elim (eqb width (length query)) [ true ↦ x i | false ↦ usage ]
+queryAsked x NoNumber query = usage
+
+unfoldable pub byQuery : (ℕ → Asked) → List ℕ → Asked
+byQuery x query = queryAsked x (numberHere query) query
 
 unfoldable pub judgeAsked : List ℕ → List ℕ → Asked
-judgeAsked query row = queryAsked (numberHere query) query row
+judgeAsked query row = byQuery (λ i. judge i row) query
+
+unfoldable pub countAsked : List ℕ → Asked
+countAsked query = byQuery count query
 
 -- a word: its name, how its arguments are shown to who does not know them, and what they ask for
 pub record Word : Type 0 where
@@ -80,9 +87,14 @@ rulesWord =
       asks = withOne rules;
     }
 
+-- `count`, ` QUERY`: how many lawful beginnings the query has (02, K11)
+unfoldable pub countWord : Word
+countWord =
+    record { name = 99 ∷ 111 ∷ 117 ∷ 110 ∷ 116 ∷ []; shown = 32 ∷ 81 ∷ 85 ∷ 69 ∷ 82 ∷ 89 ∷ []; asks = withOne countAsked }
+
 -- all words; a new one is added to the later ones
 unfoldable pub laterWords : List Word
-laterWords = rulesWord ∷ []
+laterWords = rulesWord ∷ countWord ∷ []
 
 unfoldable pub words : List Word
 words = listWord ∷ oldWord ∷ newWord ∷ judgeWord ∷ compareWord ∷ laterWords

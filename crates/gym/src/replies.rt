@@ -1,5 +1,7 @@
 // Replies: each is one text, put at the front of lent memory.
 use crate::words::Reply;
+use beginnings::Counted;
+use beginnings::count;
 use comparison::Compared;
 use comparison::decide;
 use conversion::to_new;
@@ -22,8 +24,9 @@ ghost use Rattle.comparison.specs.Compare.{meaning as compared};
 ghost use Rattle.judge.specs.Judge.{meaning as judged};
 ghost use Rattle.conversion.specs.Conversion.{oldOf, newOf};
 ghost use Rattle.ruled.specs.Ruled.{ruledOf};
+ghost use Rattle.beginnings.specs.Counted.{countedOf};
 ghost use Rattle.printing.specs.Printed.{inPlace};
-ghost use Rattle.gym.specs.Said.{replyRoom, lineOf, standingName, comparisonName, judgeLine, compareLine, usageText, answered};
+ghost use Rattle.gym.specs.Said.{replyRoom, lineOf, standingName, comparisonName, judgeLine, compareLine, countLine, usageText, answered};
 ghost use Rattle.gym.specs.Handed.{replyMeaning, Replied};
 
 // The room that a reply is lent: as much as a gym file may have.
@@ -59,13 +62,13 @@ fn put_new<'s, 'o>(text: &'s [u8], out: &'o mut [u8]) -> usize
     put_answer(out, a)
 }
 
-// A line of a name, which ends in a space, and a number of steps.
-fn put_counted(out: &mut [u8], name: &[u8], steps: usize) -> usize
+// A line of a name, which ends in a space or is empty, and a number.
+fn put_counted(out: &mut [u8], name: &[u8], number: usize) -> usize
     ensures written { λ r. ⌜ _≡_ {A = Buf} (now (out .exit), r)
-        (puts (now (out .entry), 0) (now (name .entry) ++ (numberText steps ++ (10 ∷ [])))) ⌝ }
+        (puts (now (out .entry), 0) (now (name .entry) ++ (numberText number ++ (10 ∷ [])))) ⌝ }
 {
     let a = put_bytes(out, 0, name);
-    let b = put_number(out, a, steps as u64);
+    let b = put_number(out, a, number as u64);
     put_byte(out, b, b'\n')
 }
 
@@ -90,6 +93,16 @@ fn put_comparison(out: &mut [u8], c: Compared) -> usize
         Compared::Second(n) => put_counted(out, b"second ", n),
         Compared::Neither(n) => put_counted(out, b"neither ", n),
         Compared::Refused(n) => put_refused(out, n),
+    }
+}
+
+// A count, or its refusal.
+fn put_count_line(out: &mut [u8], c: Counted) -> usize
+    ensures written { λ r. ⌜ Replied (now (out .entry)) (now (out .exit)) r (inPlace replyRoom (lineOf numberText (countedOf c))) ⌝ }
+{
+    match c {
+        Counted::Count(n) => put_counted(out, b"", n as usize),
+        Counted::Refused(n) => put_refused(out, n),
     }
 }
 
@@ -118,6 +131,14 @@ fn put_rules<'s, 'o>(text: &'s [u8], expression: &'s [u8], out: &'o mut [u8]) ->
     put_answer(out, a)
 }
 
+// How many lawful beginnings a query has.
+fn put_count<'s, 'o>(text: &'s [u8], query: usize, out: &'o mut [u8]) -> usize
+    ensures written { λ r. ⌜ Replied (now (out .entry)) (now (out .exit)) r (inPlace replyRoom (countLine (now (text .entry)) query)) ⌝ }
+{
+    let c = count(text, query);
+    put_count_line(out, c)
+}
+
 // The usage text: its first line, and one for each word.
 fn put_usage(out: &mut [u8]) -> usize
     ensures written { λ r. ⌜ Replied (now (out .entry)) (now (out .exit)) r usageText ⌝ }
@@ -125,7 +146,7 @@ fn put_usage(out: &mut [u8]) -> usize
     put_bytes(
         out,
         0,
-        b"usage: gym WORD [ARGUMENT..] < FILE\n  list\n  old\n  new\n  judge QUERY ROW\n  compare ROW ROW\n  rules EXPRESSION\n",
+        b"usage: gym WORD [ARGUMENT..] < FILE\n  list\n  old\n  new\n  judge QUERY ROW\n  compare ROW ROW\n  rules EXPRESSION\n  count QUERY\n",
     )
 }
 
@@ -173,6 +194,13 @@ pub fn put_reply<'s, 'o>(
         }
         Reply::Rules => {
             let size = put_rules(text, first, out);
+            Put {
+                on: Stream::Out,
+                size,
+            }
+        }
+        Reply::Count(query) => {
+            let size = put_count(text, query, out);
             Put {
                 on: Stream::Out,
                 size,

@@ -4,17 +4,18 @@ use text_field::read_number;
 ghost use mathlib.Core.Path.{_≡_};
 ghost use mathlib.Core.List.{List};
 ghost use Prim.Native.Nat.{ℕ};
-ghost use Rattle.gym.specs.Words.{alone as aloneAsked, withOne, withTwo, judgeAsked, laterWords, sameBytes, askedOf, asked};
-ghost use Rattle.gym.specs.Handed.{arguments, handed, meaning};
+ghost use Rattle.gym.specs.Words.{Asked, alone as aloneAsked, withOne, withTwo, byQuery, judgeAsked, countAsked, laterWords, sameBytes, askedOf, asked};
+ghost use Rattle.gym.specs.Handed.{arguments, handed, queried, meaning};
 
-// What is answered by one text. `Judge` holds the query's number; rows and the expression stay
-// where they are, the judged row in the second argument.
+// What is answered by one text. `Judge` and `Count` hold the query's number; rows and the
+// expression stay where they are, the judged row in the second argument.
 pub enum Reply {
     Old,
     New,
     Judge(usize),
     Compare,
     Rules,
+    Count(usize),
     Usage,
 }
 
@@ -22,6 +23,12 @@ pub enum Reply {
 pub enum Command {
     Listings,
     One(Reply),
+}
+
+// The query that an argument names, if it does.
+enum Query {
+    At(usize),
+    None,
 }
 
 fn is_same(a: &[u8], b: &[u8]) -> bool
@@ -70,25 +77,48 @@ fn with_two(count: usize, c: Command) -> Command
     c
 }
 
+// A query's number and nothing behind it.
+fn query_of(first: &[u8]) -> Query
+    ensures answer { λ r. ⌜ ((x : ℕ → Asked) → queried x r ≡ byQuery x (now (first .entry))) ⌝ }
+{
+    let NumberRead::Number(i, end) = read_number(first, 0) else {
+        return Query::None;
+    };
+    if end != first.len() {
+        return Query::None;
+    }
+    Query::At(i as usize)
+}
+
 // `judge`, by its first argument.
 fn judge_asked(first: &[u8]) -> Command
     ensures answer { λ r. ⌜ ((b : List ℕ) → meaning r (now (first .entry)) b ≡ judgeAsked (now (first .entry)) b) ⌝ }
 {
-    let NumberRead::Number(i, end) = read_number(first, 0) else {
+    let Query::At(i) = query_of(first) else {
         return Command::One(Reply::Usage);
     };
-    if end != first.len() {
+    Command::One(Reply::Judge(i))
+}
+
+// `count`, by its argument.
+fn count_asked(first: &[u8]) -> Command
+    ensures answer { λ r. ⌜ ((b : List ℕ) → meaning r (now (first .entry)) b ≡ countAsked (now (first .entry))) ⌝ }
+{
+    let Query::At(i) = query_of(first) else {
         return Command::One(Reply::Usage);
-    }
-    Command::One(Reply::Judge(i as usize))
+    };
+    Command::One(Reply::Count(i))
 }
 
 // What a word behind `compare` asks for, given so many arguments. A new word gets its line here.
-fn later_command(count: usize, name: &[u8]) -> Command
-    ensures answer { λ r. ⌜ ((a b : List ℕ) → meaning r a b ≡ askedOf laterWords (now (name .entry)) (arguments count a b)) ⌝ }
+fn later_command(count: usize, name: &[u8], first: &[u8]) -> Command
+    ensures answer { λ r. ⌜ ((b : List ℕ) → meaning r (now (first .entry)) b ≡ askedOf laterWords (now (name .entry)) (arguments count (now (first .entry)) b)) ⌝ }
 {
     if is_same(name, b"rules") {
         return with_one(count, Command::One(Reply::Rules));
+    }
+    if is_same(name, b"count") {
+        return with_one(count, count_asked(first));
     }
     Command::One(Reply::Usage)
 }
@@ -115,5 +145,5 @@ pub fn command_of(count: usize, name: &[u8], first: &[u8]) -> Command
     if is_same(name, b"compare") {
         return with_two(count - 1, Command::One(Reply::Compare));
     }
-    later_command(count - 1, name)
+    later_command(count - 1, name, first)
 }

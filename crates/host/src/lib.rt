@@ -5,6 +5,7 @@ mod numbers;
 use crate::numbers::compared_number;
 use crate::numbers::judged_number;
 use crate::numbers::written_number;
+use beginnings::listing_counted;
 use comparison::compare;
 use conversion::to_new;
 use conversion::to_old;
@@ -24,6 +25,8 @@ ghost use Rattle.graph_file.specs.NameSought.{nameSought};
 ghost use Rattle.path_row.specs.Lent.{stepsLeft};
 ghost use Rattle.comparison.specs.Compare.{compareAnswer};
 ghost use Rattle.resolution.specs.Listing.{listingFor, summaryFor};
+ghost use Rattle.beginnings.specs.Beginnings.{countFor};
+ghost use Rattle.beginnings.specs.Counted.{followedLeaves};
 ghost use Rattle.judge.specs.Judge.{judgeAnswer};
 ghost use Rattle.conversion.specs.Conversion.{oldOf, newOf};
 ghost use Rattle.ruled.specs.Ruled.{ruledOf};
@@ -64,9 +67,26 @@ pub extern "C" fn tewhoranu_name_sought(text: &[u8], query: usize, place: &mut u
     (to - from) as u64
 }
 
-// A query's listing, written into the lent buffer.
+// A query's listing, written into the lent buffer, and beside it the count of its lawful beginnings.
 #[no_mangle]
-pub extern "C" fn tewhoranu_listing(text: &[u8], query: usize, out: &mut [u8]) -> u64
+pub extern "C" fn tewhoranu_listing(
+    text: &[u8],
+    query: usize,
+    out: &mut [u8],
+    followed: &mut u64,
+) -> u64
+    ensures answer { λ r. ⌜ r ≡ written (answer (listingFor (now (text .entry)) query) (length (now (out .entry)))) ⌝ }
+    ensures memory { λ _. ⌜ now (out .exit) ≡ leaves (listingFor (now (text .entry)) query) (now (out .entry)) ⌝ }
+    ensures followed { λ _. ⌜ now (followed .exit) ≡
+        followedLeaves (answer (listingFor (now (text .entry)) query) (length (now (out .entry))))
+        (countFor (now (text .entry)) query) (now (followed .entry)) ⌝ }
+{
+    written_number(listing_counted(text, query, out, followed))
+}
+
+// The listing alone, for a host that does not want to wait for the count.
+#[no_mangle]
+pub extern "C" fn tewhoranu_listing_plain(text: &[u8], query: usize, out: &mut [u8]) -> u64
     ensures answer { λ r. ⌜ r ≡ written (answer (listingFor (now (text .entry)) query) (length (now (out .entry)))) ⌝ }
     ensures memory { λ _. ⌜ now (out .exit) ≡ leaves (listingFor (now (text .entry)) query) (now (out .entry)) ⌝ }
 {

@@ -9,6 +9,7 @@ mod sums;
 mod text;
 mod walks;
 
+pub use ask::ask_of;
 pub use lists::Listed;
 pub use lists::listing;
 pub use lists::listing_of;

@@ -2,6 +2,7 @@
 // became of the memory lent to it. The programs in tests/trials write the cases and, by a reference
 // of their own, the output that is due.
 mod converted;
+mod counted;
 mod edges;
 mod files;
 mod input;
@@ -39,6 +40,8 @@ fn case(h: Head, body: &[u8], given: &mut [u64], table: &mut [u64], out: &mut [u
         b'l' => listings::listed(text, number, room, out),
         b's' => listings::summed(text, room, out),
         b'a' => listings::whole(text, number, room, out),
+        b'b' => counted::counting(text, number),
+        b'f' => counted::followed(text, number, room, out),
         b'e' => edges::finding(text, number, given),
         b'x' => ruled_files::ruling(text, first, room, out),
         b'o' => converted::converting(Form::Old, text, room, out),

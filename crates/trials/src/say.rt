@@ -119,6 +119,23 @@ pub fn records(n: usize, m: usize) {
     line();
 }
 
+// How many lawful beginnings there are.
+pub fn count(n: u64) {
+    word(b"count ");
+    number(n);
+}
+
+// The same beside a listing, and where the lent number is as it was.
+pub fn beside(n: u64) {
+    word(b"number ");
+    number(n);
+    line();
+}
+
+pub fn number_kept() {
+    word(b"number kept\n");
+}
+
 // A text of at most 4,096 bytes as it is.
 pub fn short(s: &[u8]) {
     if s.len() <= 4096 {

@@ -18,6 +18,8 @@ pub const STEPS: usize = 63;
 pub const SUMMARY: usize = 64;
 /// Bytes that the program lends for a listing.
 pub const LISTING: usize = 65_536;
+/// The number of lawful beginnings where there are so many or more.
+pub const FOLLOWED: u64 = 1_000_000_000;
 /// The forms of file, as the first cell of a graph table has them: names alone, which are of the
 /// kind `v`, or kinds and names; with kinds and names also a turn for each edge, which is 0 in the
 /// other forms.
@@ -25,7 +27,7 @@ pub const OLD_FORM: u64 = 0;
 pub const WITH_KINDS: u64 = 1;
 pub const WITH_TURNS: u64 = 2;
 /// Stack that serves every call, in bytes: counted, not proved.
-pub const STACK: usize = 3 * 512 * 1024;
+pub const STACK: usize = 4 * 512 * 1024;
 
 /// A step of a path: the label's letter and the scope that it comes to.
 #[repr(C)]
@@ -129,8 +131,21 @@ mod library {
         pub fn tewhoranu_read(text: *const u8, text_length: usize, table: *mut u64, table_length: usize) -> u64;
         pub fn tewhoranu_write(table: *const u64, table_length: usize, out: *mut u8, out_length: usize) -> u64;
         pub fn tewhoranu_name_sought(text: *const u8, text_length: usize, query: usize, place: *mut u64) -> u64;
-        pub fn tewhoranu_listing(text: *const u8, text_length: usize, query: usize, out: *mut u8, out_length: usize)
-            -> u64;
+        pub fn tewhoranu_listing(
+            text: *const u8,
+            text_length: usize,
+            query: usize,
+            out: *mut u8,
+            out_length: usize,
+            followed: *mut u64,
+        ) -> u64;
+        pub fn tewhoranu_listing_plain(
+            text: *const u8,
+            text_length: usize,
+            query: usize,
+            out: *mut u8,
+            out_length: usize,
+        ) -> u64;
         pub fn tewhoranu_judge(
             text: *const u8,
             text_length: usize,
@@ -212,10 +227,21 @@ pub fn name_sought(text: &[u8], query: usize) -> Option<&[u8]> {
     (length != 0).then(|| &text[place as usize..][..length as usize])
 }
 
-/// Writes a query's listing and answers how many bytes were written.
-pub fn listing(text: &[u8], query: usize, out: &mut [u8]) -> Result<usize, Refusal> {
+/// Writes a query's listing and answers how many bytes were written, and how many lawful beginnings
+/// the query follows, `FOLLOWED` where there are so many or more.
+pub fn listing(text: &[u8], query: usize, out: &mut [u8]) -> Result<(usize, u64), Refusal> {
+    let mut followed = 0;
     // SAFETY: as said above.
-    written(unsafe { library::tewhoranu_listing(text.as_ptr(), text.len(), query, out.as_mut_ptr(), out.len()) })
+    let answer = unsafe {
+        library::tewhoranu_listing(text.as_ptr(), text.len(), query, out.as_mut_ptr(), out.len(), &mut followed)
+    };
+    written(answer).map(|length| (length, followed))
+}
+
+/// Writes a query's listing, without that number, and answers how many bytes were written.
+pub fn listing_plain(text: &[u8], query: usize, out: &mut [u8]) -> Result<usize, Refusal> {
+    // SAFETY: as said above.
+    written(unsafe { library::tewhoranu_listing_plain(text.as_ptr(), text.len(), query, out.as_mut_ptr(), out.len()) })
 }
 
 /// Judges a path row for a query; its steps go into the table.

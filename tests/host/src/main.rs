@@ -9,6 +9,7 @@
 mod calls;
 mod converting;
 mod files;
+mod followed;
 mod programs;
 
 use calls::{Tally, Test};
@@ -26,12 +27,14 @@ fn differ(call: &str, text: &[u8], detail: String) -> ! {
 }
 
 /// What each call must have answered at least once; and accepted files of each form.
-const DUE: [(&str, &[&str]); 12] = [
+const DUE: [(&str, &[&str]); 14] = [
     ("form", &["0", "1", "2"]),
     ("read", &["written", "refused 1", "refused 2", "refused 3", "refused 4", "refused 5", "refused 6", "refused 9"]),
     ("write", &["written", "refused 2", "refused 3", "refused 4", "refused 5", "refused 6", "refused 9"]),
     ("name_sought", &["found", "none"]),
     ("listing", &["written", "refused 1", "refused 2", "refused 3", "refused 4", "refused 5", "refused 6", "refused 7", "refused 9"]),
+    ("listing_plain", &["written", "refused 1", "refused 2", "refused 3", "refused 4", "refused 5", "refused 6", "refused 7", "refused 9"]),
+    ("followed", &["none", "one", "some", "the most"]),
     ("judge", &["visible", "shadowed 0", "shadowed 1", "shadowed 2", "unreached", "refused 1", "refused 2", "refused 7", "refused 8", "refused 9"]),
     ("compare", &["first 0", "first 1", "second 0", "second 1", "neither 0", "neither 1", "neither 2", "refused 1", "refused 2", "refused 8", "refused 9"]),
     ("summary", &["written", "refused 1", "refused 2", "refused 3", "refused 4", "refused 5", "refused 6", "refused 9"]),
@@ -59,6 +62,12 @@ fn run(args: &[String]) {
     for seed in 0..files {
         let text = file(&mut Rng::new(1000 + seed as u64));
         test.text(&text);
+    }
+    for gym in gyms {
+        let text = fs::read(gym).unwrap_or_else(|e| panic!("{gym}: {e}"));
+        for query in 0..3 {
+            test.followed(&text, query);
+        }
     }
     for (call, answers) in DUE {
         for answer in answers {

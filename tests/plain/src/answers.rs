@@ -158,6 +158,13 @@ pub fn listing(text: &[u8], query: usize, out: &mut [u8]) -> Result<usize, Refus
     put(&listing, out)
 }
 
+/// How many lawful beginnings a query has, 1,000,000,000 where there are more.
+pub fn beginnings(text: &[u8], query: usize) -> Result<u64, Refusal> {
+    let gym = Gym::parse(text)?;
+    let query = *gym.queries.get(query).ok_or(7)?;
+    Ok(Search::new(&Rules::new(&gym), query.start, query.name).beginnings())
+}
+
 pub fn summary(text: &[u8], out: &mut [u8]) -> Result<usize, Refusal> {
     let gym = Gym::parse(text)?;
     let rules = Rules::new(&gym);

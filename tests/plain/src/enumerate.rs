@@ -139,19 +139,18 @@ impl Graph {
         paths
     }
 
-    fn lawful(&self, path: &Path) -> bool {
+    /// The state that a path's labels lead to.
+    fn state(&self, path: &Path) -> Option<u8> {
         let mut state = 0;
         for step in &path.steps {
-            match self
-                .transitions
-                .iter()
-                .find(|t| t.0 == state && t.1 == step.0)
-            {
-                Some(t) => state = t.2,
-                None => return false,
-            }
+            let mut rows = self.transitions.iter();
+            state = rows.find(|t| t.0 == state && t.1 == step.0)?.2;
         }
-        self.accepts.contains(&state)
+        Some(state)
+    }
+
+    fn lawful(&self, path: &Path) -> bool {
+        self.state(path).is_some_and(|q| self.accepts.contains(&q))
     }
 
     fn marks(&self, scope: usize, name: &Name) -> Vec<u64> {
@@ -263,6 +262,42 @@ impl Graph {
             }
         }
         graph
+    }
+
+    /// Can transitions alone lead from a state to acceptance?
+    fn leads_on(&self, state: u8) -> bool {
+        let mut met = vec![state];
+        let mut at = 0;
+        while at < met.len() {
+            for t in &self.transitions {
+                if t.0 == met[at] && !met.contains(&t.2) {
+                    met.push(t.2);
+                }
+            }
+            at += 1;
+        }
+        met.iter().any(|q| self.accepts.contains(q))
+    }
+
+    /// Is there a step of p where r, with the same steps before, goes on by a preferred one, or ends
+    /// where that is preferred?
+    fn cuts_a_step(&self, r: &Path, p: &Path) -> bool {
+        (0..p.steps.len()).any(|i| {
+            let at = if i == 0 { p.start } else { p.steps[i - 1].1 };
+            r.steps.get(..i) == Some(&p.steps[..i])
+                && self.preferred(at, r.steps.get(i).copied(), Some(p.steps[i]))
+        })
+    }
+
+    /// The lawful beginnings of a query (02, K11).
+    pub fn beginnings(&self, start: usize, name: &Name) -> Vec<Path> {
+        let reached = self.reached(start, name);
+        let mut paths = self.paths(start);
+        paths.retain(|p| {
+            self.state(p).is_some_and(|q| self.leads_on(q))
+                && !reached.iter().any(|r| self.cuts_a_step(r, p))
+        });
+        paths
     }
 
     pub fn decisive(&self, start: usize, name: &Name, scope: usize, end: Option<u8>) -> bool {

@@ -3,6 +3,8 @@
 
 use crate::gym::{Edge, Gym, Name, STOP};
 
+pub mod beginnings;
+
 const NONE: u8 = 255;
 
 /// Places, that is scopes, by state.

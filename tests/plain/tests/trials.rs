@@ -433,3 +433,43 @@ fn rows() {
     assert_eq!(compared("1 2", "1 2P1", 0), Err(9));
     assert_eq!(compared("1 2", "1 2P", 0), Err(8));
 }
+
+/// The number of lawful beginnings (02, K11).
+#[test]
+fn beginnings() {
+    let count = |text: &str, query| answers::beginnings(text.as_bytes(), query);
+    let text = lines(EXAMPLE);
+    let due = [Ok(1), Ok(2), Ok(2), Err(7)];
+    assert!((0..4).all(|query| count(&text, query) == due[query]));
+    assert_eq!(count(&text[1..], 3), Err(2));
+    assert_eq!(count(&example("accept / 0 / 1 / ", "accept / "), 0), Ok(0));
+    // without the lane's own name the wall's is met, and not gone beyond; without any, all is
+    let wall = "2 service 21 / ";
+    assert_eq!(count(&example(wall, ""), 0), Ok(3));
+    assert_eq!(
+        count(&example("1 service 10 / 2 service 21 / ", ""), 0),
+        Ok(4)
+    );
+    let chain: String = (0..63).map(|s| format!("{s} P {} / ", s + 1)).collect();
+    let along = |labels: &str, rules: &str, edges: &str| {
+        lines(&format!(
+            "label / {labels}less more / state label next / {rules}accept / 0 / scopes / 64 / from label to / {edges}at name mark / \
+            at open / start seek / 0 a / "
+        ))
+    };
+    assert_eq!(count(&along("P / ", "0 P 0 / ", &chain), 0), Ok(64));
+    let ladder = |rungs: usize| {
+        let edges: String = (0..rungs)
+            .map(|s| format!("{s} I {0} / {s} P {0} / ", s + 1))
+            .collect();
+        count(&along("I / P / ", "0 I 0 / 0 P 0 / ", &edges), 0)
+    };
+    assert_eq!(ladder(28), Ok((1 << 29) - 1));
+    assert_eq!(ladder(29), Ok(1_000_000_000));
+    // the later import leads to the name and cuts the earlier, and imports cut the parent
+    let both = "3 v hours 30 / 4 v hours 40 / ";
+    let turned = |edges, declared| count(&two_imports(edges, declared, ""), 0);
+    assert_eq!(turned("2 I 1 3 / 2 I 2 4 / 2 P 0 1 / ", both), Ok(2));
+    assert_eq!(turned("2 I 1 3 / 2 I 1 4 / 2 P 0 1 / ", both), Ok(3));
+    assert_eq!(turned("2 I 1 3 / 2 I 2 4 / 2 P 0 1 / ", ""), Ok(4));
+}

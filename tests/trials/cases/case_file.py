@@ -12,6 +12,8 @@ them are its text, the next ROW its first path row, and the rest its second.
   l  the listing of query NUMBER of the text, in a lent buffer of ROOM bytes
   s  the summary of the text, in a lent buffer of ROOM bytes
   e  the text is cells in hexadecimal, edge rows: where the rows stand that leave scope NUMBER
+  b  how many lawful beginnings query NUMBER of the text has
+  f  the same beside the listing of query NUMBER of the text, in a lent buffer of ROOM bytes
   x  the text with the path rules of the expression that is the first row, in a lent buffer of ROOM bytes
   a  the listings of the first NUMBER queries of the text and then its summary, each in a lent buffer of ROOM bytes
   o  the text is converted to the old form into a lent buffer of ROOM bytes, and what comes out to the form with kinds
@@ -19,7 +21,7 @@ them are its text, the next ROW its first path row, and the rest its second.
 """
 
 # the cases whose text is a gym file's, those of converting left out
-OF_FILES = b"rncjlsa"
+OF_FILES = b"rncjlsa"  # counts, b and f, have large files of their own
 
 CASES = []
 TITLES = set()

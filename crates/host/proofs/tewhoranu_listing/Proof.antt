@@ -1,3 +1,5 @@
+-- `tewhoranu_listing` meets its contract: the answer by its number, and what `listing_counted`
+-- leaves. Assumes nothing.
 use mathlib.Core.Path.{sym, ap, subst, _∙_}
 use native.Mathlib.Omega.{arith}
 use lib.ListN.{length}
@@ -6,23 +8,19 @@ use Rattle.host.proofs.NumberLaws.{answer-sized}
 use borrow.Author.Needs.{needs}
 use Rattle.host.proofs.tewhoranu_listing.Statement.{statement}
 use Rattle.host.proofs.tewhoranu_listing.Tie as tie
-use Rattle.host.proofs.tewhoranu_listing.Reads as reads
-use Rattle.host.proofs.tewhoranu_listing.Lts as lts
-use Rattle.host.proofs.numbers.written_number.Reads as written-number-reads
-use Rattle.resolution.proofs.listing.Reads as listing-reads
 
-listing-requires : tie.Need-listing-requires
-listing-requires c κs = search needs
+listing-counted-requires : tie.Need-listing-counted-requires
+listing-counted-requires c κs = search needs
 
 written-number-requires : tie.Need-written-number-requires
-written-number-requires c κs = subst Sized (sym (c .before .before .listing .ensures .0)) (answer-sized _ (length (c .before .before .before .before .before .before .args .out .now)) (omega (arith, c .before .before .before .before .before .before .good .1 .1 .0 .1)))
+written-number-requires c κs = subst Sized (sym (c .before .before .listing-counted .ensures .0)) (answer-sized _ (length (c .before .before .before .before .before .before .before .args .out .now)) (omega (arith, c .before .before .before .before .before .before .before .good .1 .1 .0 .1)))
 
 same-length : tie.Need-same-length
 same-length c = search needs
 
 returns : tie.Need-returns
-returns c = (c .written-number .ensures ∙ ap written (c .before .before .before .listing .ensures .0), c .before .before .before .listing .ensures .1)
+returns c = let l = c .before .before .before .listing-counted .ensures in (c .written-number .ensures ∙ ap written (l .0), (l .1 .0, l .1 .1))
 
 pub tewhoranu-listing-spec : {M : Type 1} → statement M
 tewhoranu-listing-spec =
-    tie.close (tie.spec listing-requires written-number-requires same-length returns)
+    tie.close (tie.spec listing-counted-requires written-number-requires same-length returns)

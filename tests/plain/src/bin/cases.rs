@@ -201,6 +201,22 @@ fn shown(verb: &str, room: usize, put: impl Fn(&mut [u8]) -> Result<usize, u8>) 
     }
 }
 
+fn counted(text: &[u8], query: usize) -> String {
+    match answers::beginnings(text, query) {
+        Err(number) => format!("refused {number}\n"),
+        Ok(count) => format!("count {count}\n"),
+    }
+}
+
+/// A query's listing, and the number beside it, which a refusal leaves as it was.
+fn followed(text: &[u8], query: usize, room: usize) -> String {
+    let listed = shown("listed", room, |out| answers::listing(text, query, out));
+    match answers::beginnings(text, query) {
+        Ok(count) if !listed.starts_with("refused") => listed + &format!("number {count}\n"),
+        _ => listed + "number kept\n",
+    }
+}
+
 fn main() -> io::Result<()> {
     let mut input = Vec::new();
     io::stdin().lock().read_to_end(&mut input)?;
@@ -236,6 +252,8 @@ fn main() -> io::Result<()> {
             "c" => compare(text, first, second, number, room),
             "l" => listing(number),
             "s" => summary(),
+            "b" => counted(text, number),
+            "f" => followed(text, number, room),
             "o" => convert(text, room, answers::to_old, answers::to_new),
             "k" => convert(text, room, answers::to_new, answers::to_old),
             "x" => shown("ruled", room, |out| answers::rules(text, first, out)),

@@ -1,8 +1,8 @@
 //! Holds the search against the enumerator: `enumerated [COUNT [SEED]]`, 20,000 random gyms if not
 //! said.
 //!
-//! Same listing (entries, found, awaits), the same verdict on random path rows, comparison as the
-//! rules have it, both with their numbers of equal steps; a settled listing stays the same in random completions, and any listing in those
+//! Same listing (entries, found, awaits), the same number of lawful beginnings, the same verdict on
+//! random path rows, comparison as the rules have it, both with their numbers of equal steps; a settled listing stays the same in random completions, and any listing in those
 //! that add at a pair that is not decisive; reading and writing are inverse, on damaged files and
 //! tables too; an old file, the same file with every kind `v` and that with every turn 0 give the
 //! same answers, and convert to one another.
@@ -33,6 +33,11 @@ struct Counts {
     several: usize,
     one_by_more_routes: usize,
     none: usize,
+    beginnings: usize,
+    no_beginning: usize,
+    fewer_beginnings: usize,
+    fewer_beginnings_by_turns: usize,
+    one_edge_a_scope: usize,
     completions: usize,
     completions_at_one_pair: usize,
     visible: usize,
@@ -208,6 +213,33 @@ fn check_listing(
         let more = completion(rng, gym, &sought, &gym.open);
         if more.entries(query.start as usize, &sought) != entries {
             fail(seed, &format!("query {n} is not settled"), text);
+        }
+    }
+}
+
+/// The number of lawful beginnings, and what it is at most.
+fn check_beginnings(seed: usize, text: &[u8], gym: &Gym, n: usize, query: Query, c: &mut Counts) {
+    let (start, sought) = (query.start as usize, name_of(query.name));
+    let due = Graph::of(gym).beginnings(start, &sought).len();
+    if answers::beginnings(text, n) != Ok(due as u64) {
+        fail(seed, &format!("beginnings {n}, due {due}"), text);
+    }
+    let without_order = Graph::of(&free_order(gym)).beginnings(start, &sought);
+    let without_turns = Graph::of(&without_turns(gym)).beginnings(start, &sought);
+    c.beginnings += due;
+    c.no_beginning += usize::from(due == 0);
+    c.fewer_beginnings += usize::from(due < without_order.len());
+    c.fewer_beginnings_by_turns += usize::from(due < without_turns.len());
+    let occurs = |label| gym.transitions.iter().any(|t| t.label == label);
+    let leaving = |s| move |e: &&gym::Edge| e.from == s && occurs(e.label);
+    if (0..gym.scopes).all(|s| gym.edges.iter().filter(leaving(s)).count() < 2) {
+        c.one_edge_a_scope += 1;
+        if due > gym.scopes as usize {
+            fail(
+                seed,
+                &format!("{due} beginnings along one edge a scope"),
+                text,
+            );
         }
     }
 }
@@ -460,6 +492,7 @@ fn check(seed: usize, c: &mut Counts) {
     let gym = Gym::parse(&text).unwrap_or_else(|n| fail(seed, &format!("refused {n}"), &text));
     for (n, &query) in gym.queries.iter().enumerate() {
         check_listing(seed, &mut rng, &text, &gym, n, query, c);
+        check_beginnings(seed, &text, &gym, n, query, c);
         check_rows(seed, &mut rng, &text, &gym, n, query, c);
         if gym::pack(gym::name_sought(&text, n)) != query.name.text {
             fail(seed, "name sought", &text);
@@ -477,7 +510,9 @@ fn check(seed: usize, c: &mut Counts) {
         }
     }
     let past = gym.queries.len();
-    if answers::listing(&text, past, &mut []) != Err(7) || !gym::name_sought(&text, past).is_empty()
+    if answers::listing(&text, past, &mut []) != Err(7)
+        || answers::beginnings(&text, past) != Err(7)
+        || !gym::name_sought(&text, past).is_empty()
     {
         fail(seed, "a query number past the queries", &text);
     }
@@ -499,4 +534,12 @@ fn main() {
         check(n, &mut counts);
     }
     println!("{count} gyms agree\n{counts:#?}");
+    // so many gyms have each kind of query that the count is to be tried on
+    let met = [
+        counts.no_beginning,
+        counts.fewer_beginnings,
+        counts.fewer_beginnings_by_turns,
+        counts.one_edge_a_scope,
+    ];
+    assert!(count < 10_000 || met.iter().all(|&n| n > 0), "{met:?}");
 }

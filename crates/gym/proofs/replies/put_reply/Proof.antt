@@ -1,6 +1,6 @@
 -- `gym::replies::put_reply` puts each reply, for its stream. Assumes nothing.
 use borrow.Author.Needs.{needs}
-use Rattle.gym.specs.declared.words.Reply.the-variants.{Old, New, Judge, Compare, Rules, Usage}
+use Rattle.gym.specs.declared.words.Reply.the-variants.{Old, New, Judge, Compare, Rules, Count, Usage}
 use Rattle.gym.specs.Said.{answered}
 use Rattle.gym.specs.Handed.{replyMeaning}
 use Rattle.gym.proofs.ReplyLaws.{reply-is}
@@ -36,6 +36,12 @@ enum-told-4 c = search needs
 
 put-rules-requires : tie.Need-put-rules-requires
 put-rules-requires c κs = search needs
+
+enum-known-q-2 : tie.Need-enum-known-q-2
+enum-known-q-2 c = search needs
+
+put-count-requires : tie.Need-put-count-requires
+put-count-requires c κs = search needs
 
 enum-told-5 : tie.Need-enum-told-5
 enum-told-5 c = search needs
@@ -83,7 +89,14 @@ same-length-6 c = search needs
 
 returns-6 : tie.Need-returns-6
 unfolding answered replyMeaning
-returns-6 c = let a = c .before .before .before .before .before .before .before .before .before .before .args in reply-is _ _ _ (a .q) Usage (a .first .now) (a .second .now) (a .text .now) (c .before .before .before .before .enum-told5 .given .1) (c .before .before .put-usage .ensures)
+returns-6 c = let a = c .before .before .before .before .before .before .before .before .before .before .before .args in reply-is _ _ _ (a .q) (Count _) (a .first .now) (a .second .now) (a .text .now) (c .before .before .before .before .before .q2 .given .1) (c .before .before .put-count .ensures)
+
+same-length-7 : tie.Need-same-length-7
+same-length-7 c = search needs
+
+returns-7 : tie.Need-returns-7
+unfolding answered replyMeaning
+returns-7 c = let a = c .before .before .before .before .before .before .before .before .before .before .args in reply-is _ _ _ (a .q) Usage (a .first .now) (a .second .now) (a .text .now) (c .before .before .before .before .enum-told5 .given .1) (c .before .before .put-usage .ensures)
 
 pub put-reply-spec : {M : Type 1} → statement M
 put-reply-spec =
@@ -99,6 +112,8 @@ put-reply-spec =
     put-compared-requires
     enum-told-4
     put-rules-requires
+    enum-known-q-2
+    put-count-requires
     enum-told-5
     put-usage-requires
     same-length
@@ -112,4 +127,6 @@ put-reply-spec =
     same-length-5
     returns-5
     same-length-6
-    returns-6)
+    returns-6
+    same-length-7
+    returns-7)

@@ -1,7 +1,7 @@
 -- `gym::replies::put_usage` puts the usage text, which is made of the words. Assumes nothing.
 use borrow.Author.Needs.{needs}
 use mathlib.Core.List.{flatMap}
-use Rattle.gym.specs.Words.{listWord, oldWord, newWord, judgeWord, compareWord, rulesWord, laterWords, words}
+use Rattle.gym.specs.Words.{listWord, oldWord, newWord, judgeWord, compareWord, rulesWord, countWord, laterWords, words}
 use Rattle.gym.specs.Said.{usageHead, usageLine, usageText}
 use Rattle.gym.proofs.ReplyLaws.{usage-replied}
 use Rattle.gym.proofs.replies.put_usage.Statement.{statement}
@@ -17,7 +17,7 @@ same-length : tie.Need-same-length
 same-length c = search needs
 
 returns : tie.Need-returns
-unfolding usageText usageHead flatMap words usageLine listWord oldWord newWord judgeWord compareWord rulesWord laterWords
+unfolding usageText usageHead flatMap words usageLine listWord oldWord newWord judgeWord compareWord rulesWord countWord laterWords
 returns c = usage-replied _ _ _ (c .before .before .put-bytes .ensures)
 
 pub put-usage-spec : {M : Type 1} → statement M

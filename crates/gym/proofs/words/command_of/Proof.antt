@@ -105,7 +105,7 @@ later-command-requires c κs = search needs
 
 returns-7 : tie.Need-returns-7
 unfolding meaning replyMeaning listWord oldWord newWord judgeWord compareWord
-returns-7 c b = let a = c .before .before .before .before .before .before .before .before .before .before .before .before .before .before .before .before .before .before .before .args in c .later-command .ensures (a .first .now) b ∙ sym (as-later (a .count) (a .name .now) (a .first .now) b (λ z. omega arith) (sym (c .before .before .before .before .before .before .before .before .before .before .before .before .before .if2 .left) ∙ c .before .before .before .before .before .before .before .before .before .before .before .before .before .before .is-same .ensures) (sym (c .before .before .before .before .before .before .before .before .before .before .if3 .left) ∙ c .before .before .before .before .before .before .before .before .before .before .before .is-same2 .ensures) (sym (c .before .before .before .before .before .before .before .if4 .left) ∙ c .before .before .before .before .before .before .before .before .is-same3 .ensures) (sym (c .before .before .before .before .if5 .left) ∙ c .before .before .before .before .before .is-same4 .ensures) (sym (c .before .if6 .left) ∙ c .before .before .is-same5 .ensures))
+returns-7 c b = let a = c .before .before .before .before .before .before .before .before .before .before .before .before .before .before .before .before .before .before .before .args in c .later-command .ensures b ∙ sym (as-later (a .count) (a .name .now) (a .first .now) b (λ z. omega arith) (sym (c .before .before .before .before .before .before .before .before .before .before .before .before .before .if2 .left) ∙ c .before .before .before .before .before .before .before .before .before .before .before .before .before .before .is-same .ensures) (sym (c .before .before .before .before .before .before .before .before .before .before .if3 .left) ∙ c .before .before .before .before .before .before .before .before .before .before .before .is-same2 .ensures) (sym (c .before .before .before .before .before .before .before .if4 .left) ∙ c .before .before .before .before .before .before .before .before .is-same3 .ensures) (sym (c .before .before .before .before .if5 .left) ∙ c .before .before .before .before .before .is-same4 .ensures) (sym (c .before .if6 .left) ∙ c .before .before .is-same5 .ensures))
 
 pub command-of-spec : {M : Type 1} → statement M
 command-of-spec =

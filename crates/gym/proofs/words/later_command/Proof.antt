@@ -1,9 +1,9 @@
 -- `gym::words::later_command` looks for the word in their sequence. Assumes nothing.
 use borrow.Author.Needs.{needs}
 use mathlib.Core.Path.{sym, _∙_}
-use Rattle.gym.specs.Words.{rulesWord}
+use Rattle.gym.specs.Words.{countAsked, rulesWord, countWord}
 use Rattle.gym.specs.Handed.{meaning, replyMeaning}
-use Rattle.gym.proofs.WordLaws.{as-rules, as-unknown}
+use Rattle.gym.proofs.WordLaws.{one-same, as-rules, as-count, as-unknown}
 use Rattle.gym.proofs.words.later_command.Statement.{statement}
 use Rattle.gym.proofs.words.later_command.Tie as tie
 
@@ -18,11 +18,27 @@ with-one-requires c κs = search needs
 
 returns : tie.Need-returns
 unfolding meaning replyMeaning rulesWord
-returns c a b = c .with-one .ensures a b ∙ sym (as-rules (c .before .before .before .before .before .args .name .now) _ (sym (c .before .if1 .taken) ∙ c .before .before .is-same .ensures))
+returns c b = let a = c .before .before .before .before .before .before .args in c .with-one .ensures (a .first .now) b ∙ sym (as-rules (a .name .now) _ (sym (c .before .if1 .taken) ∙ c .before .before .is-same .ensures))
+
+slice-aggregate-is-same-2 : tie.Need-slice-aggregate-is-same-2
+slice-aggregate-is-same-2 c = search needs
+
+is-same-requires-2 : tie.Need-is-same-requires-2
+is-same-requires-2 c κs = search needs
+
+count-asked-requires : tie.Need-count-asked-requires
+count-asked-requires c κs = search needs
+
+with-one-requires-2 : tie.Need-with-one-requires-2
+with-one-requires-2 c κs = search needs
 
 returns-2 : tie.Need-returns-2
-unfolding meaning replyMeaning rulesWord
-returns-2 c a b = sym (as-unknown (c .before .before .before .before .args .name .now) _ (sym (c .if1 .left) ∙ c .before .is-same .ensures))
+unfolding rulesWord countWord
+returns-2 c b = let a = c .before .before .before .before .before .before .before .before .before .before .args in c .with-one2 .ensures (a .first .now) b ∙ one-same _ (a .first .now) b (λ x. meaning _ x b) countAsked (c .before .count-asked .ensures b) ∙ sym (as-count (a .name .now) _ (sym (c .before .before .before .before .before .if1 .left) ∙ c .before .before .before .before .before .before .is-same .ensures) (sym (c .before .before .if2 .taken) ∙ c .before .before .before .is-same2 .ensures))
+
+returns-3 : tie.Need-returns-3
+unfolding meaning replyMeaning rulesWord countWord
+returns-3 c b = let a = c .before .before .before .before .before .before .before .before .args in sym (as-unknown (a .name .now) _ (sym (c .before .before .before .if1 .left) ∙ c .before .before .before .before .is-same .ensures) (sym (c .if2 .left) ∙ c .before .is-same2 .ensures))
 
 pub later-command-spec : {M : Type 1} → statement M
 later-command-spec =
@@ -32,4 +48,9 @@ later-command-spec =
     is-same-requires
     with-one-requires
     returns
-    returns-2)
+    slice-aggregate-is-same-2
+    is-same-requires-2
+    count-asked-requires
+    with-one-requires-2
+    returns-2
+    returns-3)

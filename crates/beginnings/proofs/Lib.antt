@@ -1,0 +1,20 @@
+-- Laws of the count and the theorems that tie it to the rules. Assumes nothing.
+pub mod StepCuts
+pub mod Listed
+pub mod Places
+pub mod Texts
+pub mod Calls
+pub mod Examples
+pub mod Promises
+pub mod Few
+pub mod Narrow
+pub mod Fewer
+pub mod Tells
+pub mod NodeLaws
+pub mod NearLaws
+pub mod MemoLaws
+pub mod Recall
+pub mod CountLaws
+pub mod Taken
+pub mod Start
+pub mod UncutLaws

@@ -1,0 +1,65 @@
+//! The listing with its number of lawful beginnings, against the plain Rust implementation: through
+//! the wrapper, and by the library's own call, since the wrapper does not show what a refusal leaves.
+
+use crate::calls::{length, lent, number, Test};
+use crate::differ;
+
+extern "C" {
+    fn tewhoranu_listing(
+        text: *const u8,
+        text_length: usize,
+        query: usize,
+        out: *mut u8,
+        out_length: usize,
+        followed: *mut u64,
+    ) -> u64;
+}
+
+/// The number's name in the tally.
+fn size(followed: u64) -> &'static str {
+    match followed {
+        0 => "none",
+        1 => "one",
+        tewhoranu::FOLLOWED => "the most",
+        _ => "some",
+    }
+}
+
+impl Test {
+    /// A listing with its number: the same answer, memory and number by both ways, the number left
+    /// where the listing is refused.
+    pub fn followed(&mut self, text: &[u8], query: usize) {
+        let due = plain::answers::listing(text, query, &mut vec![0; tewhoranu::LISTING]);
+        let n = length(&mut self.rng, due.unwrap_or(60), 2000);
+        let memory = lent(&mut self.rng, n, |i| i as u8);
+        let mut out = memory.clone();
+        let theirs = plain::answers::listing(text, query, &mut out);
+        let count = theirs.and_then(|n| plain::answers::beginnings(text, query).map(|count| (n, count)));
+
+        let mut ours = memory.clone();
+        let answer = tewhoranu::listing(text, query, &mut ours).map_err(number);
+        if answer != count || ours != out {
+            differ("listing", text, format!("{answer:?} and not {count:?} for query {query}, with {n} lent"));
+        }
+        let before = self.rng.below(5) as u64;
+        let (mut ours, mut followed) = (memory, before);
+        // SAFETY: the pointers and lengths are those of slices and of a number, apart from each other.
+        let answer = unsafe {
+            tewhoranu_listing(text.as_ptr(), text.len(), query, ours.as_mut_ptr(), ours.len(), &mut followed)
+        };
+        let due = match count {
+            Ok((n, count)) => (64 + n as u64, count),
+            Err(number) => (u64::from(number), before),
+        };
+        if (answer, followed) != due || ours != out {
+            differ("listing", text, format!("{answer} with {followed} and not {due:?} for query {query}"));
+        }
+        match count {
+            Ok((_, count)) => {
+                self.tally.count("listing", "written".to_string());
+                self.tally.count("followed", size(count).to_string());
+            }
+            Err(number) => self.tally.count("listing", format!("refused {number}")),
+        }
+    }
+}
