@@ -83,8 +83,9 @@ extern "C" {
 /* Stack that serves every call, in bytes. A walk has at most a frame for each edge and each scope, of about 1,500 and 1,000
  * bytes, and a search that it asks for as many again, of about 750 bytes, above some 120,000 bytes of tables: counted from the
  * library as it is built, not proved. 1.5 MiB are enough for every call but tewhoranu_listing, which behind the listing walks
- * again with a memo of 524,288 bytes below it. The host test runs the files that go deepest on a thread with this much; 640 KiB
- * served them without the count, 900 KiB with it. tewhoranu_rules walks nothing: it holds two tables, some 200,000 bytes. */
+ * again with a memo of 524,288 bytes below it. The host test runs the files that go deepest on a thread with this much; of
+ * them 880 KiB served the one that takes most without the count, 1,390 KiB with it. tewhoranu_rules walks nothing: it holds
+ * two tables, some 200,000 bytes. */
 #define TEWHORANU_STACK (4 * 512 * 1024)
 
 /* A step of a path: the label's letter (A to Z) and the scope that it comes to (0 to 63). */
