@@ -13,9 +13,10 @@ use block::letter;
 use board::name_asked;
 use graph_table::declaration_row;
 use graph_table::declares;
+use path_row::text::put_head;
+use path_row::text::put_step;
 use text_field::number_len;
 use text_field::put_byte;
-use text_field::put_number;
 ghost use mathlib.Core.Path.{_≡_};
 ghost use mathlib.Core.List.{List, [], _∷_};
 ghost use Prim.Native.Nat.{ℕ, _+_, _%_, _<_, _≤_};
@@ -101,8 +102,7 @@ fn put_hop(block: &[u64], x: u64, out: &mut [u8], n: usize) -> usize
     requires block { ⌜ IsBlock (now block) ⌝ }
     ensures written { λ r. ⌜ _≡_ {A = Buf} (now (out .exit), r) (puts (now (out .entry), n) (hopsText (letterBytes (now (block .entry))) (hopOf x ∷ []))) ⌝ }
 {
-    let k = put_byte(out, n, narrow(letter(block, x / 64 % 8)));
-    put_number(out, k, x % 64)
+    put_step(out, n, narrow(letter(block, x / 64 % 8)), x % 64)
 }
 
 // The hops of the path.
@@ -124,16 +124,14 @@ fn put_hops(block: &[u64], path: Path, out: &mut [u8], n: usize) -> usize
     k
 }
 
-// A listing's row: mark, start and hops.
+// A listing's row: a path row and a line feed.
 fn put_row(block: &[u64], path: Path, start: u64, mark: u64, out: &mut [u8], n: usize) -> usize
     requires block { ⌜ IsBlock (now block) ⌝ }
     ensures written { λ r. ⌜ _≡_ {A = Buf} (now (out .exit), r) (puts (now (out .entry), n) (rowText (letterBytes (now (block .entry))) mark start (pathHops path))) ⌝ }
 {
-    let a = put_number(out, n, mark);
-    let b = put_byte(out, a, b' ');
-    let c = put_number(out, b, start);
-    let d = put_hops(block, path, out, c);
-    put_byte(out, d, b'\n')
+    let head = put_head(out, n, mark, start);
+    let end = put_hops(block, path, out, head);
+    put_byte(out, end, b'\n')
 }
 
 // One entry, of the declaration with this mark at this scope: its row is counted, noted, measured
