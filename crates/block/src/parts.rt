@@ -4,7 +4,7 @@ ghost use mathlib.Core.Path.{_≡_};
 ghost use Rattle.block.specs.Block.{packedEdge, scopeOf, labelOf, turnOf, packedBack, backScope, backLabel};
 
 // How many scopes, labels and turns a cell tells apart: as many scopes and labels as a file may
-// have; of turns it has 0 to 99, and with 128 of them a cell fits 16 bits.
+// have; a file's turns are 0 to 99, and with 128 of them a cell fits 16 bits.
 const SCOPE_RANGE: u64 = 64;
 
 const LABEL_RANGE: u64 = 8;

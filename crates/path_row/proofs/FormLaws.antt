@@ -21,7 +21,7 @@ use Rattle.graph_file.specs.File.{isEmpty}
 use Rattle.path_row.specs.declared.form.Step.{Step}
 use Rattle.path_row.specs.declared.form.StepRead.{StepRead}
 use Rattle.path_row.specs.declared.form.StepRead.the-variants.{Taken, NoStep}
-use Rattle.path_row.specs.Form.{PathRow, mostMark, mostScope, mostSteps, mostBytes, atMost, numberUpTo, stepBy, stepHere, stepsOf, afterSteps, stepsWidth, Front, front, startBy, spaceBy, markBy, headHere, rowBy, rowHere, headText, stepText, stepsText, rowText, stepsMade, rowMade, areSteps, isRow, rowWritten}
+use Rattle.path_row.specs.Form.{PathRow, mostMark, mostScope, mostSteps, mostBytes, atMost, numberUpTo, stepBy, stepHere, stepsOf, afterSteps, stepsWidth, Front, front, startBy, spaceBy, markBy, headHere, rowBy, rowHere, frontText, stepText, stepsText, rowText, stepsMade, rowMade, areSteps, isRow, rowWritten}
 use Rattle.path_row.specs.Inverse.{ReadThenWritten, WrittenThenRead, PartsThenRead, lettersIn, scopesIn, ReadThenParts}
 
 -- a number up to a limit
@@ -185,12 +185,12 @@ pub head-off : (m w : ℕ) (s : List ℕ) → startsWith 32 (drop w s) ≡ false
 unfolding markBy spaceBy numberMeaning andThen
 head-off m w s h = rw (h, spaceBy)
 
-head-parts : (m v : ℕ) (t : List ℕ) → headText m v ++ t ≡ numberText m ++ (32 ∷ (numberText v ++ t))
-unfolding headText
+head-parts : (m v : ℕ) (t : List ℕ) → frontText m v ++ t ≡ numberText m ++ (32 ∷ (numberText v ++ t))
+unfolding frontText
 head-parts m v t = append-assoc (numberText m) (32 ∷ numberText v) t
 
 pub record HeadStands (s : List ℕ) (m v w : ℕ) : Type 0 where
-  pub text : s ≡ headText m v ++ drop w s
+  pub text : s ≡ frontText m v ++ drop w s
   pub mark : m ≤ 65535
   pub start : v ≤ 63
   pub place : w ≡ length (numberText m) + 1 + length (numberText v)
@@ -268,7 +268,7 @@ row-of s m v w e n =
     in let p = steps-found mostSteps (drop w s)
     in let t : drop w s ≡ stepsText (stepsOf mostSteps (drop w s)) = p .text ∙ ap (λ (z : List ℕ). stepsText (stepsOf mostSteps (drop w s)) ++ z) n ∙ append-nil (stepsText (stepsOf mostSteps (drop w s)))
     in (
-      sym (h .text ∙ ap (λ (z : List ℕ). headText m v ++ z) t),
+      sym (h .text ∙ ap (λ (z : List ℕ). frontText m v ++ z) t),
       rw (le-leb m 65535 (h .mark), le-leb v 63 (h .start), le-leb (length (stepsOf mostSteps (drop w s))) 63 (p .few)) (p .steps),
     )
 
@@ -303,8 +303,8 @@ space-plain = refl
 
 record HeadBack (m v : ℕ) (t : List ℕ) : Type 0 where
   width : ℕ
-  head : headHere (headText m v ++ t) ≡ done (front m v width)
-  rest : drop width (headText m v ++ t) ≡ t
+  head : headHere (frontText m v ++ t) ≡ done (front m v width)
+  rest : drop width (frontText m v ++ t) ≡ t
 
 head-back : (m v : ℕ) (t : List ℕ) → m ≤ 65535 → v ≤ 63 → isDigit (getD t 0 0) ≡ false → HeadBack m v t
 unfolding headHere startsWith startBy numberMeaning numberPlaced andThen
@@ -324,7 +324,7 @@ head-back m v t h g d =
 
 -- a row that can be written takes at most 256 bytes
 pub row-short : (r : PathRow) → isRow r ≡ true → length (rowText r) ≤ 256
-unfolding isRow headText rowText
+unfolding isRow frontText rowText
 row-short r h =
     let p = both (leb (r .mark) mostMark) (leb (r .start) mostScope && (leb (length (r .steps)) mostSteps && areSteps (r .steps))) h
     in let q = both (leb (r .start) mostScope) (leb (length (r .steps)) mostSteps && areSteps (r .steps)) (p .1)
@@ -333,7 +333,7 @@ row-short r h =
     in let v : r .start ≤ 63 = leb-true (r .start) 63 (q .0)
     in let n : length (r .steps) ≤ 63 = leb-true (length (r .steps)) 63 (u .0)
     in let t : List ℕ = stepsText (r .steps)
-    in omega (arith, length-append (headText (r .mark) (r .start)) t, length-append (numberText (r .mark)) (32 ∷ numberText (r .start)), length-below 4 (r .mark) (omega arith), length-below 1 (r .start) (omega arith), steps-short (r .steps) (u .1))
+    in omega (arith, length-append (frontText (r .mark) (r .start)) t, length-append (numberText (r .mark)) (32 ∷ numberText (r .start)), length-below 4 (r .mark) (omega arith), length-below 1 (r .start) (omega arith), steps-short (r .steps) (u .1))
 
 pub written-then-read : WrittenThenRead
 unfolding rowHere rowBy andThen isRow rowText refuseIf isEmpty

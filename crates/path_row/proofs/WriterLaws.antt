@@ -15,14 +15,14 @@ use Rattle.text_field.specs.Buffer.{Buf, put, puts}
 use Rattle.text_field.proofs.BufferLaws.{puts-step, puts-then, puts-one, puts-none, puts-fits}
 use Rattle.text_field.specs.Outcome.{refused, done, refuseIf}
 use Rattle.path_row.specs.declared.form.Step.{Step}
-use Rattle.path_row.specs.Form.{PathRow, mostScope, headText, stepText, stepsText, rowText, stepsMade, rowMade, areSteps, isRow, rowWritten}
+use Rattle.path_row.specs.Form.{PathRow, mostScope, frontText, stepText, stepsText, rowText, stepsMade, rowMade, areSteps, isRow, rowWritten}
 use Rattle.path_row.proofs.FormLaws.{row-short}
 
 -- mark, space, start
-pub head-put : (b b₁ b₂ b₃ : Buf) (mark start : ℕ) → b₁ ≡ puts b (numberText mark) → b₂ ≡ put b₁ 32 → b₃ ≡ puts b₂ (numberText start)
-    → b₃ ≡ puts b (headText mark start)
-unfolding headText
-head-put b b₁ b₂ b₃ mark start e f g =
+pub front-put : (b b₁ b₂ b₃ : Buf) (mark start : ℕ) → b₁ ≡ puts b (numberText mark) → b₂ ≡ put b₁ 32 → b₃ ≡ puts b₂ (numberText start)
+    → b₃ ≡ puts b (frontText mark start)
+unfolding frontText
+front-put b b₁ b₂ b₃ mark start e f g =
     puts-then b b₁ b₃ (numberText mark) (32 ∷ numberText start) e
     (puts-then b₁ b₂ b₃ (32 ∷ []) (numberText start) (f ∙ puts-one b₁ 32) g)
 
@@ -73,10 +73,10 @@ pub put-last : (b w : Buf) (ls ss : List ℕ) (count i : ℕ) → count ≤ i �
 put-last b w ls ss count i h p = puts-none b (textFrom ls ss count i) (text-none ls ss count i h) ∙ p
 
 -- the head, then the steps
-pub row-put : (b b₁ b₂ : Buf) (mark start count : ℕ) (ls ss : List ℕ) → b₁ ≡ puts b (headText mark start) → b₂ ≡ puts b₁ (stepsText (stepsMade count ls ss))
+pub row-put : (b b₁ b₂ : Buf) (mark start count : ℕ) (ls ss : List ℕ) → b₁ ≡ puts b (frontText mark start) → b₂ ≡ puts b₁ (stepsText (stepsMade count ls ss))
     → b₂ ≡ puts b (rowText (rowMade mark start count ls ss))
 unfolding rowText rowMade
-row-put b b₁ b₂ mark start count ls ss e f = puts-then b b₁ b₂ (headText mark start) (stepsText (stepsMade count ls ss)) e f
+row-put b b₁ b₂ mark start count ls ss e f = puts-then b b₁ b₂ (frontText mark start) (stepsText (stepsMade count ls ss)) e f
 
 -- can a step be written, by its letter and then by its scope
 module _ (t u : Bool) (x : ℕ) (e : t ≡ isCapital x) where

@@ -185,18 +185,18 @@ stepFrom at s = stepMeaning (stepPlaced at (stepHere (drop at s)))
 
 -- The text of a row, a listing's too: mark, space and start, then each step, the label's letter and
 -- the scope.
-unfoldable pub headText : ℕ → ℕ → List ℕ
-headText m v = numberText m ++ (32 ∷ numberText v)
+unfoldable pub frontText : ℕ → ℕ → List ℕ
+frontText mark start = numberText mark ++ (32 ∷ numberText start)
 
 unfoldable pub stepText : ℕ → ℕ → List ℕ
-stepText x v = x ∷ numberText v
+stepText letter scope = letter ∷ numberText scope
 
 unfoldable pub stepsText : List Step → List ℕ
 stepsText [] = []
 stepsText (s ∷ ss) = stepText (s .label) (s .scope) ++ stepsText ss
 
 unfoldable pub rowText : PathRow → List ℕ
-rowText r = headText (r .mark) (r .start) ++ stepsText (r .steps)
+rowText r = frontText (r .mark) (r .start) ++ stepsText (r .steps)
 
 -- a row from its parts: `count` steps, whose letters and scopes stand in two lists; past their ends
 -- stands 0

@@ -3,7 +3,7 @@ use crate::form::MOST_BYTES;
 use crate::form::MOST_MARK;
 use crate::form::MOST_SCOPE;
 use crate::form::MOST_STEPS;
-use crate::text::put_head;
+use crate::text::put_front;
 use crate::text::put_step;
 use text_field::Answer;
 use text_field::byte_at;
@@ -46,8 +46,8 @@ fn put_row(
     ensures written { λ r. ⌜ _≡_ {A = Buf} (now (out .exit), r)
         (puts (now (out .entry), n) (rowText (rowMade mark start count (now (letters .entry)) (now (scopes .entry))))) ⌝ }
 {
-    let head = put_head(out, n, mark, start);
-    put_steps(out, head, letters, scopes, count)
+    let front = put_front(out, n, mark, start);
+    put_steps(out, front, letters, scopes, count)
 }
 
 // Can a step be written: is it a letter A to Z and a scope?

@@ -6,8 +6,8 @@ use borrow.Author.Needs.{needs}
 use Rattle.follow.proofs.rows.put_row.Statement.{statement}
 use Rattle.follow.proofs.rows.put_row.Tie as tie
 
-put-head-requires : tie.Need-put-head-requires
-put-head-requires c κs = search needs
+put-front-requires : tie.Need-put-front-requires
+put-front-requires c κs = search needs
 
 put-hops-requires : tie.Need-put-hops-requires
 put-hops-requires c κs = search needs
@@ -19,8 +19,8 @@ same-length : tie.Need-same-length
 same-length c = search needs
 
 returns : tie.Need-returns
-returns c = puts-both _ _ _ _ _ _ (puts-both _ _ _ _ _ _ (c .before .before .before .before .before .before .before .before .before .before .put-head .ensures) (c .before .before .before .before .before .before .put-hops .ensures) refl) (c .before .before .put-byte .ensures ∙ puts-one _ _) (row-parts _ _ _ _)
+returns c = puts-both _ _ _ _ _ _ (puts-both _ _ _ _ _ _ (c .before .before .before .before .before .before .before .before .before .before .put-front .ensures) (c .before .before .before .before .before .before .put-hops .ensures) refl) (c .before .before .put-byte .ensures ∙ puts-one _ _) (row-parts _ _ _ _)
 
 pub put-row-spec : {M : Type 1} → statement M
 put-row-spec =
-    tie.close (tie.spec put-head-requires put-hops-requires put-byte-requires same-length returns)
+    tie.close (tie.spec put-front-requires put-hops-requires put-byte-requires same-length returns)

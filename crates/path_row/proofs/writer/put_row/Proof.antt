@@ -4,8 +4,8 @@ use borrow.Author.Needs.{needs}
 use Rattle.path_row.proofs.writer.put_row.Statement.{statement}
 use Rattle.path_row.proofs.writer.put_row.Tie as tie
 
-put-head-requires : tie.Need-put-head-requires
-put-head-requires c κs = search needs
+put-front-requires : tie.Need-put-front-requires
+put-front-requires c κs = search needs
 
 put-steps-requires : tie.Need-put-steps-requires
 put-steps-requires c κs = search needs
@@ -14,7 +14,7 @@ same-length : tie.Need-same-length
 same-length c = search needs
 
 returns : tie.Need-returns
-returns c = row-put _ _ _ _ _ _ _ _ (c .before .before .before .before .before .before .put-head .ensures) (c .before .before .put-steps .ensures)
+returns c = row-put _ _ _ _ _ _ _ _ (c .before .before .before .before .before .before .put-front .ensures) (c .before .before .put-steps .ensures)
 
 pub put-row-spec : {M : Type 1} → statement M
-put-row-spec = tie.close (tie.spec put-head-requires put-steps-requires same-length returns)
+put-row-spec = tie.close (tie.spec put-front-requires put-steps-requires same-length returns)
