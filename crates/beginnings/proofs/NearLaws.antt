@@ -1,6 +1,6 @@
 -- Laws of neighbours: those of a scope edge by edge, and the free scopes that can be come to,
 -- neighbour by neighbour. Assumes nothing.
-use Prim.Native.Nat.{ℕ, suc, _+_, _%_, _≤_, _<_}
+use Prim.Native.Nat.{ℕ, suc, _+_, _≤_, _<_}
 use mathlib.Core.Path.{_≡_, sym, ap, _∙_}
 use mathlib.Core.Logic.{_⊎_, inl, inr, ⊎-elim}
 use mathlib.Core.Bool.{true, false, _&&_}
@@ -17,7 +17,7 @@ use Rattle.scope_graph.specs.Path.{HopOf}
 use Rattle.scope_graph.specs.Turns.{Turned}
 use Rattle.scope_graph.proofs.Lists.{Two, true-false, and-left, and-right, and-both, or-cases, or-left, or-right, is-not}
 use Rattle.block.specs.Sets.{hasScope}
-use Rattle.block.specs.Block.{firstEdge, edgeCell, hopOf, hopsOn, blockHops}
+use Rattle.block.specs.Block.{firstEdge, edgeCell, scopeOf, hopOf, hopsOn, blockHops}
 use Rattle.block.proofs.SetLaws.{bits-and, scope-in, scope-past, scopes-none, scopes-or, scopes-less}
 use Rattle.block.proofs.BlockLaws.{on-none, on-more, blockHops-in, hops-scope}
 use Rattle.search.proofs.Leads.{Taken}
@@ -39,16 +39,16 @@ module _ (block : List ℕ) (s : ℕ) where
   near-none inside h m = inl (rw (blockHops-in block s inside) at m)
 
   pub near-more : (p out x r : ℕ) → p < firstEdge block (suc s) → NearBut block s p out → x ≡ edgeCell block p
-      → ((u : ℕ) → hasScope r u ≡ eqb u (x % 64)) → NearBut block s (p + 1) (bitOr out r)
+      → ((u : ℕ) → hasScope r u ≡ eqb u (scopeOf x)) → NearBut block s (p + 1) (bitOr out r)
   unfolding hopOf
   near-more p out x r inside so edge one h m =
       ⊎-elim
-      (λ k. ⊎-elim (λ e. inr (scopes-or out r (h .to) ∙ or-right (hasScope out (h .to)) _ (one (h .to) ∙ eq-eqb (h .to) (x % 64) (to h e))))
+      (λ k. ⊎-elim (λ e. inr (scopes-or out r (h .to) ∙ or-right (hasScope out (h .to)) _ (one (h .to) ∙ eq-eqb (h .to) (scopeOf x) (to h e))))
       (λ k. inl (rw (add-one p) k)) (List·Memᴰ·cases-cons (rw (on-more block s p inside) at k)))
       (λ k. inr (scopes-or out r (h .to) ∙ or-left (hasScope out (h .to)) _ k)) (so h m)
     where
-      to : (h : HopOf Turned) → h ≡ hopOf (edgeCell block p) → h .to ≡ x % 64
-      to h e = ap (λ (k : HopOf Turned). k .to) e ∙ ap (λ (y : ℕ). y % 64) (sym edge)
+      to : (h : HopOf Turned) → h ≡ hopOf (edgeCell block p) → h .to ≡ scopeOf x
+      to h e = ap (λ (k : HopOf Turned). k .to) e ∙ ap scopeOf (sym edge)
 
   pub near-all : (p out : ℕ) → firstEdge block (suc s) ≤ p → NearBut block s p out
       → (h : HopOf Turned) → h ∈ blockHops block s → hasScope out (h .to) ≡ true

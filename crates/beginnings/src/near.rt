@@ -1,6 +1,7 @@
 // Which free scopes can be come to from a scope by its neighbours. A scope's neighbours are those
 // that its edges lead to; a table has a set of them for each of 64 scopes.
 use block::edge_at;
+use block::edge_scope;
 use block::edges_end;
 use block::edges_from;
 use block::single;
@@ -27,7 +28,7 @@ fn near_of(block: &[u64], s: u64) -> u64
     let mut p = edges_from(block, s);
     let mut out: u64 = 0;
     while p < end {
-        out = out | single(edge_at(block, p) % 64);
+        out = out | single(edge_scope(edge_at(block, p)));
         p += 1;
     }
     out

@@ -5,7 +5,7 @@ use mathlib.Core.Logic.{⊎-elim}
 use mathlib.Core.Bool.{Bool, true, false, _&&_}
 use mathlib.Core.Option.{some, none}
 use mathlib.Core.List.{List, List·Memᴰ·cases-cons, List·Memᴰ·not-nil}
-use Prim.Native.Nat.{ℕ, zero, suc, _+_, _-_, _/_, _%_, _≤_, _<_}
+use Prim.Native.Nat.{ℕ, zero, suc, _+_, _-_, _≤_, _<_}
 use native.Mathlib.Omega.{arith}
 use native.Mathlib.Numerals.{add-one}
 use borrow.Author.Tests.{eqb-true, eq-eqb, ne-eqb}
@@ -14,7 +14,7 @@ use Rattle.scope_graph.specs.Language.{_∈_, by}
 use Rattle.scope_graph.specs.Path.{HopOf}
 use Rattle.scope_graph.specs.Turns.{Turned, later, laterStep, turnBy}
 use Rattle.scope_graph.proofs.Lists.{and-left, and-right, here, there}
-use Rattle.block.specs.Block.{firstEdge, edgeCell, turnOf, hopOf, hopsFrom, hopsOn, blockHops, EdgeTo}
+use Rattle.block.specs.Block.{firstEdge, edgeCell, labelOf, turnOf, hopOf, hopsFrom, hopsOn, blockHops, EdgeTo}
 use Rattle.block.proofs.BlockLaws.{on-none, on-more, blockHops-in, hops-scope}
 
 -- an edge of the scope is one of its hops
@@ -105,10 +105,10 @@ edge-turn block s l t r e h = sym (ap (λ (k : HopOf Turned). k .step .turn) (e 
 
 -- the later of two edges: by their turns if they have one label, else neither
 module _ (x y : ℕ) where
-  pub later-apart : (x / 64 % 8 ≡ y / 64 % 8 → ⊥) → laterStep (by (hopOf x .step)) (by (hopOf y .step)) ≡ false
+  pub later-apart : (labelOf x ≡ labelOf y → ⊥) → laterStep (by (hopOf x .step)) (by (hopOf y .step)) ≡ false
   unfolding hopOf laterStep
-  later-apart h = rw (ne-eqb (x / 64 % 8) (y / 64 % 8) h)
+  later-apart h = rw (ne-eqb (labelOf x) (labelOf y) h)
 
-  pub later-turns : x / 64 % 8 ≡ y / 64 % 8 → laterStep (by (hopOf x .step)) (by (hopOf y .step)) ≡ ltb (turnOf y) (turnOf x)
+  pub later-turns : labelOf x ≡ labelOf y → laterStep (by (hopOf x .step)) (by (hopOf y .step)) ≡ ltb (turnOf y) (turnOf x)
   unfolding hopOf laterStep later
-  later-turns h = rw (eq-eqb (x / 64 % 8) (y / 64 % 8) h)
+  later-turns h = rw (eq-eqb (labelOf x) (labelOf y) h)

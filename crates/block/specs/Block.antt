@@ -47,18 +47,39 @@ turnCell block = getD block TURN 0
 unfoldable pub pairFlag : List ℕ → ℕ → ℕ → Bool
 pairFlag block a c = elim (ltb a 9 && ltb c 9) [ true ↦ hasBit (getD block (BETTER + c) 0) a | false ↦ false ]
 
--- the number of the scope's first edge; edge number p; the turn and the hop of an edge
+-- the number of the scope's first edge; edge number p
 unfoldable pub firstEdge : List ℕ → ℕ → ℕ
 firstEdge block s = getD block (FIRST + s) 0
 
 unfoldable pub edgeCell : List ℕ → ℕ → ℕ
 edgeCell block p = getD block (EDGE + p % 512) 0
 
+-- the parts of an edge's cell: the scope that it leads to, its label, its turn; and its hop
+abbrev pub scopeOf : ℕ → ℕ
+scopeOf x = x % 64
+
+abbrev pub labelOf : ℕ → ℕ
+labelOf x = x / 64 % 8
+
 unfoldable pub turnOf : ℕ → ℕ
 turnOf x = x / 512 % 128
 
 unfoldable pub hopOf : ℕ → HopOf Turned
-hopOf x = record { step = record { label = x / 64 % 8; turn = some (turnOf x) }; to = x % 64 }
+hopOf x = record { step = record { label = labelOf x; turn = some (turnOf x) }; to = scopeOf x }
+
+-- the cell of an edge, each part cut to its range
+abbrev pub packedEdge : ℕ → ℕ → ℕ → ℕ
+packedEdge turn label to = turn % 128 * 512 + label % 8 * 64 + to % 64
+
+-- the hint that leads back along an edge, and its parts, whatever stands above it in the cell
+abbrev pub packedBack : ℕ → ℕ → ℕ
+packedBack from label = from % 64 * 8 + label % 8
+
+abbrev pub backScope : ℕ → ℕ
+backScope x = x / 8 % 64
+
+abbrev pub backLabel : ℕ → ℕ
+backLabel x = x % 8
 
 -- the two bounds are bounds: no label leads on from a state past the first, and no turn of a
 -- scope's edge is above the second

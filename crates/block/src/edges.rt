@@ -1,9 +1,11 @@
-// Edges by their turns (document 02, K12): looked up, and compared. The edge x's label is
-// `x / 64 % 8`, the scope that it leads to `x % 64`.
+// Edges by their turns (document 02, K12): looked up, and compared.
 use crate::TURN;
 use crate::edge_at;
 use crate::edges_end;
 use crate::edges_from;
+use crate::parts::edge_label;
+use crate::parts::edge_scope;
+use crate::parts::edge_turn;
 ghost use mathlib.Core.Path.{_≡_};
 ghost use mathlib.Core.Bool.{_&&_};
 ghost use Prim.Native.Nat.{_<_};
@@ -11,7 +13,7 @@ ghost use lib.Dec.{eqb};
 ghost use Rattle.scope_graph.specs.Language.{by};
 ghost use Rattle.scope_graph.specs.Turns.{laterStep};
 ghost use Rattle.block.specs.Layout.{IsBlock};
-ghost use Rattle.block.specs.Block.{turnCell, turnOf, hopOf, EdgeTo};
+ghost use Rattle.block.specs.Block.{turnCell, hopOf, EdgeTo};
 
 // No edge's turn is above this one.
 pub fn most_turn(block: &[u64]) -> u64
@@ -21,31 +23,24 @@ pub fn most_turn(block: &[u64]) -> u64
     block[TURN]
 }
 
-// The edge's turn.
-pub fn turn_of(x: u64) -> u64
-    ensures answer { λ r. ⌜ r ≡ turnOf x ⌝ }
-{
-    x / 512 % 128
-}
-
 // Have the two edges one label, and the first the higher turn?
 pub fn is_later(x: u64, y: u64) -> bool
     ensures answer { λ r. ⌜ r ≡ laterStep (by (hopOf x .step)) (by (hopOf y .step)) ⌝ }
 {
-    if x / 64 % 8 != y / 64 % 8 {
+    if edge_label(x) != edge_label(y) {
         return false;
     }
-    turn_of(y) < turn_of(x)
+    edge_turn(y) < edge_turn(x)
 }
 
 // Does the edge go by the label to the scope?
 fn is_edge(x: u64, label: u64, to: u64) -> bool
     ensures answer { λ r. ⌜ r ≡ (eqb (hopOf x .step .label) label && eqb (hopOf x .to) to) ⌝ }
 {
-    if x / 64 % 8 != label {
+    if edge_label(x) != label {
         return false;
     }
-    x % 64 == to
+    edge_scope(x) == to
 }
 
 // The number of the first edge that leaves scope s by the label to the scope; past the scope's

@@ -3,6 +3,7 @@
 mod ask;
 mod edges;
 mod layout;
+mod parts;
 mod sets;
 
 pub use ask::ASKSIZE;
@@ -19,7 +20,6 @@ pub use ask::ask_start;
 pub use edges::edge_to;
 pub use edges::is_later;
 pub use edges::most_turn;
-pub use edges::turn_of;
 pub use layout::ACCEPT;
 pub use layout::AFTER;
 pub use layout::BACK;
@@ -40,6 +40,14 @@ pub use layout::START;
 pub use layout::STATES;
 pub use layout::TURN;
 pub use layout::USABLE;
+pub use parts::TURN_UNIT;
+pub use parts::back_label;
+pub use parts::back_scope;
+pub use parts::edge_label;
+pub use parts::edge_scope;
+pub use parts::edge_turn;
+pub use parts::packed_back;
+pub use parts::packed_edge;
 pub use sets::has;
 pub use sets::has_state;
 pub use sets::single;
@@ -124,8 +132,7 @@ pub fn edges_end(block: &[u64], s: u64) -> u64
     block[FIRST + s as usize + 1]
 }
 
-// Edge number p. Its label is `x / 64 % 8`, the scope that it leads to `x % 64`, its turn
-// `turn_of(x)`.
+// Edge number p, as a cell: `parts` takes it apart.
 pub fn edge_at(block: &[u64], p: u64) -> u64
     requires block { ⌜ IsBlock (now block) ⌝ }
     ensures answer { λ r. ⌜ r ≡ edgeCell (now (block .entry)) p ⌝ }

@@ -20,7 +20,7 @@ use Rattle.graph_table.proofs.Laws.{rows-earlier}
 use Rattle.graph_table.proofs.Promises.{next-is}
 use Rattle.graph_table.proofs.Tests.{below-or}
 use Rattle.block.specs.Layout.{FIRST, EDGE, SIZE}
-use Rattle.block.specs.Block.{firstEdge, edgeCell, turnOf, hopOf, hopsFrom, hopsOn, blockHops}
+use Rattle.block.specs.Block.{firstEdge, edgeCell, scopeOf, labelOf, turnOf, hopOf, packedEdge, hopsFrom, hopsOn, blockHops}
 use Rattle.block.proofs.BlockLaws.{blockHops-in}
 use Rattle.board.specs.Cells.{puts, Only}
 use Rattle.board.specs.Edges.{turnNumber, compact, narrow, cellsFor, below, placed, ScopePut, EdgesPut}
@@ -57,12 +57,12 @@ hops-are (x ∷ xs) block p h =
 
 -- a hop that went into a cell
 cell-back : (t l to : ℕ)
-    → hopOf (t % 128 * 512 + l % 8 * 64 + to % 64) ≡ record { step = record { label = l % 8; turn = some (t % 128) }; to = to % 64 }
+    → hopOf (packedEdge t l to) ≡ record { step = record { label = l % 8; turn = some (t % 128) }; to = to % 64 }
 unfolding hopOf turnOf
 cell-back t l to =
-    let label : (t % 128 * 512 + l % 8 * 64 + to % 64) / 64 % 8 ≡ l % 8 = omega arith in
-    let turn : (t % 128 * 512 + l % 8 * 64 + to % 64) / 512 % 128 ≡ t % 128 = omega arith in
-    let scope : (t % 128 * 512 + l % 8 * 64 + to % 64) % 64 ≡ to % 64 = omega arith in
+    let label : labelOf (packedEdge t l to) ≡ l % 8 = omega arith in
+    let turn : packedEdge t l to / 512 % 128 ≡ t % 128 = omega arith in
+    let scope : scopeOf (packedEdge t l to) ≡ to % 64 = omega arith in
     rw (label, turn, scope)
 
 hop-back : (h : HopOf Turned) → hopOf (compact h) ≡ narrow h

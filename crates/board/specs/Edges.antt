@@ -9,7 +9,7 @@ use Rattle.scope_graph.specs.Path.{HopOf}
 use Rattle.scope_graph.specs.Turns.{Turned}
 use Rattle.graph_table.specs.Rows.{rowHops}
 use Rattle.block.specs.Layout.{FIRST, EDGE}
-use Rattle.block.specs.Block.{firstEdge, edgeCell, turnOf, blockHops}
+use Rattle.block.specs.Block.{firstEdge, edgeCell, turnOf, packedEdge, blockHops}
 use Rattle.board.specs.Cells.{puts, Only}
 use Rattle.board.specs.declared.edges.Put.{Put}
 
@@ -22,9 +22,9 @@ unfoldable pub turnNumber : Option ℕ → ℕ
 turnNumber none = 0
 turnNumber (some n) = n
 
--- a hop as a cell: turn * 512 + label * 64 + the scope that it leads to
+-- a hop as a cell
 unfoldable pub compact : HopOf Turned → ℕ
-compact h = turnNumber (h .step .turn) % 128 * 512 + h .step .label % 8 * 64 + h .to % 64
+compact h = packedEdge (turnNumber (h .step .turn)) (h .step .label) (h .to)
 
 -- a hop whose label, turn and scope are cut to what a cell holds; of rows in range it is the hop
 -- itself

@@ -2,6 +2,7 @@
 use block::single;
 use graph_table::DeclarationRow;
 use graph_table::Name;
+use graph_table::ROW;
 use graph_table::SCOPE;
 use graph_table::declaration_row;
 use graph_table::rows_from;
@@ -26,9 +27,9 @@ fn scope_set(at: u64) -> u64
     single(at)
 }
 
-// The set, with the row's scope in it if the row declares the name. That the scope is looked at in a
-// function of its own keeps this look out of the pass over the rows: most have another name, and the
-// pass has no register to spare.
+// The set, with the row's scope in it if the row declares the name. That the scope is looked at in
+// a function of its own keeps this look out of the pass over the rows: most have another name, and
+// the pass has no register to spare.
 fn noted(set: u64, row: DeclarationRow, name: Name) -> u64
     ensures answer { λ r. ⌜ ((s : ℕ) → s < 64 → hasScope r s ≡ (hasScope set s || declares (packed name) s row)) ⌝ }
 {
@@ -44,9 +45,9 @@ pub fn declaring(rows: &[u64], name: Name) -> u64
 {
     let mut out: u64 = 0;
     let mut p = 0;
-    while 6 <= rows.len() - p {
+    while ROW <= rows.len() - p {
         out = noted(out, declaration_row(rows, p), name);
-        p += 6;
+        p += ROW;
     }
     out
 }

@@ -2,6 +2,8 @@
 // through edge rows.
 use block::EDGE;
 use block::FIRST;
+use block::TURN_UNIT;
+use block::packed_edge;
 use graph_table::ROW;
 use graph_table::edge_row;
 use graph_table::next_row;
@@ -14,9 +16,6 @@ ghost use Rattle.board.specs.Edges.{compact, ScopePut, EdgesPut};
 
 // How many edges there is room for.
 const ROOM: usize = 512;
-
-// What a turn counts in an edge's cell.
-const TURN_UNIT: u64 = 512;
 
 // How many edges are put, the place behind the rows that were looked through, and a number that no
 // edge's cell is above.
@@ -32,7 +31,7 @@ fn hop_cell(rows: &[u64], p: usize) -> u64
     ensures answer { λ r. ⌜ r ≡ compact (hopAt (now (rows .entry)) p) ⌝ }
 {
     let row = edge_row(rows, p);
-    row.turn % 128 * TURN_UNIT + row.label % 8 * 64 + row.to % 64
+    packed_edge(row.turn, row.label, row.to)
 }
 
 // The higher of two cells.

@@ -1,8 +1,8 @@
 // The turn of a step, looked up in the board's edges.
 use block::edge_at;
 use block::edge_to;
+use block::edge_turn;
 use block::edges_end;
-use block::turn_of;
 use scope_graph::Turn;
 ghost use mathlib.Core.Path.{_≡_};
 ghost use Rattle.scope_graph.specs.Order.{turnMeaning};
@@ -26,5 +26,5 @@ pub fn step_turn(block: &[u64], s: u64, label: u64, to: u64) -> Turn
     if edges_end(block, s) <= p {
         return Turn::None;
     }
-    Turn::Of(turn_of(edge_at(block, p)))
+    Turn::Of(edge_turn(edge_at(block, p)))
 }

@@ -13,7 +13,9 @@ use Rattle.text_field.specs.Buffer.{Buf, puts}
 use Rattle.text_field.proofs.BufferLaws.{puts-then}
 use Rattle.text_field.proofs.NumberLaws.{length-below}
 use Rattle.block.specs.Layout.{LETTER}
-use Rattle.block.specs.Block.{turnOf, hopOf, letterCell}
+use Rattle.block.specs.Block.{scopeOf, labelOf, turnOf, hopOf, letterCell}
+use Rattle.path_row.specs.Form.{frontText, stepText, stepsText}
+use Rattle.path_row.specs.Form.{rowText as pathRowText}
 use Rattle.follow.specs.Text.{letterOf, hopsText, rowText}
 use Rattle.follow.specs.declared.Path.{Path}
 use Rattle.follow.specs.Walk.{pathHops, letterBytes}
@@ -103,18 +105,18 @@ letter-is block l x h e =
 
 module _ (letters : List ℕ) where
   hops-append : (hs ks : List (HopOf Turned)) → hopsText letters (hs ++ ks) ≡ hopsText letters hs ++ hopsText letters ks
-  unfolding hopsText
+  unfolding hopsText stepsText
   hops-append [] ks = refl
   hops-append (h ∷ hs) ks =
-      ap (λ (z : List ℕ). letterOf letters (h .step .label) ∷ z)
-      (ap (λ (z : List ℕ). numberText (h .to) ++ z) (hops-append hs ks) ∙ sym (append-assoc (numberText (h .to)) (hopsText letters hs) (hopsText letters ks)))
+      let t : List ℕ = stepText (letterOf letters (h .step .label)) (h .to)
+      in ap (λ (z : List ℕ). t ++ z) (hops-append hs ks) ∙ sym (append-assoc t (hopsText letters hs) (hopsText letters ks))
 
-  pub hops-one : (x l : ℕ) → l ≡ letterOf letters (x / 64 % 8) → hopsText letters (hopOf x ∷ []) ≡ (l ∷ []) ++ numberText (x % 64)
-  unfolding hopsText hopOf
-  hops-one x l e = rw (e, append-nil)
+  pub hops-one : (x l v : ℕ) → l ≡ letterOf letters (labelOf x) → v ≡ scopeOf x → hopsText letters (hopOf x ∷ []) ≡ stepText l v
+  unfolding hopsText stepsText hopOf
+  hops-one x l v e f = rw (e, f, append-nil)
 
   pub hops-none : (hops : List ℕ) → hopsText letters (firstHops hops 0) ≡ []
-  unfolding hopsText
+  unfolding hopsText stepsText
   hops-none hops = ap (hopsText letters) (first-none hops)
 
   pub hops-step : (hops : List ℕ) (i x : ℕ) → i < length hops → x ≡ getD hops i 0
@@ -125,19 +127,19 @@ module _ (letters : List ℕ) where
       → hopsText letters (pathHops p) ≡ hopsText letters (firstHops (p .hops) i)
   hops-end p i h g = ap (hopsText letters) (path-is p ∙ sym (first-end (p .hops) i (p .depth) h g))
 
-  -- a row, in its five parts
+  -- a row, in its three parts
   pub row-parts : (mark start : ℕ) (hops : List (HopOf Turned))
-      → rowText letters mark start hops ≡ (((numberText mark ++ (32 ∷ [])) ++ numberText start) ++ hopsText letters hops) ++ (10 ∷ [])
-  unfolding rowText
-  row-parts mark start hops = sym (simp append-assoc)
+      → rowText letters mark start hops ≡ (frontText mark start ++ hopsText letters hops) ++ (10 ∷ [])
+  unfolding rowText pathRowText hopsText
+  row-parts mark start hops = refl
 
   hops-size : (hs : List (HopOf Turned)) → length (hopsText letters hs) ≡ hopsSize hs
-  unfolding hopsText hopsSize
+  unfolding hopsText stepText stepsText hopsSize
   hops-size [] = refl
   hops-size (h ∷ hs) = omega (arith, length-append (numberText (h .to)) (hopsText letters hs), hops-size hs)
 
   row-size : (mark start : ℕ) (hops : List (HopOf Turned)) → length (numberText mark) + pathSize start hops ≡ length (rowText letters mark start hops)
-  unfolding pathSize
+  unfolding pathSize frontText
   row-size mark start hops =
       sym (ap length (row-parts mark start hops)
       ∙ simp length-append (omega (arith, hops-size hops)))
@@ -156,7 +158,7 @@ module _ (hops : List ℕ) where
   unfolding hopsSize
   size-none = ap hopsSize (first-none hops)
 
-  pub size-step : (i x k : ℕ) → i < length hops → x ≡ getD hops i 0 → k ≡ 1 + length (numberText (x % 64)) → hopsSize (firstHops hops (i + 1)) ≡ hopsSize (firstHops hops i) + k
+  pub size-step : (i x k : ℕ) → i < length hops → x ≡ getD hops i 0 → k ≡ 1 + length (numberText (scopeOf x)) → hopsSize (firstHops hops (i + 1)) ≡ hopsSize (firstHops hops i) + k
   unfolding hopsSize hopOf
   size-step i x k h e f = ap hopsSize (first-step hops i x h e) ∙ size-append (firstHops hops i) (hopOf x ∷ []) ∙ omega arith
 

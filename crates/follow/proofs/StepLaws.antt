@@ -4,7 +4,7 @@ use mathlib.Core.Path.{_≡_, refl, sym, ap, _∙_}
 use mathlib.Core.Bool.{Bool, true, false}
 use mathlib.Core.Logic.{_⊎_, inl, inr, ⊎-elim}
 use mathlib.Core.List.{List, [], _∷_, _++_, append-assoc, List·Memᴰ·not-nil, List·Memᴰ·cases-cons, List·Memᴰ·append-cases}
-use Prim.Native.Nat.{ℕ, suc, _+_, _/_, _%_, _≤_, _<_}
+use Prim.Native.Nat.{ℕ, suc, _+_, _≤_, _<_}
 use native.Mathlib.Omega.{arith}
 use native.Mathlib.Numerals.{add-one}
 use Rattle.scope_graph.specs.Language.{by}
@@ -12,7 +12,7 @@ use Rattle.scope_graph.specs.Order.{endOf}
 use Rattle.scope_graph.specs.Path.{HopOf}
 use Rattle.scope_graph.specs.Turns.{Turned}
 use Rattle.block.specs.Sets.{hasScope, ALL_LABELS}
-use Rattle.block.specs.Block.{Bounds, turnCell, firstEdge, edgeCell, hopOf, hopsOn}
+use Rattle.block.specs.Block.{Bounds, turnCell, firstEdge, edgeCell, labelOf, hopOf, hopsOn}
 use Rattle.block.specs.Ask.{askGoal}
 use Rattle.block.proofs.BlockLaws.{on-none}
 use Rattle.search.specs.Board.{cutHere}
@@ -81,7 +81,7 @@ step-cut block ask n i x goal cut e g says = sym (rw (e, g) at says)
 
 -- the same where all turns are 0: it is cut as its label is
 pub label-cut : (block ask : List ℕ) (n : Node) (i x goal : ℕ) (cut : Bool) → Bounds block → turnCell block ≡ 0 → x ≡ edgeCell block i → goal ≡ askGoal ask
-    → cut ≡ cutHere (tableBoard block goal) (tableOrder block) (n .left) (hasScope (n .free)) (n .scope) (n .state) (plainEnd (endOf (x / 64 % 8 + 1)))
+    → cut ≡ cutHere (tableBoard block goal) (tableOrder block) (n .left) (hasScope (n .free)) (n .scope) (n .state) (plainEnd (endOf (labelOf x + 1)))
     → endCut block ask n (by (hopOf (edgeCell block i) .step)) ≡ cut
 label-cut block ask n i x goal cut bounds none e g says = step-cut block ask n i x goal cut e g (by-cases cut refl)
   where

@@ -1,17 +1,19 @@
 -- The text of a listing (01, "The listing"), from what the rules say. Assumes nothing: these are
 -- definitions.
 use Prim.Native.Nat.{ℕ}
-use mathlib.Core.List.{List, [], _∷_, _++_}
+use mathlib.Core.List.{List, [], _∷_, _++_, map}
 use lib.ListN.{getD}
 use Rattle.scope_graph.specs.Language.{End, stop, by}
 use Rattle.scope_graph.specs.Path.{HopOf}
 use Rattle.scope_graph.specs.Turns.{Turned}
 use Rattle.scope_graph.specs.Computed.{Found, found-none, found-one, found-several}
 use Rattle.scope_graph.specs.Rows.{PackedName}
-use Rattle.text_field.specs.Number.{numberText}
 use Rattle.text_field.specs.Name.{nameText}
 use Rattle.graph_table.specs.declared.sections.Form.{Form}
 use Rattle.graph_table.specs.declared.sections.Form.the-variants.{Old, Kinds}
+use Rattle.path_row.specs.declared.form.Step.{Step}
+use Rattle.path_row.specs.Form.{PathRow, stepsText}
+use Rattle.path_row.specs.Form.{rowText as pathRowText}
 
 -- the names line above a query's values, by the file's form: `start seek found awaits`, and for a
 -- file with kinds `start kind seek found awaits` (02, K8)
@@ -41,13 +43,21 @@ module _ (letters : List ℕ) where
   unfoldable pub letterOf : ℕ → ℕ
   letterOf l = getD letters l 0
 
-  -- a path: its start, then each hop's letter and scope; turns are not shown
-  unfoldable pub hopsText : List (HopOf Turned) → List ℕ
-  hopsText [] = []
-  hopsText (h ∷ hs) = letterOf (h .step .label) ∷ (numberText (h .to) ++ hopsText hs)
+  -- a hop as a path row's step, by its label's letter and its scope; its turn is not shown
+  abbrev pub shownStep : HopOf Turned → Step
+  shownStep h = record { label = letterOf (h .step .label); scope = h .to }
 
+  -- a path, with the mark of what is declared at its end, as a path row (path_row's Form)
+  abbrev pub shownRow : ℕ → ℕ → List (HopOf Turned) → PathRow
+  shownRow mark start hops = record { mark = mark; start = start; steps = map shownStep hops }
+
+  -- the texts: of hops alone
+  unfoldable pub hopsText : List (HopOf Turned) → List ℕ
+  hopsText hops = stepsText (map shownStep hops)
+
+  -- a listing's row: a path row and a line feed
   unfoldable pub rowText : ℕ → ℕ → List (HopOf Turned) → List ℕ
-  rowText mark start hops = numberText mark ++ (32 ∷ (numberText start ++ (hopsText hops ++ (10 ∷ []))))
+  rowText mark start hops = pathRowText (shownRow mark start hops) ++ (10 ∷ [])
 
   -- an open pair's end: `$` or the letter
   unfoldable pub endText : End ℕ → ℕ

@@ -69,7 +69,7 @@ pub struct Tally {
     pub seen: Seen,
 }
 
-// The path that the walk stands behind: of each hop turn * 512 + label * 64 + scope.
+// The path that the walk stands behind: of each hop the edge's cell.
 pub struct Path {
     pub hops: [u16; 64],
     pub depth: usize,

@@ -1,6 +1,7 @@
 // The next edge of a node that is followed: its hop is worth entering, and its step is not cut.
 use block::ask_goal;
 use block::edge_at;
+use block::edge_label;
 use block::edges_end;
 use block::edges_from;
 use block::most_turn;
@@ -79,7 +80,7 @@ fn next_unturned(block: &[u64], ask: &[u64], onward: &[u64], n: Node, known: u64
         if end <= i {
             return Next { at: i, known: more };
         }
-        let label = edge_at(block, i) / 64 % 8;
+        let label = edge_label(edge_at(block, i));
         let learnt = learn(block, goal, ask, n, more, label + 1);
         more = learnt.known;
         if !learnt.cut {

@@ -38,7 +38,7 @@ ghost use Rattle.follow.specs.Tally.{State, takeRows};
 ghost use Rattle.follow.specs.Walk.{pathHops, rowsFrom};
 ghost use Rattle.follow.specs.Steps.{NoRoom, ownRows, hopRows, endCut, FollowedEdge};
 
-// A hop as the path holds it: turn * 512 + label * 64 + scope, below 65536.
+// A hop as the path holds it: the edge's cell, whose parts stand below 65536.
 fn narrow(x: u64) -> u16
     ensures hop { λ r. ⌜ r ≡ x % 65536 ⌝ }
 {

@@ -9,13 +9,17 @@ use crate::count::one_more;
 use block::ask_start;
 use block::declared_end;
 use block::declared_from;
+use block::edge_label;
+use block::edge_scope;
 use block::letter;
 use board::name_asked;
+use graph_table::ROW;
 use graph_table::declaration_row;
 use graph_table::declares;
+use path_row::text::put_front;
+use path_row::text::put_step;
 use text_field::number_len;
 use text_field::put_byte;
-use text_field::put_number;
 ghost use mathlib.Core.Path.{_≡_};
 ghost use mathlib.Core.List.{List, [], _∷_};
 ghost use Prim.Native.Nat.{ℕ, _+_, _%_, _<_, _≤_};
@@ -23,7 +27,7 @@ ghost use lib.ListN.{length, drop, take};
 ghost use Rattle.text_field.specs.Buffer.{Buf, puts};
 ghost use Rattle.text_field.specs.Number.{numberText};
 ghost use Rattle.block.specs.Layout.{IsBlock};
-ghost use Rattle.block.specs.Block.{hopOf};
+ghost use Rattle.block.specs.Block.{scopeOf, hopOf};
 ghost use Rattle.block.specs.Ask.{IsAsk, askStart, askName};
 ghost use Rattle.board.specs.Marks.{marksIn};
 ghost use Rattle.follow.specs.Text.{hopsText, rowText};
@@ -66,9 +70,9 @@ fn number_size(v: u64) -> usize
 
 // How many bytes a hop takes: its letter and its scope.
 fn hop_size(x: u64) -> usize
-    ensures bytes { λ r. ⌜ r ≡ 1 + length (numberText (x % 64)) ⌝ }
+    ensures bytes { λ r. ⌜ r ≡ 1 + length (numberText (scopeOf x)) ⌝ }
 {
-    1 + number_size(x % 64)
+    1 + number_size(edge_scope(x))
 }
 
 // How many bytes the path's hops take.
@@ -101,8 +105,8 @@ fn put_hop(block: &[u64], x: u64, out: &mut [u8], n: usize) -> usize
     requires block { ⌜ IsBlock (now block) ⌝ }
     ensures written { λ r. ⌜ _≡_ {A = Buf} (now (out .exit), r) (puts (now (out .entry), n) (hopsText (letterBytes (now (block .entry))) (hopOf x ∷ []))) ⌝ }
 {
-    let k = put_byte(out, n, narrow(letter(block, x / 64 % 8)));
-    put_number(out, k, x % 64)
+    let shown = narrow(letter(block, edge_label(x)));
+    put_step(out, n, shown, edge_scope(x))
 }
 
 // The hops of the path.
@@ -124,16 +128,14 @@ fn put_hops(block: &[u64], path: Path, out: &mut [u8], n: usize) -> usize
     k
 }
 
-// A listing's row: mark, start and hops.
+// A listing's row: a path row and a line feed.
 fn put_row(block: &[u64], path: Path, start: u64, mark: u64, out: &mut [u8], n: usize) -> usize
     requires block { ⌜ IsBlock (now block) ⌝ }
     ensures written { λ r. ⌜ _≡_ {A = Buf} (now (out .exit), r) (puts (now (out .entry), n) (rowText (letterBytes (now (block .entry))) mark start (pathHops path))) ⌝ }
 {
-    let a = put_number(out, n, mark);
-    let b = put_byte(out, a, b' ');
-    let c = put_number(out, b, start);
-    let d = put_hops(block, path, out, c);
-    put_byte(out, d, b'\n')
+    let front = put_front(out, n, mark, start);
+    let end = put_hops(block, path, out, front);
+    put_byte(out, end, b'\n')
 }
 
 // One entry, of the declaration with this mark at this scope: its row is counted, noted, measured
@@ -203,8 +205,7 @@ fn put_entry(
     }
 }
 
-// The entries of the path at s, from the declarations in these cells from cell p on. A row has six
-// cells.
+// The entries of the path at s, from the declarations in these cells from cell p on.
 fn put_declared(
     block: &[u64],
     decls: &[u64],
@@ -227,11 +228,11 @@ fn put_declared(
     let mut t = tally;
     let mut i = p;
     while i < n {
-        if n - i < 6 {
+        if n - i < ROW {
             return t;
         }
         let row = declaration_row(decls, i);
-        i += 6;
+        i += ROW;
         if !declares(row, s, name) {
             continue;
         }

@@ -1,5 +1,5 @@
-// What a host written in C or Rust calls. A slice is passed as its address and its length; every answer is
-// one number, which include/tewhoranu.h takes apart; the name sought's is a length.
+// What a host written in C or Rust calls. A slice is passed as its address and its length; every
+// answer is one number, which include/tewhoranu.h takes apart; the name sought's is a length.
 mod numbers;
 
 use crate::numbers::compared_number;
@@ -50,8 +50,8 @@ pub extern "C" fn tewhoranu_write(table: &[u64], out: &mut [u8]) -> u64
     written_number(write(table, out))
 }
 
-// The name that a query seeks: its length, 0 where a refusal stands in the way, and the place of its first
-// byte in the text. No copy is made.
+// The name that a query seeks: its length, 0 where a refusal stands in the way, and the place of
+// its first byte in the text. No copy is made.
 #[no_mangle]
 pub extern "C" fn tewhoranu_name_sought(text: &[u8], query: usize, place: &mut u64) -> u64
     ensures answer { λ r. ⌜ r ≡ length (nameSought (now (text .entry)) query) ⌝ }
@@ -67,7 +67,8 @@ pub extern "C" fn tewhoranu_name_sought(text: &[u8], query: usize, place: &mut u
     (to - from) as u64
 }
 
-// A query's listing, written into the lent buffer, and beside it the count of its lawful beginnings.
+// A query's listing, written into the lent buffer, and beside it the count of its lawful
+// beginnings.
 #[no_mangle]
 pub extern "C" fn tewhoranu_listing(
     text: &[u8],
@@ -93,7 +94,8 @@ pub extern "C" fn tewhoranu_listing_plain(text: &[u8], query: usize, out: &mut [
     written_number(listing(text, query, out))
 }
 
-// The standing of a path row for a query of a gym file's text. The row's steps go into the lent table.
+// The standing of a path row for a query of a gym file's text. The row's steps go into the lent
+// table.
 #[no_mangle]
 pub extern "C" fn tewhoranu_judge<'s, 'o>(
     text: &'s [u8],
@@ -110,8 +112,8 @@ pub extern "C" fn tewhoranu_judge<'s, 'o>(
     judged_number(judge(text, query, row, steps))
 }
 
-// Which of two path rows is more specific, by the order of a gym file's text. The steps of each go into the
-// table lent for it.
+// Which of two path rows is more specific, by the order of a gym file's text. The steps of each go
+// into the table lent for it.
 #[no_mangle]
 pub extern "C" fn tewhoranu_compare<'s, 'p, 'q>(
     text: &'s [u8],
@@ -163,7 +165,8 @@ pub extern "C" fn tewhoranu_to_new(text: &[u8], out: &mut [u8]) -> u64
     written_number(to_new(text, out))
 }
 
-// A gym file's text with the path rules of an expression in place of its own, written into the lent buffer.
+// A gym file's text with the path rules of an expression in place of its own, written into the lent
+// buffer.
 #[no_mangle]
 pub extern "C" fn tewhoranu_rules(text: &[u8], expression: &[u8], out: &mut [u8]) -> u64
     ensures answer { λ r. ⌜ r ≡ written (answer (ruledOf (now (expression .entry)) (now (text .entry))) (length (now (out .entry)))) ⌝ }

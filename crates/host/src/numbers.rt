@@ -9,8 +9,8 @@ ghost use Rattle.comparison.specs.Compare.{meaning};
 ghost use Rattle.judge.specs.Judge.{meaning as standing};
 ghost use Rattle.host.specs.Numbers.{caseNumber, stepsNumber, written, compared, judged, Sized};
 
-// The first number that is no refusal. It is also how far apart two cases are, so that the steps of a path,
-// 63 at most, have room behind each.
+// The first number that is no refusal. It is also how far apart two cases are, so that the steps of
+// a path, 63 at most, have room behind each.
 const ANSWERS: u64 = 64;
 
 // The steps that come with a standing that carries none.

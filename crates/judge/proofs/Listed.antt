@@ -3,16 +3,16 @@ use Prim.Native.Nat.{ℕ, zero, suc, _≤_, _<_}
 use mathlib.Core.Path.{_≡_, refl, sym, ap, _∙_, subst}
 use mathlib.Core.Bool.{true, _&&_}
 use mathlib.Core.Logic.{⊎-elim}
-use mathlib.Core.List.{List, [], _∷_, _++_, map, append-assoc, List·Memᴰ·cases-cons}
+use mathlib.Core.List.{List, [], _∷_, map, List·Memᴰ·cases-cons}
 use native.Mathlib.Omega.{arith}
 use borrow.Author.Tests.{le-leb}
 use lib.Dec.{leb}
 use lib.ListN.{length, getD, length-map}
 use Rattle.scope_graph.specs.Language.{_∈_, Language}
 use Rattle.scope_graph.specs.Graph.{Graph, InRange}
-use Rattle.scope_graph.specs.Path.{Distinct, HopOf, Hop, Along, tos, Entry}
+use Rattle.scope_graph.specs.Path.{Distinct, Hop, Along, tos, Entry}
 use Rattle.scope_graph.specs.Path.{PathRow as RulesRow}
-use Rattle.scope_graph.specs.Turns.{Turned, turnBy}
+use Rattle.scope_graph.specs.Turns.{turnBy}
 use Rattle.scope_graph.specs.Rows.{language}
 use Rattle.scope_graph.specs.Computed.{hopsAt}
 use Rattle.scope_graph.specs.Agree.{as-visible}
@@ -20,7 +20,6 @@ use Rattle.scope_graph.proofs.Lists.{and-both, map-elim}
 use Rattle.scope_graph.proofs.Nodes.{hopsAt-elim, hopsAt-intro, tos-length, tos-bounded}
 use Rattle.scope_graph.proofs.Pigeon.{distinct-bounded}
 use Rattle.text_field.specs.Bytes.{isCapital}
-use Rattle.text_field.specs.Number.{numberText}
 use Rattle.graph_file.specs.Format.{labelSection}
 use Rattle.text_field.specs.Outcome.{done}
 use Rattle.graph_file.specs.Admission.{Row, value}
@@ -28,14 +27,13 @@ use Rattle.graph_file.specs.File.{readCells}
 use Rattle.graph_file.specs.Decode.{rowsIn, rulesOf, graphOf, queriesOf, lettersOf}
 use Rattle.graph_file.specs.Accepted.{AcceptedTable}
 use Rattle.graph_file.proofs.DecodeAccepted.{read-accepted}
-use Rattle.path_row.specs.declared.form.Step.{Step}
-use Rattle.path_row.specs.Form.{PathRow, mostMark, mostScope, mostSteps, stepsText, rowText, areSteps, isRow}
+use Rattle.path_row.specs.Form.{PathRow, mostMark, mostScope, mostSteps, rowText, areSteps, isRow}
 use Rattle.path_row.specs.Numbering.{labelNumber, hopOf, hopsOf, pathOf}
 use Rattle.path_row.proofs.FormLaws.{written-then-read}
 use Rattle.path_row.proofs.NumberingLaws.{number-within}
 use Rattle.path_row.proofs.TurnLaws.{turn-is}
-use Rattle.follow.specs.Text.{letterOf, hopsText}
-use Rattle.follow.specs.Text.{rowText as shownRow}
+use Rattle.follow.specs.Text.{letterOf, shownStep, shownRow}
+use Rattle.follow.specs.Text.{rowText as listedText}
 use Rattle.board.specs.Queries.{queryAt}
 use Rattle.board.proofs.Queries.{getD-in}
 use Rattle.board.proofs.Capitals.{capitals}
@@ -52,27 +50,6 @@ one-place (x ∷ xs) (suc i) zero d h k e = absurd (d .0 (subst (λ (y : ℕ). y
 one-place (x ∷ xs) (suc i) (suc j) d h k e = ap suc (one-place xs i j (d .1) (omega arith) (omega arith) e)
 
 module _ (letters : List ℕ) where
-  -- a hop as a row's step, by its label's letter
-  abbrev stepTo : HopOf Turned → Step
-  stepTo h = record { label = letterOf letters (h .step .label); scope = h .to }
-
-  abbrev rowTo : ℕ → ℕ → List (HopOf Turned) → PathRow
-  rowTo mark start hs = record { mark = mark; start = start; steps = map stepTo hs }
-
-  hops-text : (hs : List (HopOf Turned)) → hopsText letters hs ≡ stepsText (map stepTo hs)
-  unfolding hopsText stepsText
-  hops-text [] = refl
-  hops-text (h ∷ hs) = ap (λ (s : List ℕ). letterOf letters (h .step .label) ∷ (numberText (h .to) ++ s)) (hops-text hs)
-
-  row-text : (mark start : ℕ) (hs : List (HopOf Turned)) → shownRow letters mark start hs ≡ rowText (rowTo mark start hs) ++ (10 ∷ [])
-  unfolding shownRow rowText
-  row-text mark start hs =
-      rw (
-        hops-text hs,
-        append-assoc (numberText mark) (32 ∷ (numberText start ++ stepsText (map stepTo hs))) (10 ∷ []),
-        append-assoc (numberText start) (stepsText (map stepTo hs)) (10 ∷ []),
-      )
-
   -- a label's letter has the label's number
   numbered : Distinct letters → (l : ℕ) → l < length letters → labelNumber letters (letterOf letters l) ≡ l
   unfolding letterOf
@@ -114,12 +91,12 @@ module _ (text cells : List ℕ) (read : readCells text ≡ done cells) where
     hop-scope : (s : ℕ) (h : Hop L) → record { from = s; step = h .step; to = h .to } ∈ g .edges → h .to ≤ 63
     hop-scope s h m = let k = range .to-scope _ m in let f = scopes-few in omega arith
 
-    steps-good : (s : ℕ) (hs : List (Hop L)) → Along L g s hs → areSteps (map (stepTo letters) hs) ≡ true
+    steps-good : (s : ℕ) (hs : List (Hop L)) → Along L g s hs → areSteps (map (shownStep letters) hs) ≡ true
     unfolding areSteps
     steps-good s [] a = refl
     steps-good s (h ∷ hs) a =
-        and-both (isCapital (letterOf letters (h .step .label))) (leb (h .to) mostScope && areSteps (map (stepTo letters) hs)) (capital (h .step .label) (hop-listed s h (a .0)))
-        (and-both (leb (h .to) mostScope) (areSteps (map (stepTo letters) hs)) (le-leb (h .to) mostScope (hop-scope s h (a .0))) (steps-good (h .to) hs (a .1)))
+        and-both (isCapital (letterOf letters (h .step .label))) (leb (h .to) mostScope && areSteps (map (shownStep letters) hs)) (capital (h .step .label) (hop-listed s h (a .0)))
+        (and-both (leb (h .to) mostScope) (areSteps (map (shownStep letters) hs)) (le-leb (h .to) mostScope (hop-scope s h (a .0))) (steps-good (h .to) hs (a .1)))
 
     abbrev leaving : ℕ → List (Hop L)
     leaving s = hopsAt L (g .edges) s
@@ -133,18 +110,18 @@ module _ (text cells : List ℕ) (read : readCells text ≡ done cells) where
         (λ k n e f. range .together _ _ (hopsAt-elim L (g .edges) s n) m refl f e)
 
     hop-back : (s : ℕ) (h : Hop L) → record { from = s; step = h .step; to = h .to } ∈ g .edges
-        → hopOf leaving letters s (stepTo letters h) ≡ h
+        → hopOf leaving letters s (shownStep letters h) ≡ h
     unfolding hopOf
     hop-back s h m = rw (numbered letters (table .letters) (h .step .label) (hop-listed s h m), turn-back s h m)
 
-    hops-back : (s : ℕ) (hs : List (Hop L)) → Along L g s hs → hopsOf leaving letters s (map (stepTo letters) hs) ≡ hs
+    hops-back : (s : ℕ) (hs : List (Hop L)) → Along L g s hs → hopsOf leaving letters s (map (shownStep letters) hs) ≡ hs
     unfolding hopsOf
     hops-back s [] a = refl
     hops-back s (h ∷ hs) a = rw (hop-back s h (a .0), hops-back (h .to) hs (a .1))
 
   module _ (i : ℕ) (inside : i < length (queriesOf cells)) (r : RulesRow L) (entry : Entry L g (queryAt cells i) r) where
     abbrev p : PathRow
-    p = rowTo letters (r .mark) (r .path .start) (r .path .hops)
+    p = shownRow letters (r .mark) (r .path .start) (r .path .hops)
 
     range : InRange L g
     unfolding queryAt
@@ -157,7 +134,7 @@ module _ (text cells : List ℕ) (read : readCells text ≡ done cells) where
         (λ x m. ⊎-elim (λ e. subst (λ (y : ℕ). y < g .scopes) (sym e) (w .starts)) (λ k. tos-bounded L g range (r .path .start) (r .path .hops) (w .along) x k) (List·Memᴰ·cases-cons m)) in
         let f = scopes-few in
         let t = tos-length L (r .path .hops) in
-        let l : length (map (stepTo letters) (r .path .hops)) ≡ length (r .path .hops) = length-map (r .path .hops) (stepTo letters) in
+        let l : length (map (shownStep letters) (r .path .hops)) ≡ length (r .path .hops) = length-map (r .path .hops) (shownStep letters) in
         omega arith
 
     is-row : isRow p ≡ true
@@ -181,8 +158,9 @@ module _ (text cells : List ℕ) (read : readCells text ≡ done cells) where
         (subst (Entry L g (queryAt cells i)) (sym ruled-is) entry)
 
 pub listed-visible : ListedVisible
+unfolding listedText
 listed-visible text cells read i inside r entry = (
-  rowText (rowTo (lettersOf cells) (r .mark) (r .path .start) (r .path .hops)),
-  row-text (lettersOf cells) (r .mark) (r .path .start) (r .path .hops),
+  rowText (shownRow (lettersOf cells) (r .mark) (r .path .start) (r .path .hops)),
+  refl,
   judged-visible text cells read i inside r entry,
 )

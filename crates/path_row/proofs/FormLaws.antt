@@ -21,7 +21,7 @@ use Rattle.graph_file.specs.File.{isEmpty}
 use Rattle.path_row.specs.declared.form.Step.{Step}
 use Rattle.path_row.specs.declared.form.StepRead.{StepRead}
 use Rattle.path_row.specs.declared.form.StepRead.the-variants.{Taken, NoStep}
-use Rattle.path_row.specs.Form.{PathRow, mostMark, mostScope, mostSteps, mostBytes, atMost, numberUpTo, stepBy, stepHere, stepsOf, afterSteps, stepsWidth, Front, front, startBy, spaceBy, markBy, headHere, rowBy, rowHere, stepsText, rowText, stepsMade, rowMade, areSteps, isRow, rowWritten}
+use Rattle.path_row.specs.Form.{PathRow, mostMark, mostScope, mostSteps, mostBytes, atMost, numberUpTo, stepBy, stepHere, stepsOf, afterSteps, stepsWidth, Front, front, startBy, spaceBy, markBy, headHere, rowBy, rowHere, frontText, stepText, stepsText, rowText, stepsMade, rowMade, areSteps, isRow, rowWritten}
 use Rattle.path_row.specs.Inverse.{ReadThenWritten, WrittenThenRead, PartsThenRead, lettersIn, scopesIn, ReadThenParts}
 
 -- a number up to a limit
@@ -60,14 +60,14 @@ unfolding stepHere
 step-off x s h = rw (h, stepHere)
 
 pub record StepStands (s : List ℕ) (x v w : ℕ) : Type 0 where
-  pub text : s ≡ x ∷ (numberText v ++ drop w s)
+  pub text : s ≡ stepText x v ++ drop w s
   pub capital : isCapital x ≡ true
   pub small : v ≤ 63
   pub some : 1 ≤ w
   pub inside : w ≤ length s
 
 by-number : (y : ℕ) (s : List ℕ) (r : NumberRead) (x v w : ℕ) → isCapital y ≡ true → numberUpTo mostScope s ≡ r → stepBy y r ≡ Taken x v w → StepStands (y ∷ s) x v w
-unfolding stepBy numberUpTo
+unfolding stepBy numberUpTo stepText
 by-number y s NoNumber x v w c e f = absurd (let z : _≡_ {A = ℕ} 0 1 = cc in omega arith)
 by-number y s (Number u k) x v w c e f =
     let a : y ≡ x = cc
@@ -128,7 +128,7 @@ steps-found (suc n) s = by (stepHere s) refl (λ w. steps-found n (drop w s))
         let p = step-found s x v w e
         in let q = onward w
         in record {
-          text = rw (steps-on n s x v w e, after-on n s x v w e) (p .text ∙ ap (λ (z : List ℕ). x ∷ (numberText v ++ z)) (q .text) ∙ ap (λ (z : List ℕ). x ∷ z) (sym (append-assoc (numberText v) (stepsText (stepsOf n (drop w s))) (afterSteps n (drop w s)))));
+          text = rw (steps-on n s x v w e, after-on n s x v w e) (p .text ∙ ap (λ (z : List ℕ). stepText x v ++ z) (q .text) ∙ sym (append-assoc (stepText x v) (stepsText (stepsOf n (drop w s))) (afterSteps n (drop w s))));
           steps = rw (steps-on n s x v w e) (rw (p .capital, le-leb v 63 (p .small)) (q .steps));
           few = rw (steps-on n s x v w e) (omega (arith, q .few));
         }
@@ -143,7 +143,7 @@ unfolding isDigit within
 no-digit-zero = refl
 
 starts-plain : (ss : List Step) → areSteps ss ≡ true → isDigit (getD (stepsText ss) 0 0) ≡ false
-unfolding stepsText areSteps
+unfolding stepText stepsText areSteps
 starts-plain [] h = no-digit-zero
 starts-plain (s ∷ ss) h = no-digit (s .label) (both (isCapital (s .label)) (leb (s .scope) mostScope && areSteps ss) h .0)
 
@@ -152,8 +152,8 @@ up-back : (most v : ℕ) (rest : List ℕ) → v ≤ most → most ≤ 99999 →
 unfolding numberUpTo
 up-back most v rest h m d = ap (atMost most) (number-back v rest (omega arith) d) ∙ most-in most v (length (numberText v)) h
 
-step-back : (x v : ℕ) (rest : List ℕ) → isCapital x ≡ true → v ≤ 63 → isDigit (getD rest 0 0) ≡ false → stepHere (x ∷ (numberText v ++ rest)) ≡ Taken x v (suc (length (numberText v)))
-unfolding stepBy
+step-back : (x v : ℕ) (rest : List ℕ) → isCapital x ≡ true → v ≤ 63 → isDigit (getD rest 0 0) ≡ false → stepHere (stepText x v ++ rest) ≡ Taken x v (suc (length (numberText v)))
+unfolding stepBy stepText
 step-back x v rest c h d = step-on x (numberText v ++ rest) c ∙ ap (stepBy x) (up-back mostScope v rest h (omega arith) d)
 
 pub record StepsBack (n : ℕ) (ss : List Step) : Type 0 where
@@ -161,7 +161,7 @@ pub record StepsBack (n : ℕ) (ss : List Step) : Type 0 where
   pub after : afterSteps n (stepsText ss) ≡ []
 
 pub steps-back : (n : ℕ) (ss : List Step) → areSteps ss ≡ true → length ss ≤ n → StepsBack n ss
-unfolding stepsOf afterSteps stepsText areSteps stepHere
+unfolding stepsOf afterSteps stepText stepsText areSteps stepHere
 steps-back zero [] h l = record { steps = refl; after = refl }
 steps-back (suc n) [] h l = record { steps = refl; after = refl }
 steps-back zero (s ∷ ss) h l = absurd (omega arith)
@@ -185,8 +185,12 @@ pub head-off : (m w : ℕ) (s : List ℕ) → startsWith 32 (drop w s) ≡ false
 unfolding markBy spaceBy numberMeaning andThen
 head-off m w s h = rw (h, spaceBy)
 
+head-parts : (m v : ℕ) (t : List ℕ) → frontText m v ++ t ≡ numberText m ++ (32 ∷ (numberText v ++ t))
+unfolding frontText
+head-parts m v t = append-assoc (numberText m) (32 ∷ numberText v) t
+
 pub record HeadStands (s : List ℕ) (m v w : ℕ) : Type 0 where
-  pub text : s ≡ numberText m ++ (32 ∷ (numberText v ++ drop w s))
+  pub text : s ≡ frontText m v ++ drop w s
   pub mark : m ≤ 65535
   pub start : v ≤ 63
   pub place : w ≡ length (numberText m) + 1 + length (numberText v)
@@ -209,7 +213,7 @@ by-start s m w v k (Number u j) n l h e f =
     in let d : drop j (drop (w + 1) s) ≡ drop k s = drop-drop j (w + 1) s ∙ ap (λ (z : ℕ). drop z s) b
     in let c : drop w s ≡ 32 ∷ drop (w + 1) s = space-first (drop w s) h ∙ ap (λ (z : List ℕ). 32 ∷ z) (drop-drop 1 w s)
     in record {
-      text = n .whole ∙ ap (λ (z : List ℕ). numberText m ++ z) (c ∙ ap (λ (z : List ℕ). 32 ∷ z) (q .whole ∙ ap (λ (z : ℕ). numberText z ++ drop j (drop (w + 1) s)) a ∙ ap (λ (z : List ℕ). numberText v ++ z) d));
+      text = n .whole ∙ ap (λ (z : List ℕ). numberText m ++ z) (c ∙ ap (λ (z : List ℕ). 32 ∷ z) (q .whole ∙ ap (λ (z : ℕ). numberText z ++ drop j (drop (w + 1) s)) a ∙ ap (λ (z : List ℕ). numberText v ++ z) d)) ∙ sym (head-parts m v (drop k s));
       mark = l;
       start = omega (arith, g .small);
       place = let c : j ≡ length (numberText v) = q .width ∙ ap (λ (z : ℕ). length (numberText z)) a in omega (arith, n .width);
@@ -264,7 +268,7 @@ row-of s m v w e n =
     in let p = steps-found mostSteps (drop w s)
     in let t : drop w s ≡ stepsText (stepsOf mostSteps (drop w s)) = p .text ∙ ap (λ (z : List ℕ). stepsText (stepsOf mostSteps (drop w s)) ++ z) n ∙ append-nil (stepsText (stepsOf mostSteps (drop w s)))
     in (
-      sym (h .text ∙ ap (λ (z : List ℕ). numberText m ++ (32 ∷ (numberText v ++ z))) t),
+      sym (h .text ∙ ap (λ (z : List ℕ). frontText m v ++ z) t),
       rw (le-leb m 65535 (h .mark), le-leb v 63 (h .start), le-leb (length (stepsOf mostSteps (drop w s))) 63 (p .few)) (p .steps),
     )
 
@@ -284,7 +288,7 @@ read-then-written s r e =
 
 -- what can be written is read back
 steps-short : (ss : List Step) → areSteps ss ≡ true → length (stepsText ss) ≤ 3 * length ss
-unfolding stepsText areSteps
+unfolding stepText stepsText areSteps
 steps-short [] h = omega arith
 steps-short (s ∷ ss) h =
     let p = both (isCapital (s .label)) (leb (s .scope) mostScope && areSteps ss) h
@@ -299,8 +303,8 @@ space-plain = refl
 
 record HeadBack (m v : ℕ) (t : List ℕ) : Type 0 where
   width : ℕ
-  head : headHere (numberText m ++ (32 ∷ (numberText v ++ t))) ≡ done (front m v width)
-  rest : drop width (numberText m ++ (32 ∷ (numberText v ++ t))) ≡ t
+  head : headHere (frontText m v ++ t) ≡ done (front m v width)
+  rest : drop width (frontText m v ++ t) ≡ t
 
 head-back : (m v : ℕ) (t : List ℕ) → m ≤ 65535 → v ≤ 63 → isDigit (getD t 0 0) ≡ false → HeadBack m v t
 unfolding headHere startsWith startBy numberMeaning numberPlaced andThen
@@ -314,13 +318,13 @@ head-back m v t h g d =
     in let f : numberUpTo mostScope (drop (w + 1) s) ≡ Number v (length (numberText v)) = ap (numberUpTo mostScope) c ∙ up-back mostScope v t g (omega arith) d
     in record {
       width = w + 1 + length (numberText v);
-      head = ap (λ (r : NumberRead). markBy r s) a ∙ head-on m w s e ∙ ap (startBy m (w + 1)) f;
-      rest = sym (drop-drop (length (numberText v)) (w + 1) s) ∙ ap (drop (length (numberText v))) c ∙ drop-at (numberText v) t (length (numberText v)) refl;
+      head = ap headHere (head-parts m v t) ∙ ap (λ (r : NumberRead). markBy r s) a ∙ head-on m w s e ∙ ap (startBy m (w + 1)) f;
+      rest = ap (drop (w + 1 + length (numberText v))) (head-parts m v t) ∙ sym (drop-drop (length (numberText v)) (w + 1) s) ∙ ap (drop (length (numberText v))) c ∙ drop-at (numberText v) t (length (numberText v)) refl;
     }
 
 -- a row that can be written takes at most 256 bytes
 pub row-short : (r : PathRow) → isRow r ≡ true → length (rowText r) ≤ 256
-unfolding isRow rowText
+unfolding isRow frontText rowText
 row-short r h =
     let p = both (leb (r .mark) mostMark) (leb (r .start) mostScope && (leb (length (r .steps)) mostSteps && areSteps (r .steps))) h
     in let q = both (leb (r .start) mostScope) (leb (length (r .steps)) mostSteps && areSteps (r .steps)) (p .1)
@@ -329,7 +333,7 @@ row-short r h =
     in let v : r .start ≤ 63 = leb-true (r .start) 63 (q .0)
     in let n : length (r .steps) ≤ 63 = leb-true (length (r .steps)) 63 (u .0)
     in let t : List ℕ = stepsText (r .steps)
-    in omega (arith, length-append (numberText (r .mark)) (32 ∷ (numberText (r .start) ++ t)), length-append (numberText (r .start)) t, length-below 4 (r .mark) (omega arith), length-below 1 (r .start) (omega arith), steps-short (r .steps) (u .1))
+    in omega (arith, length-append (frontText (r .mark) (r .start)) t, length-append (numberText (r .mark)) (32 ∷ numberText (r .start)), length-below 4 (r .mark) (omega arith), length-below 1 (r .start) (omega arith), steps-short (r .steps) (u .1))
 
 pub written-then-read : WrittenThenRead
 unfolding rowHere rowBy andThen isRow rowText refuseIf isEmpty

@@ -15,8 +15,21 @@ use Rattle.text_field.specs.Buffer.{Buf, put, puts}
 use Rattle.text_field.proofs.BufferLaws.{puts-step, puts-then, puts-one, puts-none, puts-fits}
 use Rattle.text_field.specs.Outcome.{refused, done, refuseIf}
 use Rattle.path_row.specs.declared.form.Step.{Step}
-use Rattle.path_row.specs.Form.{PathRow, mostScope, stepsText, rowText, stepsMade, rowMade, areSteps, isRow, rowWritten}
+use Rattle.path_row.specs.Form.{PathRow, mostScope, frontText, stepText, stepsText, rowText, stepsMade, rowMade, areSteps, isRow, rowWritten}
 use Rattle.path_row.proofs.FormLaws.{row-short}
+
+-- mark, space, start
+pub front-put : (b b₁ b₂ b₃ : Buf) (mark start : ℕ) → b₁ ≡ puts b (numberText mark) → b₂ ≡ put b₁ 32 → b₃ ≡ puts b₂ (numberText start)
+    → b₃ ≡ puts b (frontText mark start)
+unfolding frontText
+front-put b b₁ b₂ b₃ mark start e f g =
+    puts-then b b₁ b₃ (numberText mark) (32 ∷ numberText start) e
+    (puts-then b₁ b₂ b₃ (32 ∷ []) (numberText start) (f ∙ puts-one b₁ 32) g)
+
+-- letter, scope
+pub step-put : (b b₁ b₂ : Buf) (x v : ℕ) → b₁ ≡ put b x → b₂ ≡ puts b₁ (numberText v) → b₂ ≡ puts b (stepText x v)
+unfolding stepText
+step-put b b₁ b₂ x v e f = puts-then b b₁ b₂ (x ∷ []) (numberText v) (e ∙ puts-one b x) f
 
 module _ (ls ss : List ℕ) (count : ℕ) where
   -- the steps from step i on
@@ -47,27 +60,23 @@ module _ (ls ss : List ℕ) (count : ℕ) where
   unfolding stepsText
   text-none i h = rw (steps-none i h)
 
-  text-next : (i : ℕ) → i < count → textFrom i ≡ getD ls i 0 ∷ (numberText (getD ss i 0) ++ textFrom (i + 1))
+  text-next : (i : ℕ) → i < count → textFrom i ≡ stepText (getD ls i 0) (getD ss i 0) ++ textFrom (i + 1)
   unfolding stepsText
   text-next i h = ap stepsText (steps-next i h)
 
-  -- a letter and a number are written, and the steps after them are left
-  pub put-next : (b b₁ b₂ w : Buf) (i x v : ℕ) → b₁ ≡ put b x → b₂ ≡ puts b₁ (numberText v) → x ≡ getD ls i 0 → v ≡ getD ss i 0 → i < count
-      → puts b (textFrom i) ≡ w → puts b₂ (textFrom (i + 1)) ≡ w
-  put-next b b₁ b₂ w i x v e f g h k p =
-      puts-step b b₂ w (x ∷ numberText v) (textFrom (i + 1)) (textFrom i) (puts-then b b₁ b₂ (x ∷ []) (numberText v) (e ∙ puts-one b x) f) (text-next i k ∙ rw (g, h)) p
+  -- a step is written, and the steps after it are left
+  pub put-next : (b b₁ w : Buf) (i x v : ℕ) → b₁ ≡ puts b (stepText x v) → x ≡ getD ls i 0 → v ≡ getD ss i 0 → i < count
+      → puts b (textFrom i) ≡ w → puts b₁ (textFrom (i + 1)) ≡ w
+  put-next b b₁ w i x v e g h k p = puts-step b b₁ w (stepText x v) (textFrom (i + 1)) (textFrom i) e (text-next i k ∙ rw (g, h)) p
 
 pub put-last : (b w : Buf) (ls ss : List ℕ) (count i : ℕ) → count ≤ i → puts b (textFrom ls ss count i) ≡ w → b ≡ w
 put-last b w ls ss count i h p = puts-none b (textFrom ls ss count i) (text-none ls ss count i h) ∙ p
 
--- mark, space, start, steps
-pub row-put : (b b₁ b₂ b₃ b₄ : Buf) (mark start count : ℕ) (ls ss : List ℕ) → b₁ ≡ puts b (numberText mark) → b₂ ≡ put b₁ 32 → b₃ ≡ puts b₂ (numberText start) → b₄ ≡ puts b₃ (stepsText (stepsMade count ls ss))
-    → b₄ ≡ puts b (rowText (rowMade mark start count ls ss))
+-- the head, then the steps
+pub row-put : (b b₁ b₂ : Buf) (mark start count : ℕ) (ls ss : List ℕ) → b₁ ≡ puts b (frontText mark start) → b₂ ≡ puts b₁ (stepsText (stepsMade count ls ss))
+    → b₂ ≡ puts b (rowText (rowMade mark start count ls ss))
 unfolding rowText rowMade
-row-put b b₁ b₂ b₃ b₄ mark start count ls ss e f g h =
-    puts-then b b₁ b₄ (numberText mark) (32 ∷ (numberText start ++ stepsText (stepsMade count ls ss))) e
-    (puts-then b₁ b₂ b₄ (32 ∷ []) (numberText start ++ stepsText (stepsMade count ls ss)) (f ∙ puts-one b₁ 32)
-    (puts-then b₂ b₃ b₄ (numberText start) (stepsText (stepsMade count ls ss)) g h))
+row-put b b₁ b₂ mark start count ls ss e f = puts-then b b₁ b₂ (frontText mark start) (stepsText (stepsMade count ls ss)) e f
 
 -- can a step be written, by its letter and then by its scope
 module _ (t u : Bool) (x : ℕ) (e : t ≡ isCapital x) where

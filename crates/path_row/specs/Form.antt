@@ -183,13 +183,20 @@ stepMeaning NoStep = none
 abbrev pub stepFrom : ℕ → List ℕ → Option StepFound
 stepFrom at s = stepMeaning (stepPlaced at (stepHere (drop at s)))
 
--- the text of steps, and of a row
+-- The text of a row, a listing's too: mark, space and start, then each step, the label's letter and
+-- the scope.
+unfoldable pub frontText : ℕ → ℕ → List ℕ
+frontText mark start = numberText mark ++ (32 ∷ numberText start)
+
+unfoldable pub stepText : ℕ → ℕ → List ℕ
+stepText letter scope = letter ∷ numberText scope
+
 unfoldable pub stepsText : List Step → List ℕ
 stepsText [] = []
-stepsText (s ∷ ss) = s .label ∷ (numberText (s .scope) ++ stepsText ss)
+stepsText (s ∷ ss) = stepText (s .label) (s .scope) ++ stepsText ss
 
 unfoldable pub rowText : PathRow → List ℕ
-rowText r = numberText (r .mark) ++ (32 ∷ (numberText (r .start) ++ stepsText (r .steps)))
+rowText r = frontText (r .mark) (r .start) ++ stepsText (r .steps)
 
 -- a row from its parts: `count` steps, whose letters and scopes stand in two lists; past their ends
 -- stands 0

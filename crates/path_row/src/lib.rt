@@ -2,4 +2,5 @@
 pub mod form;
 pub mod lent;
 pub mod taken;
+pub mod text;
 pub mod writer;

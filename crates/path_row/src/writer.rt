@@ -3,11 +3,11 @@ use crate::form::MOST_BYTES;
 use crate::form::MOST_MARK;
 use crate::form::MOST_SCOPE;
 use crate::form::MOST_STEPS;
+use crate::text::put_front;
+use crate::text::put_step;
 use text_field::Answer;
 use text_field::byte_at;
 use text_field::is_capital;
-use text_field::put_byte;
-use text_field::put_number;
 ghost use mathlib.Core.Path.{_≡_};
 ghost use Prim.Native.Nat.{ℕ};
 ghost use mathlib.Core.Bool.{true, _&&_};
@@ -27,8 +27,7 @@ fn put_steps(out: &mut [u8], n: usize, letters: &[u8], scopes: &[u8], count: usi
     let mut k = n;
     let mut i: usize = 0;
     while i < count {
-        k = put_byte(out, k, byte_at(letters, i, 0));
-        k = put_number(out, k, byte_at(scopes, i, 0) as u64);
+        k = put_step(out, k, byte_at(letters, i, 0), byte_at(scopes, i, 0) as u64);
         i += 1;
     }
     k
@@ -47,10 +46,8 @@ fn put_row(
     ensures written { λ r. ⌜ _≡_ {A = Buf} (now (out .exit), r)
         (puts (now (out .entry), n) (rowText (rowMade mark start count (now (letters .entry)) (now (scopes .entry))))) ⌝ }
 {
-    let after = put_number(out, n, mark);
-    let space = put_byte(out, after, b' ');
-    let head = put_number(out, space, start);
-    put_steps(out, head, letters, scopes, count)
+    let front = put_front(out, n, mark, start);
+    put_steps(out, front, letters, scopes, count)
 }
 
 // Can a step be written: is it a letter A to Z and a scope?

@@ -7,6 +7,8 @@ use native.Mathlib.Omega.{arith}
 use native.Mathlib.Numerals.{add-one}
 use lib.ListN.{length, getD, drop, length-append, length-map, drop-of-length-le}
 use lib.Seq.{drop-cons}
+use Rattle.share.specs.Share.{share}
+use Rattle.share.proofs.Nearest.{share-small}
 use Rattle.scope_graph.specs.Graph.{Query}
 use Rattle.scope_graph.specs.Rows.{language}
 use Rattle.scope_graph.specs.Computed.{Found, found-none, found-one, found-several}
@@ -17,12 +19,10 @@ use Rattle.text_field.proofs.BufferLaws.{puts-then}
 use Rattle.graph_file.specs.Format.{querySection, queries, sections, sectionAt}
 use Rattle.graph_file.specs.Decode.{rowsIn, rulesOf, queryOf, queriesOf, WasRead}
 use Rattle.board.specs.Queries.{queryAt}
-use Rattle.resolution.specs.Share.{share}
 use Rattle.resolution.specs.Summary.{summaryLine, shareText, summaryText}
 use Rattle.resolution.specs.declared.sums.Figures.{Figures}
 use Rattle.resolution.specs.Listing.{foundFor, isFound, countFound, summaryOf}
 use Rattle.resolution.specs.Figures.{figuresAfter, noFigures, figuresOver, total, Few, fieldText, countsText, figuresText}
-use Rattle.resolution.proofs.Nearest.{share-small}
 use Rattle.board.proofs.Queries.{accepted}
 
 after-sum : (c : Figures) (f : Found) → total (figuresAfter c f) ≡ total c + 1

@@ -3,7 +3,6 @@
 pub mod ListLaws
 pub mod Demand
 pub mod Totals
-pub mod Nearest
 pub mod Marked
 pub mod Examples
 pub mod Given

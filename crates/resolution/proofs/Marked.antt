@@ -26,7 +26,9 @@ use Rattle.graph_file.specs.File.{readCells, formIn}
 use Rattle.graph_file.specs.Decode.{keptIf, rowsAmong, rowsIn, lettersOf, orderPairOf, transitionOf, rulesOf, nameAt, edgeOf, declarationOf, openPairOf, queryOf, scopesOf, graphOf, opensOf, queriesOf}
 use Rattle.graph_file.specs.Accepted.{AcceptedTable}
 use Rattle.graph_file.proofs.DecodeAccepted.{read-accepted}
-use Rattle.follow.specs.Text.{foundText, letterOf, hopsText, rowText, endText}
+use Rattle.path_row.specs.Form.{frontText, stepText, stepsText}
+use Rattle.path_row.specs.Form.{rowText as pathRowText}
+use Rattle.follow.specs.Text.{foundText, letterOf, rowText, endText}
 use Rattle.resolution.specs.Listing.{awaitsText, foundFor, entriesText, listingText}
 use Rattle.board.specs.Queries.{queryAt}
 use Rattle.board.specs.Example.{hours, service, exampleText}
@@ -40,7 +42,7 @@ use Rattle.board.proofs.Example.{reads, exampleCells, example-read}
 -- what a query's answers and their text compute with: each trial names it alone on its `unfolding`
 -- line
 unfoldable pub answers : Unit {0}
-unfolding flatMap sameTurn sameTurned later laterStep aboveOne above sameEnd sameName anyOf preferredBy nextBy keep firstOf anyBelow sameDeclaration foundOf hopsAt marksAt declaresAny behind hopOn nodesFrom leadsOn usable sameHop sameHops preferredTo nodes reachedNodes cut rowsAt entries found isReached standing judged openEnd followedAt awaits endOf keptIf rowsAmong rowsIn lettersOf orderPairOf transitionOf rulesOf nameAt edgeOf declarationOf openPairOf queryOf scopesOf graphOf opensOf queriesOf queryAt packed packHigh packLow shownText awaitsText foundText letterOf hopsText rowText endText digitsOf numberText bytesOf beforeZero nameText hasKinds formIn tableForm
+unfolding flatMap sameTurn sameTurned later laterStep aboveOne above sameEnd sameName anyOf preferredBy nextBy keep firstOf anyBelow sameDeclaration foundOf hopsAt marksAt declaresAny behind hopOn nodesFrom leadsOn usable sameHop sameHops preferredTo nodes reachedNodes cut rowsAt entries found isReached standing judged openEnd followedAt awaits endOf keptIf rowsAmong rowsIn lettersOf orderPairOf transitionOf rulesOf nameAt edgeOf declarationOf openPairOf queryOf scopesOf graphOf opensOf queriesOf queryAt packed packHigh packLow shownText awaitsText foundText letterOf frontText stepText stepsText pathRowText rowText endText digitsOf numberText bytesOf beforeZero nameText hasKinds formIn tableForm
 answers = tt
 
 module _ (text cells : List ℕ) (e : readCells text ≡ done cells) (i : ℕ) (h : i < length (queriesOf cells)) where

@@ -37,7 +37,7 @@ use Rattle.board.specs.Marks.{declaredHere, marksOf, marksIn}
 use Rattle.follow.specs.declared.Task.the-variants.{Entries}
 use Rattle.follow.specs.declared.Bounds.{Bounds}
 use Rattle.follow.specs.declared.Aim.{Aim}
-use Rattle.follow.specs.Text.{letterOf, hopsText, rowText}
+use Rattle.follow.specs.Text.{letterOf, shownStep, rowText}
 use Rattle.follow.specs.Tally.{Taken, State, takeRows}
 use Rattle.follow.specs.Walk as walk
 use Rattle.follow.specs.Walk.{letterBytes, entryRows, placeRows, placesFrom, rowsFrom, walked, followedIn}
@@ -67,14 +67,14 @@ module _ (r : Rules) where
 
 -- A row's text asks for letters only.
 module _ (a b : List ℕ) (same : (l : ℕ) → getD a l 0 ≡ getD b l 0) where
-  hops-same : (hops : List (HopOf Turned)) → hopsText a hops ≡ hopsText b hops
-  unfolding hopsText letterOf
-  hops-same [] = refl
-  hops-same (h ∷ hops) = rw (same (h .step .label), hops-same hops)
+  steps-same : (hops : List (HopOf Turned)) → map (shownStep a) hops ≡ map (shownStep b) hops
+  unfolding letterOf
+  steps-same [] = refl
+  steps-same (h ∷ hops) = rw (same (h .step .label), steps-same hops)
 
   pub row-same : (mark start : ℕ) (hops : List (HopOf Turned)) → rowText a mark start hops ≡ rowText b mark start hops
   unfolding rowText
-  row-same mark start hops = rw (hops-same hops)
+  row-same mark start hops = rw (steps-same hops)
 
 taken-eq : {a b m : ℕ} {x y : List ℕ} → a ≡ b → x ≡ y → _≡_ {A = Taken} (record { at = a; mark = m; text = x }) (record { at = b; mark = m; text = y })
 taken-eq e f = rw (e, f)

@@ -1,6 +1,5 @@
 -- What a query's listing and the summary are, that they are what the rules say, and how the code
 -- holds them, in reading order. Assumes nothing.
-pub mod Share
 pub mod Summary
 pub mod Listing
 pub mod Demand

@@ -3,7 +3,7 @@
 use Prim.Native.Nat.{ℕ, zero, suc}
 use mathlib.Core.List.{List, [], _∷_, _++_}
 use Rattle.text_field.specs.Number.{numberText}
-use Rattle.resolution.specs.Share.{share}
+use Rattle.share.specs.Share.{share}
 
 -- its names line: `queries one several none share`
 abbrev pub summaryLine : List ℕ

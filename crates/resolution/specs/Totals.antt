@@ -29,7 +29,7 @@ module _ (cells : List ℕ) where
 
 -- What is printed is the number of queries and how many of them are found so. The share follows
 -- from the first two of these, by `shareText` in specs/Summary; what number it is says
--- `ShareNearest` in specs/Share.
+-- `ShareNearest` in share/specs/Share.
 pub record SummaryIs (text cells : List ℕ) : Type 0 where
   pub founds : List Found
   pub founds-are : FoundsAre cells (queriesOf cells) founds

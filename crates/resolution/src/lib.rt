@@ -4,7 +4,6 @@ mod awaits;
 mod found;
 mod lists;
 mod queries;
-mod share;
 mod sums;
 mod text;
 mod walks;

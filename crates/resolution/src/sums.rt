@@ -2,7 +2,6 @@
 use crate::ask::ask_of;
 use crate::queries::query_at;
 use crate::queries::query_count;
-use crate::share::share_of;
 use crate::text::Found;
 use crate::walks::found_of;
 use block::SIZE;
@@ -11,6 +10,7 @@ use graph_file::OWN_CELLS;
 use graph_file::SHORT_CELLS;
 use graph_file::is_short;
 use graph_file::read_over;
+use share::share_of;
 use text_field::Answer;
 use text_field::put_byte;
 use text_field::put_bytes;

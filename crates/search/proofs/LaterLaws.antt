@@ -1,6 +1,6 @@
 -- Steps with turns (02, K12): a step is cut as its label alone is, or where a later hop of its
 -- label leads on; an open pair's step, later than all, is cut as its label is. Assumes nothing.
-use Prim.Native.Nat.{ℕ, suc, _+_, _/_, _%_, _≤_, _<_}
+use Prim.Native.Nat.{ℕ, suc, _+_, _≤_, _<_}
 use mathlib.Core.Path.{_≡_, refl, sym, ap, ap₂, _∙_}
 use mathlib.Core.Bool.{Bool, true, false, _&&_, _||_, and-false, or-false, or-assoc}
 use mathlib.Core.List.{List}
@@ -14,7 +14,7 @@ use Rattle.scope_graph.specs.Path.{HopOf}
 use Rattle.scope_graph.specs.Rows.{anyOf}
 use Rattle.scope_graph.specs.Turns.{Turned, later, labelEnd, laterStep}
 use Rattle.block.specs.Sets.{hasScope, ALL_LABELS}
-use Rattle.block.specs.Block.{Bounds, turnCell, firstEdge, edgeCell, turnOf, hopOf, hopsOn, blockHops, pairFlag}
+use Rattle.block.specs.Block.{Bounds, turnCell, firstEdge, edgeCell, labelOf, turnOf, hopOf, hopsOn, blockHops, pairFlag}
 use Rattle.block.proofs.BlockLaws.{on-none, on-more, hops-scope}
 use Rattle.block.proofs.EdgeLaws.{edge-of}
 use Rattle.search.specs.declared.Node.{Node}
@@ -139,7 +139,7 @@ module _ (block : List ℕ) (goal : ℕ) (n : Node) (x : ℕ) where
 
   -- its label's end by number, as the code asks
   abbrev pub by-label : Bool
-  by-label = cut-at (plainEnd (endOf (x / 64 % 8 + 1)))
+  by-label = cut-at (plainEnd (endOf (labelOf x + 1)))
 
   abbrev pub later-on : Bool
   later-on = laterLeads (tableBoard block goal) n (hopOf x .step) (blockHops block (n .scope))
@@ -148,7 +148,7 @@ module _ (block : List ℕ) (goal : ℕ) (n : Node) (x : ℕ) where
   unfolding hopOf tableBoard
   step-cut =
       cut-turned block (hopOf x .step) (tableBoard block goal) (n .left) (hasScope (n .free)) (n .scope) (n .state)
-      ∙ ap (λ (e : End ℕ). cut-at (plainEnd e) || later-on) (sym (end-label (x / 64 % 8)))
+      ∙ ap (λ (e : End ℕ). cut-at (plainEnd e) || later-on) (sym (end-label (labelOf x)))
 
   pub step-by-label : by-label ≡ true → cut-at (by (hopOf x .step)) ≡ true
   step-by-label h = step-cut ∙ rw h
@@ -159,7 +159,7 @@ module _ (block : List ℕ) (goal : ℕ) (n : Node) (x : ℕ) where
   -- no edge is later than one of the highest turn
   not-later : (y : ℕ) → turnOf y ≤ turnOf x → laterStep (by (hopOf y .step)) (by (hopOf x .step)) ≡ false
   unfolding laterStep later hopOf
-  not-later y h = rw (le-ltb (turnOf x) (turnOf y) h) (and-false (eqb (y / 64 % 8) (x / 64 % 8)))
+  not-later y h = rw (le-ltb (turnOf x) (turnOf y) h) (and-false (eqb (labelOf y) (labelOf x)))
 
   highest : Bounds block → turnCell block ≤ turnOf x → later-on ≡ false
   highest bounds most =

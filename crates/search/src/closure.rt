@@ -5,6 +5,8 @@ use crate::scan::least_of;
 use crate::scan::rest_of;
 use block::accept_set;
 use block::edge_at;
+use block::edge_label;
+use block::edge_scope;
 use block::edges_end;
 use block::edges_from;
 use block::has;
@@ -89,7 +91,7 @@ fn edge_lacks(
     requires scope { ⌜ s < 64 ⌝ }
     ensures closed { λ r. ⌜ (r ≡ false → HopClosed (now (block .entry)) (wayOf (now (block .entry)) cutting) (hasScope free) (placeFlag (now (table .entry))) s (hopOf x)) ⌝ }
 {
-    let to = x % 64;
+    let to = edge_scope(x);
     let set = table[to as usize];
     if set == 0 {
         return false;
@@ -97,7 +99,7 @@ fn edge_lacks(
     if !has(free, to) {
         return false;
     }
-    let label = x / 64 % 8;
+    let label = edge_label(x);
     let have = table[s as usize] | barred(block, cutting, s, label);
     leads_into(block, full ^ (full & have), set, label)
 }

@@ -13,6 +13,10 @@ use block::EDGE;
 use block::FIRST;
 use block::INTO;
 use block::LEAVING;
+use block::back_label;
+use block::back_scope;
+use block::edge_label;
+use block::edge_scope;
 use block::has;
 ghost use Prim.Native.Nat.{_+_, _≤_, _<_};
 ghost use lib.ListN.{length};
@@ -67,7 +71,7 @@ fn grow_edge(
     ensures kept { λ r. ⌜ Kept (now (table .entry)) (now (table .exit)) ⌝ }
 {
     let x = block[BACK + (p % 512) as usize];
-    let from = x / 8 % 64;
+    let from = back_scope(x);
     let old = table[from as usize];
     if old | most == old {
         return 0;
@@ -75,7 +79,7 @@ fn grow_edge(
     if !has(free, from) {
         return 0;
     }
-    let label = x % 8;
+    let label = back_label(x);
     let bar = barred(block, cutting, from, label);
     let come = hinted(block, BEFORE, label, set);
     add(table, from, come ^ (come & bar))
@@ -99,7 +103,7 @@ fn reach_edge(
     ensures kept { λ r. ⌜ Kept (now (table .entry)) (now (table .exit)) ⌝ }
 {
     let x = block[EDGE + (p % 512) as usize];
-    let to = x % 64;
+    let to = edge_scope(x);
     let old = table[to as usize];
     if old | most == old {
         return 0;
@@ -107,7 +111,7 @@ fn reach_edge(
     if !has(free, to) {
         return 0;
     }
-    let label = x / 64 % 8;
+    let label = edge_label(x);
     let bar = barred(block, cutting, t, label);
     add(table, to, states_after(block, label, set ^ (set & bar)))
 }

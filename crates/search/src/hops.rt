@@ -2,6 +2,8 @@
 use crate::Node;
 use crate::places::place;
 use block::edge_at;
+use block::edge_label;
+use block::edge_scope;
 use block::edges_end;
 use block::has;
 use block::next_state;
@@ -22,15 +24,16 @@ pub fn worth(block: &[u64], table: &[u64], n: Node, labels: u64, x: u64) -> u64
     requires inside { ⌜ Inside n ⌝ }
     ensures answer { λ r. ⌜ r ≡ worthState (now (block .entry)) (now (table .entry)) (n .free) (n .state) labels (hopOf x) ⌝ }
 {
-    if !has(n.free, x % 64) {
+    let to = edge_scope(x);
+    if !has(n.free, to) {
         return 16;
     }
-    let label = x / 64 % 8;
+    let label = edge_label(x);
     if !has(labels, label) {
         return 16;
     }
     let r = next_state(block, n.state, label);
-    if place(table, x % 64, r) { r } else { 16 }
+    if place(table, to, r) { r } else { 16 }
 }
 
 // The next edge, from number p on, of the node's scope whose hop is asked for and worth entering;
@@ -57,12 +60,13 @@ pub fn entered(n: Node, x: u64, r: u64) -> Node
     requires left { ⌜ 0 < n .left ⌝ }
     ensures answer { λ m. ⌜ Entered n (hopOf x) r m ⌝ }
 {
-    let free = taken(n.free, x % 64);
+    let scope = edge_scope(x);
+    let free = taken(n.free, scope);
     let left = n.left - 1;
     Node {
         free,
         left,
-        scope: x % 64,
+        scope,
         state: r,
     }
 }

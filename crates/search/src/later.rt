@@ -8,11 +8,12 @@ use crate::exists::exists_at;
 use crate::hops::entered;
 use crate::hops::worth;
 use block::edge_at;
+use block::edge_label;
+use block::edge_turn;
 use block::edges_end;
 use block::edges_from;
 use block::is_later;
 use block::most_turn;
-use block::turn_of;
 ghost use mathlib.Core.Path.{_≡_};
 ghost use mathlib.Core.Bool.{_&&_};
 ghost use Prim.Native.Nat.{_≤_};
@@ -82,11 +83,11 @@ pub fn edge_cut(block: &[u64], goal: u64, live: &[u64], n: Node, known: u64, x: 
     ensures known { λ r. ⌜ Known (now (block .entry)) goal n (r .known) ⌝ }
     ensures cut { λ r. ⌜ r .cut ≡ cutHere (tableBoard (now (block .entry)) goal) (tableOrder (now (block .entry))) (n .left) (hasScope (n .free)) (n .scope) (n .state) (by (hopOf x .step)) ⌝ }
 {
-    let told = learn(block, goal, live, n, known, x / 64 % 8 + 1);
+    let told = learn(block, goal, live, n, known, edge_label(x) + 1);
     if told.cut {
         return told;
     }
-    if most_turn(block) <= turn_of(x) {
+    if most_turn(block) <= edge_turn(x) {
         return told;
     }
     let cut = later_leads(block, goal, live, n, x);

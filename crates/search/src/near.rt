@@ -7,6 +7,8 @@ use crate::scan::least_of;
 use crate::scan::rest_of;
 use block::BACK;
 use block::BEFORE;
+use block::back_label;
+use block::back_scope;
 use block::single;
 ghost use Prim.Native.Nat.{_≤_, _<_};
 ghost use lib.ListN.{length};
@@ -74,9 +76,9 @@ fn layer_edge(block: &[u64], held: &mut [u64], next: &mut [u64], set: u64, p: u6
     requires next { ⌜ 64 ≤ length (now next) ⌝ }
 {
     let x = block[BACK + (p % 512) as usize];
-    let from = x / 8 % 64;
+    let from = back_scope(x);
     let old = held[from as usize];
-    let come = hinted(block, BEFORE, x % 8, set);
+    let come = hinted(block, BEFORE, back_label(x), set);
     if come | old == old {
         return 0;
     }

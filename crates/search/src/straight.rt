@@ -8,6 +8,7 @@ use crate::hops::worth;
 use crate::near::DENSE;
 use block::EDGES;
 use block::edge_at;
+use block::edge_scope;
 use block::edges_end;
 use block::edges_from;
 ghost use mathlib.Core.Path.{_≡_};
@@ -43,7 +44,7 @@ fn hop_distance(block: &[u64], live: &[u64], n: Node, labels: u64, x: u64) -> u6
     if 15 < r {
         return 256;
     }
-    distance(live, x % 64, r)
+    distance(live, edge_scope(x), r)
 }
 
 // The node's edge whose hop, of those asked for, comes to the nearest place; past its edges if none

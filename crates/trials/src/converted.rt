@@ -1,5 +1,8 @@
 // A text put into a form of file.
-use crate::lent;
+use crate::answered::unwritten;
+use crate::answered::written;
+use crate::lent::BYTE;
+use crate::lent::BYTES;
 use crate::lent::bytes;
 use crate::lent::front;
 use crate::say;
@@ -8,11 +11,11 @@ use conversion::to_old;
 use graph_table::Form;
 use text_field::Answer;
 
-// A text put into a form, in the first `room` bytes.
-fn put_into(form: Form, text: &[u8], out: &mut [u8], room: usize) -> Answer {
+// A text put into a form.
+fn put_into(form: Form, text: &[u8], out: &mut [u8]) -> Answer {
     match form {
-        Form::Old => to_old(text, front(out, room)),
-        Form::Kinds => to_new(text, front(out, room)),
+        Form::Old => to_old(text, out),
+        Form::Kinds => to_new(text, out),
     }
 }
 
@@ -27,7 +30,7 @@ fn other(form: Form) -> Form {
 // the buffer here.
 fn gives(form: Form, text: &[u8], due: &[u8]) -> bool {
     let mut again = [0u8; 32768];
-    let a = put_into(form, text, &mut again, due.len());
+    let a = put_into(form, text, front(&mut again, due.len()));
     let Answer::Written(n) = a else {
         return false;
     };
@@ -37,24 +40,25 @@ fn gives(form: Form, text: &[u8], due: &[u8]) -> bool {
 // What came out is the text itself, or it goes back to it.
 fn back(form: Form, text: &[u8], made: &[u8]) {
     if check::same(made, text) {
-        return say::as_it_was();
+        return say::word(b", as it was\n");
     }
     say::back(gives(other(form), made, text))
 }
 
-// A text put into a form in a lent buffer of `room` bytes, and back.
-pub fn converting(form: Form, text: &[u8], room: usize, out: &mut [u8]) {
-    lent::mark_bytes(out);
-    let a = put_into(form, text, out, room);
+// What came out of a text, and what the lent bytes hold.
+fn converted(a: Answer, form: Form, text: &[u8], lent: &[u8]) {
     match a {
         Answer::Written(n) => {
-            say::done(b"converted", n, lent::bytes_sum(bytes(out, 0, n)));
-            say::rest(lent::bytes_kept(bytes(out, 0, room), n));
-            back(form, text, bytes(out, 0, n));
+            written(b"converted", n, lent);
+            back(form, text, bytes(lent, 0, n));
         }
-        Answer::Refused(n) => {
-            say::refused(n);
-            say::all(lent::bytes_kept(bytes(out, 0, room), 0));
-        }
+        Answer::Refused(k) => unwritten(k, lent),
     }
+}
+
+// A text put into a form in a lent buffer of `room` bytes, and back.
+pub fn converting(form: Form, text: &[u8], room: usize) {
+    let mut out = [BYTE; BYTES];
+    let a = put_into(form, text, front(&mut out, room));
+    converted(a, form, text, bytes(&out, 0, room));
 }

@@ -1,5 +1,6 @@
 // The lawful beginnings that a query follows: their number alone, and beside its listing.
-use crate::lent;
+use crate::lent::BYTE;
+use crate::lent::BYTES;
 use crate::lent::bytes;
 use crate::lent::front;
 use crate::listings::shown;
@@ -15,20 +16,20 @@ const UNSAID: u64 = 2000000000;
 pub fn counting(text: &[u8], query: usize) {
     let c = count(text, query);
     match c {
-        Counted::Count(n) => say::count(n),
+        Counted::Count(n) => say::told(b"count ", n),
         Counted::Refused(k) => say::refused(k),
     }
     say::line();
 }
 
 // A query's listing in a lent buffer of `room` bytes, and the number beside it.
-pub fn followed(text: &[u8], query: usize, room: usize, out: &mut [u8]) {
-    lent::mark_bytes(out);
+pub fn followed(text: &[u8], query: usize, room: usize) {
+    let mut out = [BYTE; BYTES];
     let mut number = UNSAID;
-    let a = listing_counted(text, query, front(out, room), &mut number);
-    shown(b"listed", a, bytes(out, 0, room));
+    let a = listing_counted(text, query, front(&mut out, room), &mut number);
+    shown(b"listed", a, bytes(&out, 0, room));
     if number == UNSAID {
-        return say::number_kept();
+        return say::word(b"number kept\n");
     }
     say::beside(number)
 }

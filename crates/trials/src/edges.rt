@@ -1,5 +1,6 @@
 // The rows that leave a scope, found in cells that need be no graph's.
 use crate::input::table_of;
+use crate::lent::CELLS;
 use crate::lent::cells;
 use crate::say;
 use graph_table::next_row;
@@ -18,9 +19,10 @@ fn places(rows: &[u64], s: u64) {
 }
 
 // The same of cells that stand in a body in hexadecimal.
-pub fn finding(body: &[u8], s: usize, given: &mut [u64]) {
-    let m = table_of(body, given);
+pub fn finding(body: &[u8], s: usize) {
+    let mut given = [0u64; CELLS];
+    let m = table_of(body, &mut given);
     say::word(b"found");
-    places(cells(given, m), s as u64);
+    places(cells(&given, m), s as u64);
     say::line();
 }

@@ -1,6 +1,12 @@
 // Gym files: a text read, a graph table written, the name that a query seeks.
+use crate::answered::unwritten;
+use crate::answered::written;
 use crate::input::table_of;
 use crate::lent;
+use crate::lent::BYTE;
+use crate::lent::BYTES;
+use crate::lent::CELL;
+use crate::lent::CELLS;
 use crate::lent::bytes;
 use crate::lent::cells;
 use crate::lent::front;
@@ -11,72 +17,71 @@ use graph_file::read;
 use graph_file::write;
 use text_field::Answer;
 
-// A text read into the first `room` cells.
-fn read_into(text: &[u8], table: &mut [u64], room: usize) -> Answer {
-    read(text, front_cells(table, room))
-}
-
-// Cells written into the first `room` bytes.
-fn write_into(table: &[u64], out: &mut [u8], room: usize) -> Answer {
-    write(table, front(out, room))
-}
-
 // Does writing these cells give this very text, in a buffer of its length?
-fn written_back(table: &[u64], text: &[u8], out: &mut [u8]) -> bool {
-    let a = write_into(table, out, text.len());
+fn written_back(table: &[u64], text: &[u8]) -> bool {
+    let mut out = [0u8; BYTES];
+    let a = write(table, front(&mut out, text.len()));
     let Answer::Written(m) = a else {
         return false;
     };
-    check::same(bytes(out, 0, m), text)
+    check::same(bytes(&out, 0, m), text)
 }
 
 // Does reading this text give these very cells, in a table of their length?
-fn read_back(text: &[u8], given: &[u64], table: &mut [u64]) -> bool {
-    let a = read_into(text, table, given.len());
+fn read_back(text: &[u8], given: &[u64]) -> bool {
+    let mut table = [0u64; CELLS];
+    let a = read(text, front_cells(&mut table, given.len()));
     let Answer::Written(m) = a else {
         return false;
     };
-    lent::same(cells(table, m), given)
+    lent::same(cells(&table, m), given)
+}
+
+// What reading a text answered, and what the lent cells hold.
+fn read_shown(a: Answer, text: &[u8], lent: &[u64]) {
+    match a {
+        Answer::Written(n) => {
+            say::done(b"read", n, lent::cells_sum(cells(lent, n)));
+            say::rest(lent::cells_kept(lent, n));
+            say::back(written_back(cells(lent, n), text));
+        }
+        Answer::Refused(k) => {
+            say::refused(k);
+            say::all(lent::cells_kept(lent, 0));
+        }
+    }
 }
 
 // A text read into a lent table of `room` cells.
-pub fn reading(text: &[u8], room: usize, table: &mut [u64], out: &mut [u8]) {
-    lent::mark_cells(table);
-    let a = read_into(text, table, room);
+pub fn reading(text: &[u8], room: usize) {
+    let mut table = [CELL; CELLS];
+    let a = read(text, front_cells(&mut table, room));
+    read_shown(a, text, cells(&table, room));
+}
+
+// What writing cells answered, and what the lent bytes hold.
+fn write_shown(a: Answer, given: &[u64], lent: &[u8]) {
     match a {
         Answer::Written(n) => {
-            say::done(b"read", n, lent::cells_sum(cells(table, n)));
-            say::rest(lent::cells_kept(cells(table, room), n));
-            say::back(written_back(cells(table, n), text, out));
+            written(b"written", n, lent);
+            say::back(read_back(bytes(lent, 0, n), given));
         }
-        Answer::Refused(n) => {
-            say::refused(n);
-            say::all(lent::cells_kept(cells(table, room), 0));
-        }
+        Answer::Refused(k) => unwritten(k, lent),
     }
 }
 
 // Cells written into a lent buffer of `room` bytes.
-fn writing(given: &[u64], room: usize, table: &mut [u64], out: &mut [u8]) {
-    lent::mark_bytes(out);
-    let a = write_into(given, out, room);
-    match a {
-        Answer::Written(n) => {
-            say::done(b"written", n, lent::bytes_sum(bytes(out, 0, n)));
-            say::rest(lent::bytes_kept(bytes(out, 0, room), n));
-            say::back(read_back(bytes(out, 0, n), given, table));
-        }
-        Answer::Refused(n) => {
-            say::refused(n);
-            say::all(lent::bytes_kept(bytes(out, 0, room), 0));
-        }
-    }
+fn writing(given: &[u64], room: usize) {
+    let mut out = [BYTE; BYTES];
+    let a = write(given, front(&mut out, room));
+    write_shown(a, given, bytes(&out, 0, room));
 }
 
 // The same of cells that stand in a body in hexadecimal.
-pub fn writing_of(body: &[u8], room: usize, given: &mut [u64], table: &mut [u64], out: &mut [u8]) {
-    let m = table_of(body, given);
-    writing(cells(given, m), room, table, out)
+pub fn writing_of(body: &[u8], room: usize) {
+    let mut given = [0u64; CELLS];
+    let m = table_of(body, &mut given);
+    writing(cells(&given, m), room)
 }
 
 // The name that a query of a text seeks.

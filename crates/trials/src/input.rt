@@ -92,15 +92,17 @@ pub fn head_of(line: &[u8]) -> Head {
     }
 }
 
-// The next n bytes of the input put at a place, where there is room for them: how many came.
-pub fn read_part(space: &mut [u8], at: usize, n: usize) -> usize {
+// The next n bytes of the input and the LF behind them put at a place: was there room for them, and
+// did all come?
+pub fn read_part(space: &mut [u8], at: usize, n: usize) -> bool {
+    let size = plus(n, 1);
     if space.len() < at {
-        return 0;
+        return false;
     }
-    if space.len() - at < n {
-        return 0;
+    if space.len() - at < size {
+        return false;
     }
-    io::read_full(0, &mut space[at..at + n])
+    io::read_full(0, &mut space[at..at + size]) == size
 }
 
 fn put(table: &mut [u64], n: usize, x: u64) {

@@ -1,8 +1,13 @@
 // Memory that is lent: the mark it holds before a call, whether it still stands after it, and a sum
 // of what was put there.
-const CELL: u64 = 12297829382473034410;
+pub const CELL: u64 = 12297829382473034410;
 
-const BYTE: u8 = 165;
+pub const BYTE: u8 = 165;
+
+// The most cells and bytes that a case lends.
+pub const CELLS: usize = 12288;
+
+pub const BYTES: usize = 98304;
 
 // The first n cells; none where there are fewer.
 pub fn cells(s: &[u64], n: usize) -> &[u64] {
@@ -38,22 +43,6 @@ pub fn front<'a>(s: &'a mut [u8], n: usize) -> &'a mut [u8] {
 pub fn put_byte(s: &mut [u8], i: usize, x: u8) {
     if i < s.len() {
         s[i] = x;
-    }
-}
-
-pub fn mark_cells(s: &mut [u64]) {
-    let mut i = 0;
-    while i < s.len() {
-        s[i] = CELL;
-        i += 1;
-    }
-}
-
-pub fn mark_bytes(s: &mut [u8]) {
-    let mut i = 0;
-    while i < s.len() {
-        s[i] = BYTE;
-        i += 1;
     }
 }
 

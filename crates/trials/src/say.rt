@@ -13,25 +13,31 @@ pub fn title(name: &[u8]) {
     word(b": ");
 }
 
+fn number(v: u64) {
+    io::print_decimal(1, v);
+}
+
+// A number behind the words for it.
+pub fn told(words: &[u8], v: u64) {
+    word(words);
+    number(v);
+}
+
 pub fn refused(n: u64) {
-    word(b"refused ");
-    number(n);
+    told(b"refused ", n);
 }
 
 // A word with the number of steps that comes with it.
 pub fn counted(name: &[u8], steps: usize) {
     word(name);
-    word(b" ");
-    number(steps as u64);
+    told(b" ", steps as u64);
 }
 
 // What was put into the lent memory: how much, and its sum.
 pub fn done(verb: &[u8], n: usize, sum: u64) {
     word(verb);
-    word(b" ");
-    number(n as u64);
-    word(b" sum ");
-    number(sum);
+    told(b" ", n as u64);
+    told(b" sum ", sum);
 }
 
 // After an answer: is the lent memory unchanged past the output?
@@ -61,11 +67,6 @@ pub fn back(same: bool) {
     }
 }
 
-// Is what came out what went in?
-pub fn as_it_was() {
-    word(b", as it was\n");
-}
-
 pub fn name(s: &[u8]) {
     word(b"seeks <");
     word(s);
@@ -77,24 +78,16 @@ fn byte(x: u8) {
     word(&s);
 }
 
-fn number(v: u64) {
-    io::print_decimal(1, v);
-}
-
 // Where a row stands.
 pub fn place(at: usize) {
-    word(b" ");
-    number(at as u64);
+    told(b" ", at as u64);
 }
 
 // A path row in the large.
 pub fn row(mark: u64, start: u64, count: usize) {
-    word(b"mark ");
-    number(mark);
-    word(b" start ");
-    number(start);
-    word(b" steps ");
-    number(count as u64);
+    told(b"mark ", mark);
+    told(b" start ", start);
+    told(b" steps ", count as u64);
 }
 
 pub fn step(label: u8, scope: u8) {
@@ -112,28 +105,15 @@ pub fn past(none: bool) {
 
 // How many records the steps of two rows fill.
 pub fn records(n: usize, m: usize) {
-    word(b", records ");
-    number(n as u64);
-    word(b" and ");
-    number(m as u64);
+    told(b", records ", n as u64);
+    told(b" and ", m as u64);
     line();
 }
 
-// How many lawful beginnings there are.
-pub fn count(n: u64) {
-    word(b"count ");
-    number(n);
-}
-
-// The same beside a listing, and where the lent number is as it was.
+// How many lawful beginnings there are, beside a listing.
 pub fn beside(n: u64) {
-    word(b"number ");
-    number(n);
+    told(b"number ", n);
     line();
-}
-
-pub fn number_kept() {
-    word(b"number kept\n");
 }
 
 // A text of at most 4,096 bytes as it is.

@@ -21,12 +21,12 @@ use crate::enumerator::gym::section;
 use crate::enumerator::gym::states;
 
 // The number after x in the sequence of Park and Miller, from 1 to 2147483646.
-pub fn next(x: usize) -> usize {
+fn next(x: usize) -> usize {
     x % 2147483647 * 48271 % 2147483647
 }
 
 // A number below n, of a number drawn.
-pub fn below(r: usize, n: usize) -> usize {
+fn below(r: usize, n: usize) -> usize {
     if n == 0 {
         return 0;
     }

@@ -1,8 +1,7 @@
-// Draws small gyms by chance, and compares for each of their queries what `resolution` and `judge`
-// answer with what a plain enumerator finds (module `enumerator`).
+// Draws small gyms by chance, and compares for each of their queries what `resolution` answers with
+// what a plain enumerator finds (module `enumerator`).
 mod drawn;
 mod enumerator;
-mod judged;
 mod say;
 
 use crate::enumerator::cells::part;
@@ -28,61 +27,12 @@ const GYMS: usize = 6000;
 // The bytes of a listing or a gym's text that are kept.
 const TEXT: usize = 17408;
 
-// How many queries of a gym are found none, one and several, and how many were left out.
-pub struct Found {
-    pub none: usize,
-    pub one: usize,
-    pub several: usize,
-    pub left_out: usize,
-}
+// A gym's queries are counted by what they find; one that is left out stands behind these.
+const UNTOLD: usize = 3;
 
-// One query more, which sees so many declarations; the largest number where it was left out.
-fn with_query(f: Found, seen: usize) -> Found {
-    let none = f.none;
-    let one = f.one;
-    let several = f.several;
-    let left_out = f.left_out;
-    if seen == 0 {
-        return Found {
-            none: plus(none, 1),
-            one,
-            several,
-            left_out,
-        };
-    }
-    if seen == 1 {
-        return Found {
-            none,
-            one: plus(one, 1),
-            several,
-            left_out,
-        };
-    }
-    if seen == usize::MAX {
-        return Found {
-            none,
-            one,
-            several,
-            left_out: plus(left_out, 1),
-        };
-    }
-    Found {
-        none,
-        one,
-        several: plus(several, 1),
-        left_out,
-    }
-}
+const CLASSES: usize = 4;
 
-// The place in the counts of what was found, and of what is awaited.
-fn found_place(seen: usize) -> usize {
-    match seen {
-        0 => say::FOUND,
-        1 => say::FOUND + 1,
-        _ => say::FOUND + 2,
-    }
-}
-
+// The place in the counts of what is awaited.
 fn awaits_place(pair: usize) -> usize {
     if pair == NONE {
         return say::SETTLED;
@@ -101,17 +51,15 @@ fn compare_answer(counts: &mut [u64], text: &[u8], due: &[u8], a: Answer, out: &
     }
 }
 
-// The library's listing of query i.
-fn compare_listing(counts: &mut [u64], text: &[u8], i: usize, due: &[u8]) {
-    let mut out = [0u8; TEXT];
-    let a = listing(text, i, &mut out);
-    compare_answer(counts, text, due, a, &out);
+// The library's listing of query i, in lent memory.
+fn compare_listing(counts: &mut [u64], text: &[u8], i: usize, due: &[u8], out: &mut [u8]) {
+    let a = listing(text, i, out);
+    compare_answer(counts, text, due, a, out);
 }
 
-fn compare_summary(counts: &mut [u64], text: &[u8], due: &[u8]) {
-    let mut out = [0u8; 128];
-    let a = summary(text, &mut out);
-    compare_answer(counts, text, due, a, &out);
+fn compare_summary(counts: &mut [u64], text: &[u8], due: &[u8], out: &mut [u8]) {
+    let a = summary(text, out);
+    compare_answer(counts, text, due, a, out);
 }
 
 // A pair is awaited exactly if the completion at all open pairs at once has other entries: else the
@@ -126,109 +74,102 @@ fn compare_settled(counts: &mut [u64], text: &[u8], due: &[u8], pair: usize, all
     say::difference(counts, text, due, b"all open pairs at once\n");
 }
 
-fn count_query(counts: &mut [u64], seen: usize, pair: usize) {
+fn count_query(counts: &mut [u64], found: usize, pair: usize) {
     say::add(counts, say::QUERIES, 1);
-    say::add(counts, found_place(seen), 1);
+    say::add(counts, plus(say::FOUND, found), 1);
     say::add(counts, awaits_place(pair), 1);
 }
 
-// The listing that is due of query i, by the rows of its entries and the pair that is awaited.
+// The listing that is due of query i, by what is found, the pair that is awaited and the rows.
 fn listing_due(
     counts: &mut [u64],
     g: &[u8],
     text: &[u8],
     i: usize,
-    seen: usize,
+    found: usize,
     pair: usize,
     rows: &[u8],
 ) {
     let mut due = [0u8; TEXT];
-    let n = due::put_listing(&mut due, g, i / 2, i % 2, seen, pair, rows);
-    compare_listing(counts, text, i, part(&due, 0, n));
+    let n = due::put_listing(&mut due, g, i / 2, i % 2, found, pair, rows);
+    let mut out = [0u8; TEXT];
+    compare_listing(counts, text, i, part(&due, 0, n), &mut out);
 }
 
-// Query i, which sees so many declarations; the rows of its entries are given.
-fn entries_due(counts: &mut [u64], g: &[u8], text: &[u8], i: usize, seen: usize, rows: &[u8]) {
+// Query i, by what is found; the rows of its entries are given.
+fn entries_due(counts: &mut [u64], g: &[u8], text: &[u8], i: usize, found: usize, rows: &[u8]) {
     let pair = completed::awaited(g, i / 2, i % 2, rows);
     let all = completed::unsettled(g, i / 2, i % 2, rows);
     if pair == TOO_MANY || all == 2 {
         say::add(counts, say::LEFT_OUT, 1);
         return;
     }
-    count_query(counts, seen, pair);
-    listing_due(counts, g, text, i, seen, pair, rows);
+    count_query(counts, found, pair);
+    listing_due(counts, g, text, i, found, pair, rows);
     compare_settled(counts, text, rows, pair, all);
 }
 
-// Query i, whose reached paths are the table's first n; the declarations that it sees.
-fn query_due(counts: &mut [u64], g: &[u8], text: &[u8], i: usize, table: &[u8], n: usize) -> usize {
+// Query i, whose reached paths are in the table; what is found.
+fn query_due(counts: &mut [u64], g: &[u8], text: &[u8], i: usize, table: &[u8]) -> usize {
     let mut rows = [0u8; ROWS];
-    let m = rows::put_rows(&mut rows, g, i % 2, table, n);
+    let m = rows::put_rows(&mut rows, g, i % 2, table);
     if ROWS < m {
         say::add(counts, say::LEFT_OUT, 1);
-        return usize::MAX;
+        return UNTOLD;
     }
-    let seen = paths::seen(g, i % 2, table, n);
-    entries_due(counts, g, text, i, seen, part(&rows, 0, m));
-    seen
+    let found = due::found_of(paths::seen(g, i % 2, table));
+    entries_due(counts, g, text, i, found, part(&rows, 0, m));
+    found
 }
 
-// Query i; the declarations that it sees, or the largest number where there are too many paths.
+// Query i; what is found, unless there are too many paths.
 fn query(counts: &mut [u64], g: &[u8], text: &[u8], i: usize) -> usize {
-    let mut table = [0u8; ROOM];
-    let n = paths::resolve(g, i / 2, i % 2, &mut table);
+    let mut room = [0u8; ROOM];
+    let n = paths::resolve(g, i / 2, i % 2, &mut room);
     if MOST < n {
         say::add(counts, say::LEFT_OUT, 1);
-        return usize::MAX;
+        return UNTOLD;
     }
+    let table = paths::first(&room, n);
     say::add(counts, say::PATHS, n);
-    say::add(counts, say::ENTRIES, paths::entries(g, i % 2, &table, n));
-    query_due(counts, g, text, i, &table, n)
+    say::add(counts, say::ENTRIES, paths::entries(g, i % 2, table));
+    query_due(counts, g, text, i, table)
 }
 
-fn queries(counts: &mut [u64], g: &[u8], text: &[u8]) -> Found {
+// All queries of a gym, counted by what is found.
+fn queries(counts: &mut [u64], g: &[u8], text: &[u8], classes: &mut [u64]) {
     let n = gym::scopes(g) % 16 * 2;
-    let mut f = Found {
-        none: 0,
-        one: 0,
-        several: 0,
-        left_out: 0,
-    };
     let mut i = 0;
     while i < n {
-        f = with_query(f, query(counts, g, text, i));
+        say::add(classes, query(counts, g, text, i), 1);
         i += 1;
     }
-    f
 }
 
-fn summary_due(counts: &mut [u64], text: &[u8], f: Found) {
-    let none = f.none;
-    let one = f.one;
-    let several = f.several;
-    let left_out = f.left_out;
-    if left_out != 0 {
+// How many queries are of a class; a gym has few.
+fn of_class(classes: &[u64], c: usize) -> usize {
+    say::count(classes, c) as usize
+}
+
+fn summary_due(counts: &mut [u64], text: &[u8], classes: &[u64]) {
+    if of_class(classes, UNTOLD) != 0 {
         return;
     }
     let mut due = [0u8; 128];
-    let n = due::put_summary(&mut due, one, several, none);
+    let one = of_class(classes, due::FOUND_ONE);
+    let several = of_class(classes, due::FOUND_SEVERAL);
+    let n = due::put_summary(&mut due, one, several, of_class(classes, due::FOUND_NONE));
     say::add(counts, say::SUMMARIES, 1);
-    compare_summary(counts, text, part(&due, 0, n));
+    let mut out = [0u8; 128];
+    compare_summary(counts, text, part(&due, 0, n), &mut out);
 }
 
-// Of one gym in so many the path rows are judged.
-fn judge_some(counts: &mut [u64], g: &[u8], text: &[u8], x: usize) {
-    if x % 16 == 0 {
-        judged::judge_gym(counts, g, text, x);
-    }
-}
-
-// A gym, whose last number drawn is x.
-fn gym_due(counts: &mut [u64], g: &[u8], text: &[u8], x: usize) {
+// A gym's queries and its summary.
+fn gym_due(counts: &mut [u64], g: &[u8], text: &[u8]) {
     say::add(counts, say::GYMS, 1);
-    let f = queries(counts, g, text);
-    summary_due(counts, text, f);
-    judge_some(counts, g, text, x);
+    let mut classes = [0u64; CLASSES];
+    queries(counts, g, text, &mut classes);
+    summary_due(counts, text, &classes);
 }
 
 // The gym that is drawn from a number on; the last number drawn.
@@ -237,7 +178,7 @@ fn one_gym(counts: &mut [u64], seed: usize) -> usize {
     let x = drawn::draw(&mut g, seed);
     let mut text = [0u8; TEXT];
     let n = text::put_gym(&mut text, &g);
-    gym_due(counts, &g, part(&text, 0, n), x);
+    gym_due(counts, &g, part(&text, 0, n));
     x
 }
 
@@ -251,7 +192,7 @@ fn gyms(counts: &mut [u64]) {
 }
 
 fn main() {
-    let mut counts = [0u64; 20];
+    let mut counts = [0u64; say::COUNTS];
     gyms(&mut counts);
     say::all(&counts);
 }

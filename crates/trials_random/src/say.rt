@@ -1,4 +1,5 @@
-// What the run counts, and what it prints.
+// What the run counts, by place in the sequence in which it is printed, and what it prints.
+use crate::enumerator::cells::word;
 
 pub const GYMS: usize = 0;
 
@@ -10,6 +11,7 @@ pub const PATHS: usize = 3;
 
 pub const ENTRIES: usize = 4;
 
+// None, one and several found.
 pub const FOUND: usize = 5;
 
 pub const SETTLED: usize = 8;
@@ -24,13 +26,13 @@ pub const DIFFERENCES: usize = 12;
 
 pub const SUM: usize = 13;
 
-// Rows judged, by standing.
-pub const JUDGED: usize = 14;
+// How many there are.
+pub const COUNTS: usize = 14;
 
 // The differences that are shown in full.
 const SHOWN: u64 = 3;
 
-fn count(counts: &[u64], i: usize) -> u64 {
+pub fn count(counts: &[u64], i: usize) -> u64 {
     if i < counts.len() { counts[i] } else { 0 }
 }
 
@@ -70,7 +72,7 @@ pub fn add_to_sum(counts: &mut [u64], s: &[u8]) {
     keep(counts, SUM, x);
 }
 
-fn word(s: &[u8]) {
+fn print(s: &[u8]) {
     io::write_all(1, s);
 }
 
@@ -80,12 +82,12 @@ pub fn difference(counts: &mut [u64], text: &[u8], due: &[u8], got: &[u8]) {
     if SHOWN < count(counts, DIFFERENCES) {
         return;
     }
-    word(b"DIFFERENCE in the gym\n");
-    word(text);
-    word(b"due:\n");
-    word(due);
-    word(b"got:\n");
-    word(got);
+    print(b"DIFFERENCE in the gym\n");
+    print(text);
+    print(b"due:\n");
+    print(due);
+    print(b"got:\n");
+    print(got);
 }
 
 // What the library gave, held to what is due.
@@ -97,40 +99,52 @@ pub fn compare(counts: &mut [u64], text: &[u8], due: &[u8], got: &[u8]) {
     difference(counts, text, due, got);
 }
 
-fn line(counts: &[u64], i: usize, name: &[u8]) {
-    word(name);
+fn print_gyms_name(i: usize) {
+    print(word(
+        b"gyms |summaries compared |listings compared |reached paths |entries ",
+        i,
+    ));
+}
+
+fn print_found_name(i: usize) {
+    print(word(b"found none |found one |found several ", i));
+}
+
+fn print_awaited_name(i: usize) {
+    print(word(b"settled |awaiting the end mark |awaiting a label ", i));
+}
+
+fn print_last_name(i: usize) {
+    print(word(
+        b"left out, too many paths |differences |sum of all that was written ",
+        i,
+    ));
+}
+
+// What is counted at a place.
+fn print_name(i: usize) {
+    if i < FOUND {
+        return print_gyms_name(i);
+    }
+    if i < SETTLED {
+        return print_found_name(i - FOUND);
+    }
+    if i < LEFT_OUT {
+        return print_awaited_name(i - SETTLED);
+    }
+    print_last_name(i - LEFT_OUT)
+}
+
+fn line(counts: &[u64], i: usize) {
+    print_name(i);
     io::print_decimal(1, count(counts, i));
-    word(b"\n");
-}
-
-fn queries(counts: &[u64]) {
-    line(counts, QUERIES, b"listings compared ");
-    line(counts, PATHS, b"reached paths ");
-    line(counts, ENTRIES, b"entries ");
-    line(counts, FOUND, b"found none ");
-    line(counts, FOUND + 1, b"found one ");
-    line(counts, FOUND + 2, b"found several ");
-}
-
-fn awaited(counts: &[u64]) {
-    line(counts, SETTLED, b"settled ");
-    line(counts, END, b"awaiting the end mark ");
-    line(counts, LABEL, b"awaiting a label ");
-}
-
-fn judged(counts: &[u64]) {
-    line(counts, JUDGED, b"rows judged visible ");
-    line(counts, JUDGED + 1, b"rows judged shadowed ");
-    line(counts, JUDGED + 2, b"rows judged unreached ");
+    print(b"\n");
 }
 
 pub fn all(counts: &[u64]) {
-    line(counts, GYMS, b"gyms ");
-    line(counts, SUMMARIES, b"summaries compared ");
-    queries(counts);
-    awaited(counts);
-    judged(counts);
-    line(counts, LEFT_OUT, b"left out, too many paths ");
-    line(counts, DIFFERENCES, b"differences ");
-    line(counts, SUM, b"sum of all that was written ");
+    let mut i = 0;
+    while i < COUNTS {
+        line(counts, i);
+        i += 1;
+    }
 }

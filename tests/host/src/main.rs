@@ -1,15 +1,17 @@
 //! The host test: the library, through its Rust wrapper, against the plain Rust implementation, on
 //! random and damaged files, graph tables and path rows, with lent memory of every length about the
-//! due one; then the C example and the program against the plain implementation.
+//! due one; its judge against the enumerator; then the C example and the program against the plain
+//! implementation.
 //!
-//! host_test FILES EXAMPLE PROGRAM RUNS [GYM..]: so many random files in process, so many runs of
-//! each of the two programs, and both programs on the gym files named. `host_test words` prints
-//! what the wrapper says of each refusal.
+//! host_test FILES EXAMPLE PROGRAM RUNS [GYM..]: so many random files in process, and as many small
+//! gyms whose paths are judged, so many runs of each of the two programs, and both programs on the
+//! gym files named. `host_test words` prints what the wrapper says of each refusal.
 
 mod calls;
 mod converting;
 mod files;
 mod followed;
+mod judged;
 mod programs;
 
 use calls::{Tally, Test};
@@ -63,13 +65,16 @@ fn run(args: &[String]) {
         let text = file(&mut Rng::new(1000 + seed as u64));
         test.text(&text);
     }
+    for seed in 0..files {
+        test.judged(seed);
+    }
     for gym in gyms {
         let text = fs::read(gym).unwrap_or_else(|e| panic!("{gym}: {e}"));
         for query in 0..3 {
             test.followed(&text, query);
         }
     }
-    for (call, answers) in DUE {
+    for (call, answers) in DUE.into_iter().chain(judged::DUE) {
         for answer in answers {
             let times = test.tally.0.get(&(call, answer.to_string())).copied().unwrap_or(0);
             if times == 0 {
@@ -91,7 +96,7 @@ fn run(args: &[String]) {
     for gym in gyms {
         print_the_same(&both, &fs::read(gym).unwrap_or_else(|e| panic!("{gym}: {e}")));
     }
-    println!("{files} files in process, {} files by both programs", runs + gyms.len());
+    println!("{files} files and {files} judged gyms in process, {} files by both programs", runs + gyms.len());
 }
 
 fn main() {

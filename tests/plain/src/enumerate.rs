@@ -119,7 +119,8 @@ impl Graph {
         1 + named.max().unwrap_or(0) as usize
     }
 
-    fn paths(&self, start: usize) -> Vec<Path> {
+    /// All paths from a scope, those with fewer steps first.
+    pub fn paths(&self, start: usize) -> Vec<Path> {
         let mut paths = vec![Path {
             start,
             steps: Vec::new(),

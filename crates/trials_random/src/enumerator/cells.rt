@@ -41,6 +41,46 @@ pub fn part(s: &[u8], from: usize, to: usize) -> &[u8] {
     &s[from..to]
 }
 
+// In a text of several words a bar stands between each and the next.
+const BAR: usize = 124;
+
+// How many words are still to be passed over, behind a byte.
+fn words_left(left: usize, x: usize) -> usize {
+    if x == BAR { minus(left, 1) } else { left }
+}
+
+// Where word k of the text begins; its end if it has no such word.
+fn word_start(s: &[u8], k: usize) -> usize {
+    let mut left = k;
+    let mut i = 0;
+    while i < s.len() {
+        if left == 0 {
+            return i;
+        }
+        left = words_left(left, at(s, i));
+        i += 1;
+    }
+    i
+}
+
+// Where the word that begins at a place ends.
+fn word_end(s: &[u8], from: usize) -> usize {
+    let mut i = from;
+    while i < s.len() {
+        if at(s, i) == BAR {
+            return i;
+        }
+        i += 1;
+    }
+    i
+}
+
+// Word k of a text, the empty part if it has no such word.
+pub fn word(s: &[u8], k: usize) -> &[u8] {
+    let from = word_start(s, k);
+    part(s, from, word_end(s, from))
+}
+
 // One byte where there is room, and the next place. A place past the end says that something is
 // lost.
 pub fn put(out: &mut [u8], n: usize, x: usize) -> usize {

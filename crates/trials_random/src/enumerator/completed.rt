@@ -25,6 +25,7 @@ use crate::enumerator::gym::states;
 use crate::enumerator::gym::step;
 use crate::enumerator::paths::MOST;
 use crate::enumerator::paths::ROOM;
+use crate::enumerator::paths::first;
 use crate::enumerator::paths::resolve;
 use crate::enumerator::rows::put_rows;
 
@@ -75,7 +76,7 @@ pub fn rows_of(g: &[u8], start: usize, name: usize, table: &mut [u8], rows: &mut
     if MOST < n {
         return ROWS + 1;
     }
-    put_rows(rows, g, name, table, n)
+    put_rows(rows, g, name, first(table, n))
 }
 
 // Does the query have other entries in this completion? 0 for no, 1 for yes, 2 if there is no room

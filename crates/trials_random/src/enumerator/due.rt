@@ -1,17 +1,27 @@
 // The listing and the summary that are due.
 use crate::enumerator::cells::put;
 use crate::enumerator::cells::put_all;
+use crate::enumerator::cells::word;
 use crate::enumerator::completed::NONE;
-use crate::enumerator::text::put_end;
+use crate::enumerator::text::end_byte;
 use crate::enumerator::text::put_field;
 use crate::enumerator::text::put_name;
 use crate::enumerator::text::put_number;
+use crate::enumerator::text::put_numbers;
 
-fn put_found(out: &mut [u8], n: usize, seen: usize) -> usize {
+// What a query finds, by number.
+pub const FOUND_NONE: usize = 0;
+
+pub const FOUND_ONE: usize = 1;
+
+pub const FOUND_SEVERAL: usize = 2;
+
+// What is found where so many declarations are seen.
+pub fn found_of(seen: usize) -> usize {
     match seen {
-        0 => put_all(out, n, b"none "),
-        1 => put_all(out, n, b"one "),
-        _ => put_all(out, n, b"several "),
+        0 => FOUND_NONE,
+        1 => FOUND_ONE,
+        _ => FOUND_SEVERAL,
     }
 }
 
@@ -20,23 +30,24 @@ fn put_awaits(out: &mut [u8], n: usize, g: &[u8], pair: usize) -> usize {
         return put_all(out, n, b"-\n");
     }
     let m = put_number(out, n, pair / 4);
-    put_end(out, m, g, pair % 4, 10)
+    let k = put(out, m, end_byte(g, pair % 4));
+    put(out, k, 10)
 }
 
-// The listing of a query that sees so many declarations; the rows are given, and the pair awaited.
+// The listing of a query, by what is found; the rows are given, and the pair awaited.
 pub fn put_listing(
     out: &mut [u8],
     g: &[u8],
     start: usize,
     name: usize,
-    seen: usize,
+    found: usize,
     pair: usize,
     rows: &[u8],
 ) -> usize {
     let a = put_all(out, 0, b"start seek found awaits\n");
     let b = put_field(out, a, start, 32);
-    let c = put_name(out, b, g, name, 32);
-    let d = put_found(out, c, seen);
+    let c = put_name(out, b, g, name);
+    let d = put_all(out, c, word(b" none | one | several ", found));
     let e = put_awaits(out, d, g, pair);
     let f = put_all(out, e, b"mark path\n");
     put_all(out, f, rows)
@@ -63,9 +74,6 @@ fn share(queries: usize, one: usize) -> usize {
 pub fn put_summary(out: &mut [u8], one: usize, several: usize, none: usize) -> usize {
     let queries = one % 256 + several % 256 + none % 256;
     let a = put_all(out, 0, b"queries one several none share\n");
-    let b = put_field(out, a, queries, 32);
-    let c = put_field(out, b, one, 32);
-    let d = put_field(out, c, several, 32);
-    let e = put_field(out, d, none, 32);
-    put_field(out, e, share(queries, one), 10)
+    let row = [queries, one, several, none, share(queries, one)];
+    put_numbers(out, a, &row)
 }

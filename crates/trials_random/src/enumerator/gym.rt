@@ -6,7 +6,7 @@ use crate::enumerator::cells::at;
 
 pub const SIZE: usize = 1376;
 
-// What the gym is made by, see `setting` where gyms are drawn (crate `trials_random`).
+// What the gym is made by, see `setting` where gyms are drawn (module `drawn`).
 pub const SETTINGS: usize = 0;
 
 // Two ranks of each end.

@@ -23,11 +23,11 @@ const MOST_LISTED: usize = 20000;
 // The bytes of so many paths.
 pub const ROOM: usize = 16384;
 
-pub fn steps(p: &[u8]) -> usize {
+fn steps(p: &[u8]) -> usize {
     at(p, 0)
 }
 
-pub fn step_at(p: &[u8], i: usize) -> usize {
+fn step_at(p: &[u8], i: usize) -> usize {
     at(p, plus(i, 2))
 }
 
@@ -50,7 +50,7 @@ fn meets(p: &[u8], scope: usize) -> bool {
 }
 
 // May the path go on by this step? There is such an edge, and no scope occurs twice.
-pub fn goes_on(g: &[u8], p: &[u8], step: usize) -> bool {
+fn goes_on(g: &[u8], p: &[u8], step: usize) -> bool {
     at(g, edge_place(last(p), step)) != 0 && !meets(p, scope_of(step))
 }
 
@@ -67,7 +67,7 @@ fn next_step(g: &[u8], p: &[u8], from: usize) -> usize {
     64
 }
 
-pub fn push(p: &mut [u8], step: usize) {
+fn push(p: &mut [u8], step: usize) {
     let n = steps(p);
     set(p, plus(n, 2), step);
     set(p, 0, plus(n, 1));
@@ -86,7 +86,7 @@ fn pop(p: &mut [u8]) -> usize {
 
 // The next path in the listing's order: one step more, or, as often as there is none, one step back
 // and there the next one. A path here has at most 8 steps.
-pub fn advance(g: &[u8], p: &mut [u8]) -> bool {
+fn advance(g: &[u8], p: &mut [u8]) -> bool {
     let mut from = 0;
     let mut turns: usize = 16;
     while turns > 0 {
@@ -117,7 +117,7 @@ fn lawful(g: &[u8], p: &[u8]) -> bool {
     accepts(g, state)
 }
 
-pub fn reached(g: &[u8], p: &[u8], name: usize) -> bool {
+fn reached(g: &[u8], p: &[u8], name: usize) -> bool {
     declarations(g, last(p), name) != 0 && lawful(g, p)
 }
 
@@ -125,6 +125,16 @@ pub fn reached(g: &[u8], p: &[u8], name: usize) -> bool {
 pub fn path(table: &[u8], i: usize) -> &[u8] {
     let k = i % MOST * 16;
     part(table, k, k + 16)
+}
+
+// How many paths a table holds.
+pub fn count(table: &[u8]) -> usize {
+    table.len() / 16
+}
+
+// The table's first n paths.
+pub fn first(table: &[u8], n: usize) -> &[u8] {
+    part(table, 0, n % (2 * MOST) * 16)
 }
 
 // The table with the path put at its end if it is reached; the paths in it.
@@ -186,7 +196,7 @@ fn more_specific(g: &[u8], p: &[u8], q: &[u8]) -> bool {
 }
 
 // Is any of the n paths more specific than this one?
-pub fn shadowed(g: &[u8], table: &[u8], n: usize, q: &[u8]) -> bool {
+fn shadowed(g: &[u8], table: &[u8], n: usize, q: &[u8]) -> bool {
     let mut i = 0;
     while i < n {
         if more_specific(g, path(table, i), q) {
@@ -241,7 +251,8 @@ fn entries_of(g: &[u8], p: &[u8], name: usize) -> usize {
     }
 }
 
-pub fn entries(g: &[u8], name: usize, table: &[u8], n: usize) -> usize {
+pub fn entries(g: &[u8], name: usize, table: &[u8]) -> usize {
+    let n = count(table);
     let mut sum = 0;
     let mut i = 0;
     while i < n {
@@ -256,7 +267,8 @@ fn shows(p: &[u8], scope: usize) -> bool {
 }
 
 // Does a visible path end at the scope?
-fn sees(table: &[u8], n: usize, scope: usize) -> bool {
+fn sees(table: &[u8], scope: usize) -> bool {
+    let n = count(table);
     let mut i = 0;
     while i < n {
         if shows(path(table, i), scope) {
@@ -268,8 +280,8 @@ fn sees(table: &[u8], n: usize, scope: usize) -> bool {
 }
 
 // The declarations of the name at a scope, if the query sees them.
-fn seen_at(g: &[u8], name: usize, table: &[u8], n: usize, scope: usize) -> usize {
-    if sees(table, n, scope) {
+fn seen_at(g: &[u8], name: usize, table: &[u8], scope: usize) -> usize {
+    if sees(table, scope) {
         declarations(g, scope, name)
     } else {
         0
@@ -277,11 +289,11 @@ fn seen_at(g: &[u8], name: usize, table: &[u8], n: usize, scope: usize) -> usize
 }
 
 // The different declarations that the entries have (02, K2), however many routes lead to each.
-pub fn seen(g: &[u8], name: usize, table: &[u8], n: usize) -> usize {
+pub fn seen(g: &[u8], name: usize, table: &[u8]) -> usize {
     let mut sum = 0;
     let mut s = 0;
     while s < 16 {
-        sum = plus(sum, seen_at(g, name, table, n, s));
+        sum = plus(sum, seen_at(g, name, table, s));
         s += 1;
     }
     sum

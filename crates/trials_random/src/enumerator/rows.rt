@@ -6,6 +6,7 @@ use crate::enumerator::gym::declared;
 use crate::enumerator::gym::label_of;
 use crate::enumerator::gym::letter;
 use crate::enumerator::gym::scope_of;
+use crate::enumerator::paths::count;
 use crate::enumerator::paths::is_visible;
 use crate::enumerator::paths::last;
 use crate::enumerator::paths::path;
@@ -13,33 +14,8 @@ use crate::enumerator::text::mark;
 use crate::enumerator::text::put_field;
 use crate::enumerator::text::put_number;
 
-fn is_listed(g: &[u8], x: usize) -> bool {
-    letter(g, 0) == x || letter(g, 1) == x || letter(g, 2) == x
-}
-
-// A letter that is not listed, for rows that are no paths. There are at most three labels.
-fn unlisted(g: &[u8]) -> usize {
-    if !is_listed(g, 65) {
-        return 65;
-    }
-    if !is_listed(g, 66) {
-        return 66;
-    }
-    if !is_listed(g, 67) {
-        return 67;
-    }
-    68
-}
-
-fn shown(g: &[u8], label: usize) -> usize {
-    if letter(g, label) == 0 {
-        return unlisted(g);
-    }
-    letter(g, label)
-}
-
 fn put_step(out: &mut [u8], n: usize, g: &[u8], step: usize) -> usize {
-    let m = put(out, n, shown(g, label_of(step)));
+    let m = put(out, n, letter(g, label_of(step)));
     put_number(out, m, scope_of(step))
 }
 
@@ -55,7 +31,7 @@ fn put_steps(out: &mut [u8], n: usize, g: &[u8], p: &[u8]) -> usize {
 }
 
 // A path row.
-pub fn put_path(out: &mut [u8], n: usize, g: &[u8], p: &[u8], m: usize) -> usize {
+fn put_path(out: &mut [u8], n: usize, g: &[u8], p: &[u8], m: usize) -> usize {
     let a = put_field(out, n, mark(m), 32);
     let b = put_number(out, a, at(p, 1));
     put_steps(out, b, g, p)
@@ -74,14 +50,18 @@ fn put_entries(out: &mut [u8], n: usize, g: &[u8], name: usize, p: &[u8]) -> usi
     if !is_visible(p) {
         return n;
     }
-    let a = put_entry(out, n, g, name, p, 0);
-    let b = put_entry(out, a, g, name, p, 1);
-    let c = put_entry(out, b, g, name, p, 2);
-    put_entry(out, c, g, name, p, 3)
+    let mut a = n;
+    let mut m = 0;
+    while m < 4 {
+        a = put_entry(out, a, g, name, p, m);
+        m += 1;
+    }
+    a
 }
 
-// The rows of the n paths of a table; their length.
-pub fn put_rows(out: &mut [u8], g: &[u8], name: usize, table: &[u8], n: usize) -> usize {
+// The rows of the paths of a table; their length.
+pub fn put_rows(out: &mut [u8], g: &[u8], name: usize, table: &[u8]) -> usize {
+    let n = count(table);
     let mut m = 0;
     let mut i = 0;
     while i < n {

@@ -1,8 +1,10 @@
 // A gym's file.
 use crate::enumerator::cells::at;
 use crate::enumerator::cells::minus;
+use crate::enumerator::cells::plus;
 use crate::enumerator::cells::put;
 use crate::enumerator::cells::put_all;
+use crate::enumerator::cells::word;
 use crate::enumerator::gym::ACCEPTS;
 use crate::enumerator::gym::EDGES;
 use crate::enumerator::gym::LETTERS;
@@ -11,7 +13,9 @@ use crate::enumerator::gym::MOVES;
 use crate::enumerator::gym::OPEN;
 use crate::enumerator::gym::PAIRS;
 use crate::enumerator::gym::QUERIES;
+use crate::enumerator::gym::RANKS;
 use crate::enumerator::gym::SCOPES;
+use crate::enumerator::gym::SETTINGS;
 use crate::enumerator::gym::SIZE;
 use crate::enumerator::gym::label_of;
 use crate::enumerator::gym::letter;
@@ -27,11 +31,13 @@ fn put_digit(out: &mut [u8], n: usize, v: usize, unit: usize) -> usize {
 
 // A number below 100,000.
 pub fn put_number(out: &mut [u8], n: usize, v: usize) -> usize {
-    let a = put_digit(out, n, v, 10000);
-    let b = put_digit(out, a, v, 1000);
-    let c = put_digit(out, b, v, 100);
-    let d = put_digit(out, c, v, 10);
-    put(out, d, 48 + v % 10)
+    let mut m = n;
+    let mut unit: usize = 10000;
+    while unit > 1 {
+        m = put_digit(out, m, v, unit);
+        unit = unit / 10;
+    }
+    put(out, m, 48 + v % 10)
 }
 
 // A number, and the space or LF after it.
@@ -40,37 +46,35 @@ pub fn put_field(out: &mut [u8], n: usize, v: usize, after: usize) -> usize {
     put(out, m, after)
 }
 
-fn put_letter(out: &mut [u8], n: usize, g: &[u8], label: usize, after: usize) -> usize {
-    let m = put(out, n, letter(g, label));
-    put(out, m, after)
+// What stands behind a column of so many in all: a space, behind the last one LF.
+fn after(k: usize, columns: usize) -> usize {
+    if plus(k, 1) == columns { 10 } else { 32 }
 }
 
-pub fn put_end(out: &mut [u8], n: usize, g: &[u8], end: usize, after: usize) -> usize {
-    if end == 0 {
-        let m = put(out, n, 36);
-        return put(out, m, after);
+// A row of numbers.
+pub fn put_numbers(out: &mut [u8], n: usize, numbers: &[usize]) -> usize {
+    let mut m = n;
+    let mut k = 0;
+    while k < numbers.len() {
+        m = put_field(out, m, numbers[k], after(k, numbers.len()));
+        k += 1;
     }
-    put_letter(out, n, g, end - 1, after)
+    m
+}
+
+// The byte of an end: `$` or its label's letter.
+pub fn end_byte(g: &[u8], end: usize) -> usize {
+    if end == 0 {
+        return 36;
+    }
+    letter(g, end - 1)
 }
 
 // The names of a gym: of the second kind they differ past the eighth byte alone. One is a prefix of
 // the other.
-fn put_word(out: &mut [u8], n: usize, kind: usize, name: usize) -> usize {
-    if name == 0 {
-        if kind == 0 {
-            return put_all(out, n, b"max");
-        }
-        return put_all(out, n, b"lane_max");
-    }
-    if kind == 0 {
-        return put_all(out, n, b"max_2");
-    }
-    put_all(out, n, b"lane_max_weight1")
-}
-
-pub fn put_name(out: &mut [u8], n: usize, g: &[u8], name: usize, after: usize) -> usize {
-    let m = put_word(out, n, at(g, 6), name);
-    put(out, m, after)
+pub fn put_name(out: &mut [u8], n: usize, g: &[u8], name: usize) -> usize {
+    let k = at(g, 6) % 2 * 2 + name % 2;
+    put_all(out, n, word(b"max|max_2|lane_max|lane_max_weight1", k))
 }
 
 // The four marks ascend as numbers and not as text.
@@ -83,82 +87,125 @@ pub fn mark(m: usize) -> usize {
     }
 }
 
-fn put_pair(out: &mut [u8], n: usize, g: &[u8], a: usize, b: usize) -> usize {
-    let m = put_end(out, n, g, a, 32);
-    put_end(out, m, g, b, 10)
+// What stands in a column of a row.
+enum Column {
+    Number(usize),
+    Byte(usize),
+    Name(usize),
 }
 
-fn put_move(out: &mut [u8], n: usize, g: &[u8], state: usize, label: usize, to: usize) -> usize {
-    let a = put_field(out, n, state, 32);
-    let b = put_letter(out, a, g, label, 32);
-    put_field(out, b, to, 10)
-}
-
-fn put_declaration(
-    out: &mut [u8],
-    n: usize,
-    g: &[u8],
-    scope: usize,
-    name: usize,
-    m: usize,
-) -> usize {
-    let a = put_field(out, n, scope, 32);
-    let b = put_name(out, a, g, name, 32);
-    put_field(out, b, mark(m), 10)
-}
-
-fn put_open(out: &mut [u8], n: usize, g: &[u8], scope: usize, end: usize) -> usize {
-    let m = put_field(out, n, scope, 32);
-    put_end(out, m, g, end, 10)
-}
-
-fn put_query(out: &mut [u8], n: usize, g: &[u8], scope: usize, name: usize) -> usize {
-    let m = put_field(out, n, scope, 32);
-    put_name(out, m, g, name, 10)
-}
-
-// The row of a section's place, which holds v: a section of the rules, or one of the graph.
-fn put_rule(out: &mut [u8], n: usize, g: &[u8], s: usize, i: usize, v: usize) -> usize {
-    match s {
-        LETTERS => put_letter(out, n, g, i, 10),
-        PAIRS => put_pair(out, n, g, i / 4, i % 4),
-        MOVES => put_move(out, n, g, i / 4, i % 4, minus(v, 1)),
-        ACCEPTS => put_field(out, n, i, 10),
-        _ => n,
+// Column k of a transition or an edge: from, label, to.
+fn move_column(g: &[u8], from: usize, label: usize, to: usize, k: usize) -> Column {
+    match k {
+        0 => Column::Number(from),
+        1 => Column::Byte(letter(g, label)),
+        _ => Column::Number(to),
     }
 }
 
-fn put_row(out: &mut [u8], n: usize, g: &[u8], s: usize, i: usize, v: usize) -> usize {
+// Of a pair of ends.
+fn pair_column(g: &[u8], a: usize, b: usize, k: usize) -> Column {
+    match k {
+        0 => Column::Byte(end_byte(g, a)),
+        _ => Column::Byte(end_byte(g, b)),
+    }
+}
+
+// Of a declaration.
+fn declaration_column(scope: usize, name: usize, m: usize, k: usize) -> Column {
+    match k {
+        0 => Column::Number(scope),
+        1 => Column::Name(name),
+        _ => Column::Number(mark(m)),
+    }
+}
+
+// Of an open pair.
+fn open_column(g: &[u8], scope: usize, end: usize, k: usize) -> Column {
+    match k {
+        0 => Column::Number(scope),
+        _ => Column::Byte(end_byte(g, end)),
+    }
+}
+
+// Of the row of place i of any section, which holds v. A query's columns are a declaration's
+// without its mark.
+fn column_of(g: &[u8], s: usize, i: usize, v: usize, k: usize) -> Column {
     match s {
-        SCOPES => put_field(out, n, v, 10),
-        EDGES => put_move(out, n, g, i / 64, label_of(i), scope_of(i)),
-        MARKS => put_declaration(out, n, g, i / 8, i / 4 % 2, i % 4),
-        OPEN => put_open(out, n, g, i / 4, i % 4),
-        QUERIES => put_query(out, n, g, i / 2, i % 2),
-        _ => put_rule(out, n, g, s, i, v),
+        LETTERS => Column::Byte(letter(g, i)),
+        PAIRS => pair_column(g, i / 4, i % 4, k),
+        MOVES => move_column(g, i / 4, i % 4, minus(v, 1), k),
+        ACCEPTS => Column::Number(i),
+        EDGES => move_column(g, i / 64, label_of(i), scope_of(i), k),
+        MARKS => declaration_column(i / 8, i / 4 % 2, i % 4, k),
+        OPEN => open_column(g, i / 4, i % 4, k),
+        QUERIES => declaration_column(i / 2, i % 2, 0, k),
+        _ => Column::Number(v),
+    }
+}
+
+// How many columns a section's rows have; what is before the file's sections has no rows.
+fn columns(s: usize) -> usize {
+    match s {
+        SETTINGS => 0,
+        RANKS => 0,
+        LETTERS => 1,
+        ACCEPTS => 1,
+        SCOPES => 1,
+        PAIRS => 2,
+        OPEN => 2,
+        QUERIES => 2,
+        _ => 3,
+    }
+}
+
+fn put_column(out: &mut [u8], n: usize, g: &[u8], c: Column) -> usize {
+    match c {
+        Column::Number(v) => put_number(out, n, v),
+        Column::Byte(x) => put(out, n, x),
+        Column::Name(name) => put_name(out, n, g, name),
+    }
+}
+
+// The row of a section's place, which holds v.
+fn put_row(out: &mut [u8], n: usize, g: &[u8], s: usize, i: usize, v: usize) -> usize {
+    let all = columns(s);
+    let mut m = n;
+    let mut k = 0;
+    while k < all {
+        m = put_column(out, m, g, column_of(g, s, i, v, k));
+        m = put(out, m, after(k, all));
+        k += 1;
+    }
+    m
+}
+
+// Which section of the file begins at a place; 9, which is none, where none does.
+fn begun(k: usize) -> usize {
+    match k {
+        LETTERS => 0,
+        PAIRS => 1,
+        MOVES => 2,
+        ACCEPTS => 3,
+        SCOPES => 4,
+        EDGES => 5,
+        MARKS => 6,
+        OPEN => 7,
+        QUERIES => 8,
+        _ => 9,
     }
 }
 
 // The names line of the section that begins at a place, if one does.
-fn put_rule_names(out: &mut [u8], n: usize, k: usize) -> usize {
-    match k {
-        LETTERS => put_all(out, n, b"label\n"),
-        PAIRS => put_all(out, n, b"less more\n"),
-        MOVES => put_all(out, n, b"state label next\n"),
-        ACCEPTS => put_all(out, n, b"accept\n"),
-        _ => n,
-    }
-}
-
 fn put_names(out: &mut [u8], n: usize, k: usize) -> usize {
-    match k {
-        SCOPES => put_all(out, n, b"scopes\n"),
-        EDGES => put_all(out, n, b"from label to\n"),
-        MARKS => put_all(out, n, b"at name mark\n"),
-        OPEN => put_all(out, n, b"at open\n"),
-        QUERIES => put_all(out, n, b"start seek\n"),
-        _ => put_rule_names(out, n, k),
-    }
+    let s = begun(k);
+    let m = put_all(
+        out,
+        n,
+        word(b"label\n|less more\n|state label next\n|accept\n", s),
+    );
+    let graph = b"|scopes\n|from label to\n|at name mark\n|at open\n|start seek\n";
+    put_all(out, m, word(graph, minus(s, 3)))
 }
 
 // A place: its section's names line where it is the first one, and its row where there is one.

@@ -24,6 +24,9 @@ loop-holds c = rw (c .edges-from .ensures) (near-none _ _ (c .before .before .be
 edge-at-requires : tie.Need-edge-at-requires Inv-loop μ-loop
 edge-at-requires c κs = search needs
 
+edge-scope-requires : tie.Need-edge-scope-requires Inv-loop μ-loop
+edge-scope-requires c κs = search needs
+
 single-requires : tie.Need-single-requires Inv-loop μ-loop
 single-requires c κs = search needs
 
@@ -34,7 +37,7 @@ loop-less : tie.Need-loop-less Inv-loop μ-loop
 loop-less c = omega arith
 
 loop-again : tie.Need-loop-again Inv-loop μ-loop
-loop-again c = near-more _ _ _ _ _ _ (omega (arith, c)) (c .before .before .before .loop .inv) (c .before .edge-at .ensures) (c .single .ensures)
+loop-again c = near-more _ _ _ _ _ _ (omega (arith, c)) (c .before .before .before .before .loop .inv) (c .before .before .edge-at .ensures) (rw (c .before .edge-scope .ensures) at (c .single .ensures))
 
 returns : tie.Need-returns Inv-loop μ-loop
 returns c = near-all _ _ _ _ (omega (arith, c .before .before .before .edges-end .ensures)) (c .before .loop .inv)
@@ -49,6 +52,7 @@ near-of-spec =
     edges-from-requires
     loop-holds
     edge-at-requires
+    edge-scope-requires
     single-requires
     add-p
     loop-less

@@ -7,20 +7,36 @@ use Rattle.block.proofs.EdgeLaws.{later-apart, later-turns}
 use Rattle.block.proofs.edges.is_later.Statement.{statement}
 use Rattle.block.proofs.edges.is_later.Tie as tie
 
+edge-label-requires : tie.Need-edge-label-requires
+edge-label-requires c κs = search needs
+
+edge-label-requires-2 : tie.Need-edge-label-requires-2
+edge-label-requires-2 c κs = search needs
+
 returns : tie.Need-returns
-returns c = sym (later-apart (c .before .args .x) (c .before .args .y) (c .if1 .taken))
+returns c =
+    let s = c .before .before .before .args in
+    sym (later-apart (s .x) (s .y) (λ e. c .if1 .taken (c .before .before .edge-label .ensures ∙ e ∙ sym (c .before .edge-label2 .ensures))))
 
-turn-of-requires : tie.Need-turn-of-requires
-turn-of-requires c κs = search needs
+edge-turn-requires : tie.Need-edge-turn-requires
+edge-turn-requires c κs = search needs
 
-turn-of-requires-2 : tie.Need-turn-of-requires-2
-turn-of-requires-2 c κs = search needs
+edge-turn-requires-2 : tie.Need-edge-turn-requires-2
+edge-turn-requires-2 c κs = search needs
 
 returns-2 : tie.Need-returns-2
 returns-2 c =
-    let s = c .before .before .before .args in
-    ap₂ (λ (a b : ℕ). ltb a b) (c .before .turn-of .ensures) (c .turn-of2 .ensures)
-    ∙ sym (later-turns (s .x) (s .y) (c .before .before .if1 .left))
+    let s = c .before .before .before .before .before .args in
+    ap₂ (λ (a b : ℕ). ltb a b) (c .before .edge-turn .ensures) (c .edge-turn2 .ensures)
+    ∙ sym (later-turns (s .x) (s .y) (sym (c .before .before .before .before .edge-label .ensures) ∙ c .before .before .if1 .left ∙ c .before .before .before .edge-label2 .ensures))
 
 pub is-later-spec : {M : Type 1} → statement M
-is-later-spec = tie.close (tie.spec returns turn-of-requires turn-of-requires-2 returns-2)
+is-later-spec =
+    tie.close
+    (tie.spec
+    edge-label-requires
+    edge-label-requires-2
+    returns
+    edge-turn-requires
+    edge-turn-requires-2
+    returns-2)

@@ -21,11 +21,11 @@ returns-2 c = let a = c .before .before .before .before .before .args in turn-no
 edge-at-requires : tie.Need-edge-at-requires
 edge-at-requires c κs = search needs
 
-turn-of-requires : tie.Need-turn-of-requires
-turn-of-requires c κs = search needs
+edge-turn-requires : tie.Need-edge-turn-requires
+edge-turn-requires c κs = search needs
 
 returns-3 : tie.Need-returns-3
-returns-3 c = let a = c .before .before .before .before .before .before .before .args in turn-edge (now (a .block)) (a .s) (a .label) (a .to) _ _ (c .before .before .before .before .edge-to .ensures) (c .before .before .before .edges-end .ensures) (c .before .before .if2 .left) _ _ (c .before .edge-at .ensures) (c .turn-of .ensures)
+returns-3 c = let a = c .before .before .before .before .before .before .before .args in turn-edge (now (a .block)) (a .s) (a .label) (a .to) _ _ (c .before .before .before .before .edge-to .ensures) (c .before .before .before .edges-end .ensures) (c .before .before .if2 .left) _ _ (c .before .edge-at .ensures) (c .edge-turn .ensures)
 
 pub step-turn-spec : {M : Type 1} → statement M
 step-turn-spec =
@@ -36,5 +36,5 @@ step-turn-spec =
     edges-end-requires
     returns-2
     edge-at-requires
-    turn-of-requires
+    edge-turn-requires
     returns-3)

@@ -42,20 +42,23 @@ returns c = let a = c .before .before .before .before .before .before .before .b
 edge-at-requires : tie.Need-edge-at-requires Inv-loop μ-loop
 edge-at-requires c κs = c .before .before .before .before .before .before .before .before .pre .0
 
+edge-label-requires : tie.Need-edge-label-requires Inv-loop μ-loop
+edge-label-requires c κs = tt
+
 add-learn : tie.Need-add-learn Inv-loop μ-loop
-add-learn c = omega arith
+add-learn c = omega (arith, c .edge-label .ensures)
 
 learn-requires : tie.Need-learn-requires Inv-loop μ-loop
-learn-requires c κs = let pre = c .before .before .before .before .before .before .before .before .before .pre in let goal = c .before .before .before .before .ask-goal .ensures in
-    (pre .0, (pre .1 .0, (omega (arith, pre .1 .1 .0), (pre .1 .1 .1 .1 .1 .0, (rw goal (pre .1 .1 .1 .0), rw goal (c .before .before .before .loop .inv .0))))))
+learn-requires c κs = let pre = c .before .before .before .before .before .before .before .before .before .before .pre in let goal = c .before .before .before .before .before .ask-goal .ensures in
+    (pre .0, (pre .1 .0, (omega (arith, pre .1 .1 .0, c .edge-label .ensures), (pre .1 .1 .1 .1 .1 .0, (rw goal (pre .1 .1 .1 .0), rw goal (c .before .before .before .before .loop .inv .0))))))
 
 returns-2 : tie.Need-returns-2 Inv-loop μ-loop
-returns-2 c = let s = c .before .before .before .before .before .before .before .before .before .before .before .before in let a = s .args in let so = c .before .before .before .before .before .before .loop in let hop = c .before .before .before .before .before .next-hop in
-    let told = c .before .before .learn in let x = c .before .before .before .edge-at in let goal = c .before .before .before .before .before .before .before .ask-goal in (
+returns-2 c = let s = c .before .before .before .before .before .before .before .before .before .before .before .before .before in let a = s .args in let so = c .before .before .before .before .before .before .before .loop in let hop = c .before .before .before .before .before .before .next-hop in
+    let told = c .before .before .learn in let x = c .before .before .before .before .edge-at in let label = c .before .before .before .edge-label .ensures in let goal = c .before .before .before .before .before .before .before .before .ask-goal in (
       rw (goal .ensures) at (told .ensures .0),
       next-is (a .block .now) (a .ask .now) (a .onward .now) (a .n) (a .p) (so .i) (hop .result)
           (skip-idle (a .block .now) (a .ask .now) (a .onward .now) (a .n) (a .p) (so .i) (hop .result) (so .inv .1) (hop .ensures)) (hop .ensures)
-          (λ y. label-cut (a .block .now) (a .ask .now) (a .n) (hop .result) (x .result) (goal .result) (told .result .cut) (s .pre .1 .0) (s .pre .1 .1 .1 .1 .1 .1 .1) (x .ensures) (goal .ensures) (told .ensures .1)
+          (λ y. label-cut (a .block .now) (a .ask .now) (a .n) (hop .result) (x .result) (goal .result) (told .result .cut) (s .pre .1 .0) (s .pre .1 .1 .1 .1 .1 .1 .1) (x .ensures) (goal .ensures) (rw label at (told .ensures .1))
           ∙ not-true (told .result .cut) (c .if2 .taken)),
     )
 
@@ -63,16 +66,16 @@ add-i : tie.Need-add-i Inv-loop μ-loop
 add-i c = omega arith
 
 loop-less : tie.Need-loop-less Inv-loop μ-loop
-loop-less c = omega (arith, c .before .before .before .before .before .next-hop .ensures .on, c .before .before .before .before .before .before .before .before .edges-end .ensures)
+loop-less c = omega (arith, c .before .before .before .before .before .before .next-hop .ensures .on, c .before .before .before .before .before .before .before .before .before .edges-end .ensures)
 
 loop-again : tie.Need-loop-again Inv-loop μ-loop
-loop-again c = let s = c .before .before .before .before .before .before .before .before .before .before .before .before in let a = s .args in let so = c .before .before .before .before .before .before .loop in let hop = c .before .before .before .before .before .next-hop in
-    let told = c .before .before .learn in let x = c .before .before .before .edge-at in let goal = c .before .before .before .before .before .before .before .ask-goal in (
+loop-again c = let s = c .before .before .before .before .before .before .before .before .before .before .before .before .before in let a = s .args in let so = c .before .before .before .before .before .before .before .loop in let hop = c .before .before .before .before .before .before .next-hop in
+    let told = c .before .before .learn in let x = c .before .before .before .before .edge-at in let label = c .before .before .before .edge-label .ensures in let goal = c .before .before .before .before .before .before .before .before .ask-goal in (
       rw (goal .ensures) at (told .ensures .0),
       skip-cut (a .block .now) (a .ask .now) (a .onward .now) (a .n) (a .p) (so .i) (hop .result)
           (skip-idle (a .block .now) (a .ask .now) (a .onward .now) (a .n) (a .p) (so .i) (hop .result) (so .inv .1) (hop .ensures)) (hop .ensures)
-          (omega (arith, c .before .before .before .before .if1 .left, c .before .before .before .before .before .before .before .before .edges-end .ensures))
-          (label-cut (a .block .now) (a .ask .now) (a .n) (hop .result) (x .result) (goal .result) (told .result .cut) (s .pre .1 .0) (s .pre .1 .1 .1 .1 .1 .1 .1) (x .ensures) (goal .ensures) (told .ensures .1)
+          (omega (arith, c .before .before .before .before .before .if1 .left, c .before .before .before .before .before .before .before .before .before .edges-end .ensures))
+          (label-cut (a .block .now) (a .ask .now) (a .n) (hop .result) (x .result) (goal .result) (told .result .cut) (s .pre .1 .0) (s .pre .1 .1 .1 .1 .1 .1 .1) (x .ensures) (goal .ensures) (rw label at (told .ensures .1))
           ∙ not-false (told .result .cut) (c .if2 .left)),
     )
 
@@ -88,6 +91,7 @@ next-unturned-spec =
     next-hop-requires
     returns
     edge-at-requires
+    edge-label-requires
     add-learn
     learn-requires
     returns-2

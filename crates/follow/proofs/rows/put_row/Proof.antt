@@ -1,4 +1,4 @@
--- `put_row` meets its contract: its five parts, one after the other. Assumes nothing.
+-- `put_row` meets its contract: the head, the hops, a line feed. Assumes nothing.
 use Rattle.follow.proofs.RowLaws.{puts-both, row-parts}
 use Rattle.text_field.proofs.BufferLaws.{puts-one}
 use mathlib.Core.Path.{refl, _∙_}
@@ -6,35 +6,21 @@ use borrow.Author.Needs.{needs}
 use Rattle.follow.proofs.rows.put_row.Statement.{statement}
 use Rattle.follow.proofs.rows.put_row.Tie as tie
 
-put-number-requires : tie.Need-put-number-requires
-put-number-requires c κs = search needs
-
-put-byte-requires : tie.Need-put-byte-requires
-put-byte-requires c κs = search needs
-
-put-number-requires-2 : tie.Need-put-number-requires-2
-put-number-requires-2 c κs = search needs
+put-front-requires : tie.Need-put-front-requires
+put-front-requires c κs = search needs
 
 put-hops-requires : tie.Need-put-hops-requires
 put-hops-requires c κs = search needs
 
-put-byte-requires-2 : tie.Need-put-byte-requires-2
-put-byte-requires-2 c κs = search needs
+put-byte-requires : tie.Need-put-byte-requires
+put-byte-requires c κs = search needs
 
 same-length : tie.Need-same-length
 same-length c = search needs
 
 returns : tie.Need-returns
-returns c = puts-both _ _ _ _ _ _ (puts-both _ _ _ _ _ _ (puts-both _ _ _ _ _ _ (puts-both _ _ _ _ _ _ (c .before .before .before .before .before .before .before .before .before .before .before .before .before .before .before .before .before .before .put-number .ensures) (c .before .before .before .before .before .before .before .before .before .before .before .before .before .before .put-byte .ensures ∙ puts-one _ _) refl) (c .before .before .before .before .before .before .before .before .before .before .put-number2 .ensures) refl) (c .before .before .before .before .before .before .put-hops .ensures) refl) (c .before .before .put-byte2 .ensures ∙ puts-one _ _) (row-parts _ _ _ _)
+returns c = puts-both _ _ _ _ _ _ (puts-both _ _ _ _ _ _ (c .before .before .before .before .before .before .before .before .before .before .put-front .ensures) (c .before .before .before .before .before .before .put-hops .ensures) refl) (c .before .before .put-byte .ensures ∙ puts-one _ _) (row-parts _ _ _ _)
 
 pub put-row-spec : {M : Type 1} → statement M
 put-row-spec =
-    tie.close
-    (tie.spec
-    put-number-requires
-    put-byte-requires
-    put-number-requires-2
-    put-hops-requires
-    put-byte-requires-2
-    same-length
-    returns)
+    tie.close (tie.spec put-front-requires put-hops-requires put-byte-requires same-length returns)

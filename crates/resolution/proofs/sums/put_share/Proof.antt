@@ -4,7 +4,7 @@ use Rattle.resolution.proofs.sums.put_share.Statement.{statement}
 use Rattle.resolution.proofs.sums.put_share.Tie as tie
 use Rattle.resolution.proofs.sums.put_share.Reads as reads
 use Rattle.resolution.proofs.sums.put_share.Lts as lts
-use Rattle.resolution.proofs.share.share_of.Reads as share-of-reads
+use Rattle.share.proofs.share_of.Reads as share-of-reads
 use Rattle.text_field.proofs.put_byte.Reads as put-byte-reads
 use Rattle.text_field.proofs.put_number.Reads as put-number-reads
 

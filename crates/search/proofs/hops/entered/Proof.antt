@@ -6,6 +6,9 @@ use Rattle.block.specs.Block.{hopOf}
 use Rattle.search.proofs.hops.entered.Statement.{statement}
 use Rattle.search.proofs.hops.entered.Tie as tie
 
+edge-scope-requires : tie.Need-edge-scope-requires
+edge-scope-requires c κs = search needs
+
 taken-requires : tie.Need-taken-requires
 taken-requires c κs = search needs
 
@@ -14,7 +17,9 @@ sub-left c = search needs
 
 returns : tie.Need-returns
 unfolding hopOf
-returns c = record { free = c .before .taken .ensures; left = omega arith; scope = refl; state = refl }
+returns c =
+    let to = c .before .before .edge-scope .ensures in
+    record { free = rw to at (c .before .taken .ensures); left = omega arith; scope = to; state = refl }
 
 pub entered-spec : {M : Type 1} → statement M
-entered-spec = tie.close (tie.spec taken-requires sub-left returns)
+entered-spec = tie.close (tie.spec edge-scope-requires taken-requires sub-left returns)

@@ -1,4 +1,4 @@
--- `trials::rows::steps` is safe and ends. The measure is the steps left; both slices keep their length.
+-- `trials::rows::steps` is safe and ends. The measure is the steps left; the lent bytes keep their number.
 -- Assumes nothing.
 use Prim.Native.Nat.{_-_}
 use borrow.Author.Needs.{needs}
@@ -8,12 +8,10 @@ use Rattle.trials.proofs.rows.steps.Statement.{statement}
 use Rattle.trials.proofs.rows.steps.Tie as tie
 
 abbrev Inv-loop : tie.InvT-loop
-Inv-loop row count letters₀ scopes₀ i₀ letters scopes i =
-    (length letters₀ ≡ length letters)
-    × (length scopes₀ ≡ length scopes)
+Inv-loop row count kept₀ i₀ kept i = length kept₀ ≡ length kept
 
 abbrev μ-loop : tie.MeasureT-loop
-μ-loop row count letters₀ scopes₀ i₀ letters scopes i = count - i
+μ-loop row count kept₀ i₀ kept i = count - i
 
 loop-holds : tie.Need-loop-holds Inv-loop μ-loop
 loop-holds c = search needs
@@ -26,6 +24,9 @@ step-requires c κs = search needs
 
 put-byte-requires : tie.Need-put-byte-requires Inv-loop μ-loop
 put-byte-requires c κs = search needs
+
+plus-requires : tie.Need-plus-requires Inv-loop μ-loop
+plus-requires c κs = search needs
 
 put-byte-requires-2 : tie.Need-put-byte-requires-2 Inv-loop μ-loop
 put-byte-requires-2 c κs = search needs
@@ -42,9 +43,6 @@ loop-again c = search needs
 same-length : tie.Need-same-length Inv-loop μ-loop
 same-length c = search needs
 
-same-length-2 : tie.Need-same-length-2 Inv-loop μ-loop
-same-length-2 c = search needs
-
 returns : tie.Need-returns Inv-loop μ-loop
 returns c = search needs
 
@@ -58,10 +56,10 @@ steps-spec =
     step-at-requires
     step-requires
     put-byte-requires
+    plus-requires
     put-byte-requires-2
     add-i
     loop-less
     loop-again
     same-length
-    same-length-2
     returns)

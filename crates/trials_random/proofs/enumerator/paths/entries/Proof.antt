@@ -11,6 +11,9 @@ Inv-loop g name table n sum₀ i₀ sum i = Unit {0}
 abbrev μ-loop : tie.MeasureT-loop
 μ-loop g name table n sum₀ i₀ sum i = n - i
 
+count-requires : tie.Need-count-requires Inv-loop μ-loop
+count-requires c κs = search needs
+
 loop-holds : tie.Need-loop-holds Inv-loop μ-loop
 loop-holds c = tt
 
@@ -41,6 +44,7 @@ entries-spec =
     (tie.spec
     Inv-loop
     μ-loop
+    count-requires
     loop-holds
     path-requires
     entries-of-requires

@@ -6,10 +6,10 @@ use Rattle.trials_random.proofs.enumerator.paths.seen.Statement.{statem
 use Rattle.trials_random.proofs.enumerator.paths.seen.Tie as tie
 
 abbrev Inv-loop : tie.InvT-loop
-Inv-loop g name table n sum₀ s₀ sum s = Unit {0}
+Inv-loop g name table sum₀ s₀ sum s = Unit {0}
 
 abbrev μ-loop : tie.MeasureT-loop
-μ-loop g name table n sum₀ s₀ sum s = 16 - s
+μ-loop g name table sum₀ s₀ sum s = 16 - s
 
 loop-holds : tie.Need-loop-holds Inv-loop μ-loop
 loop-holds c = tt

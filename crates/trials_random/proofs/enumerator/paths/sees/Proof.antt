@@ -6,10 +6,13 @@ use Rattle.trials_random.proofs.enumerator.paths.sees.Statement.{statem
 use Rattle.trials_random.proofs.enumerator.paths.sees.Tie as tie
 
 abbrev Inv-loop : tie.InvT-loop
-Inv-loop table n scope i₀ i = Unit {0}
+Inv-loop table scope n i₀ i = Unit {0}
 
 abbrev μ-loop : tie.MeasureT-loop
-μ-loop table n scope i₀ i = n - i
+μ-loop table scope n i₀ i = n - i
+
+count-requires : tie.Need-count-requires Inv-loop μ-loop
+count-requires c κs = search needs
 
 loop-holds : tie.Need-loop-holds Inv-loop μ-loop
 loop-holds c = tt
@@ -41,6 +44,7 @@ sees-spec =
     (tie.spec
     Inv-loop
     μ-loop
+    count-requires
     loop-holds
     path-requires
     shows-requires

@@ -1,5 +1,5 @@
--- `trials_random::enumerator::rows::put_rows` is safe and ends. The measure is the paths left; the lent slice
--- keeps its length. Assumes nothing.
+-- `trials_random::enumerator::rows::put_rows` is safe and ends. The measure is the paths left; the
+-- lent slice keeps its length. Assumes nothing.
 use Prim.Native.Nat.{_-_}
 use borrow.Author.Needs.{needs}
 use mathlib.Core.Path.{_≡_}
@@ -12,6 +12,9 @@ Inv-loop out₀ g name table n m₀ i₀ out m i = length out₀ ≡ length out
 
 abbrev μ-loop : tie.MeasureT-loop
 μ-loop out₀ g name table n m₀ i₀ out m i = n - i
+
+count-requires : tie.Need-count-requires Inv-loop μ-loop
+count-requires c κs = search needs
 
 loop-holds : tie.Need-loop-holds Inv-loop μ-loop
 loop-holds c = search needs
@@ -43,6 +46,7 @@ put-rows-spec =
     (tie.spec
     Inv-loop
     μ-loop
+    count-requires
     loop-holds
     path-requires
     put-entries-requires

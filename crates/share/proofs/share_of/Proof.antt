@@ -1,46 +1,36 @@
+-- `share_of` meets its contract: the three ways are the laws of Nearest. Assumes nothing.
 use Prim.Native.Nat.{_*_}
 use native.Mathlib.Omega.{arith}
 use native.Mathlib.Nat.{div-le-self, mod-le}
-use Rattle.resolution.proofs.Nearest.{past-half, at-half, before-half}
+use Rattle.share.proofs.Nearest.{past-half, at-half, before-half}
 use borrow.Author.Needs.{needs}
-use Rattle.resolution.proofs.share.share_of.Statement.{statement}
-use Rattle.resolution.proofs.share.share_of.Tie as tie
-use Rattle.resolution.proofs.share.share_of.Reads as reads
-use Rattle.resolution.proofs.share.share_of.Lts as lts
+use Rattle.share.proofs.share_of.Statement.{statement}
+use Rattle.share.proofs.share_of.Tie as tie
 
--- src/share.rt:11:17
 mul-parts : tie.Need-mul-parts
 mul-parts c = search needs
 
--- src/share.rt:12:17
 div-whole : tie.Need-div-whole
 div-whole c = search needs
 
--- src/share.rt:13:22
 rem-twice : tie.Need-rem-twice
 rem-twice c = search needs
 
--- src/share.rt:13:17
 mul-twice : tie.Need-mul-twice
 mul-twice c = omega (arith, mod-le (c .args .one * 100) (c .args .n))
 
--- src/share.rt:16:16
 add-result : tie.Need-add-result
 add-result c = omega (arith, div-le-self (c .before .args .one * 100) (c .before .args .n))
 
--- src/share.rt:16:9
 returns : tie.Need-returns
 returns c = past-half (c .before .args .one) (c .before .args .n) (omega arith)
 
--- src/share.rt:19:16
 add-result-2 : tie.Need-add-result-2
 add-result-2 c = omega (arith, div-le-self (c .before .before .args .one * 100) (c .before .before .args .n))
 
--- src/share.rt:19:9
 returns-2 : tie.Need-returns-2
 returns-2 c = at-half (c .before .before .args .one) (c .before .before .args .n) (omega arith)
 
--- src/share.rt:7:1
 returns-3 : tie.Need-returns-3
 returns-3 c = before-half (c .before .before .args .one) (c .before .before .args .n) (omega arith)
 

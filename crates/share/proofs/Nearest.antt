@@ -8,7 +8,7 @@ use native.Mathlib.Omega.{arith}
 use native.Mathlib.Nat.{div-add-mod, div-le-self, mod-lt, mul-le-mul-left, eq-or-lt-of-le}
 use lib.Dec.{ltb, eqb, leb}
 use borrow.Author.Tests.{ltb-true, ltb-false, leb-true, leb-false, eqb-true, eqb-false, lt-ltb, le-ltb, eq-eqb, ne-eqb}
-use Rattle.resolution.specs.Share.{rounded, nearest, share, IsShare, ShareIs, ShareNearest}
+use Rattle.share.specs.Share.{rounded, nearest, share, IsShare, ShareIs, ShareNearest}
 
 -- the three ways, by twice the rest and n
 module _ (one n : ℕ) where
