@@ -19,18 +19,12 @@ use crate::enumerator::paths::ROOM;
 use crate::enumerator::rows;
 use crate::enumerator::text;
 use resolution::listing;
-use resolution::summary;
 use text_field::Answer;
 
 const GYMS: usize = 6000;
 
 // The bytes of a listing or a gym's text that are kept.
 const TEXT: usize = 17408;
-
-// A gym's queries are counted by what they find; one that is left out stands behind these.
-const UNTOLD: usize = 3;
-
-const CLASSES: usize = 4;
 
 // The place in the counts of what is awaited.
 fn awaits_place(pair: usize) -> usize {
@@ -54,11 +48,6 @@ fn compare_answer(counts: &mut [u64], text: &[u8], due: &[u8], a: Answer, out: &
 // The library's listing of query i, in lent memory.
 fn compare_listing(counts: &mut [u64], text: &[u8], i: usize, due: &[u8], out: &mut [u8]) {
     let a = listing(text, i, out);
-    compare_answer(counts, text, due, a, out);
-}
-
-fn compare_summary(counts: &mut [u64], text: &[u8], due: &[u8], out: &mut [u8]) {
-    let a = summary(text, out);
     compare_answer(counts, text, due, a, out);
 }
 
@@ -109,26 +98,25 @@ fn entries_due(counts: &mut [u64], g: &[u8], text: &[u8], i: usize, found: usize
     compare_settled(counts, text, rows, pair, all);
 }
 
-// Query i, whose reached paths are in the table; what is found.
-fn query_due(counts: &mut [u64], g: &[u8], text: &[u8], i: usize, table: &[u8]) -> usize {
+// Query i, whose reached paths are in the table.
+fn query_due(counts: &mut [u64], g: &[u8], text: &[u8], i: usize, table: &[u8]) {
     let mut rows = [0u8; ROWS];
     let m = rows::put_rows(&mut rows, g, i % 2, table);
     if ROWS < m {
         say::add(counts, say::LEFT_OUT, 1);
-        return UNTOLD;
+        return;
     }
     let found = due::found_of(paths::seen(g, i % 2, table));
     entries_due(counts, g, text, i, found, part(&rows, 0, m));
-    found
 }
 
-// Query i; what is found, unless there are too many paths.
-fn query(counts: &mut [u64], g: &[u8], text: &[u8], i: usize) -> usize {
+// Query i, unless there are too many paths.
+fn query(counts: &mut [u64], g: &[u8], text: &[u8], i: usize) {
     let mut room = [0u8; ROOM];
     let n = paths::resolve(g, i / 2, i % 2, &mut room);
     if MOST < n {
         say::add(counts, say::LEFT_OUT, 1);
-        return UNTOLD;
+        return;
     }
     let table = paths::first(&room, n);
     say::add(counts, say::PATHS, n);
@@ -136,40 +124,14 @@ fn query(counts: &mut [u64], g: &[u8], text: &[u8], i: usize) -> usize {
     query_due(counts, g, text, i, table)
 }
 
-// All queries of a gym, counted by what is found.
-fn queries(counts: &mut [u64], g: &[u8], text: &[u8], classes: &mut [u64]) {
+// All queries of a gym.
+fn queries(counts: &mut [u64], g: &[u8], text: &[u8]) {
     let n = gym::scopes(g) % 16 * 2;
     let mut i = 0;
     while i < n {
-        say::add(classes, query(counts, g, text, i), 1);
+        query(counts, g, text, i);
         i += 1;
     }
-}
-
-// How many queries are of a class; a gym has few.
-fn of_class(classes: &[u64], c: usize) -> usize {
-    say::count(classes, c) as usize
-}
-
-fn summary_due(counts: &mut [u64], text: &[u8], classes: &[u64]) {
-    if of_class(classes, UNTOLD) != 0 {
-        return;
-    }
-    let mut due = [0u8; 128];
-    let one = of_class(classes, due::FOUND_ONE);
-    let several = of_class(classes, due::FOUND_SEVERAL);
-    let n = due::put_summary(&mut due, one, several, of_class(classes, due::FOUND_NONE));
-    say::add(counts, say::SUMMARIES, 1);
-    let mut out = [0u8; 128];
-    compare_summary(counts, text, part(&due, 0, n), &mut out);
-}
-
-// A gym's queries and its summary.
-fn gym_due(counts: &mut [u64], g: &[u8], text: &[u8]) {
-    say::add(counts, say::GYMS, 1);
-    let mut classes = [0u64; CLASSES];
-    queries(counts, g, text, &mut classes);
-    summary_due(counts, text, &classes);
 }
 
 // The gym that is drawn from a number on; the last number drawn.
@@ -178,7 +140,8 @@ fn one_gym(counts: &mut [u64], seed: usize) -> usize {
     let x = drawn::draw(&mut g, seed);
     let mut text = [0u8; TEXT];
     let n = text::put_gym(&mut text, &g);
-    gym_due(counts, &g, part(&text, 0, n));
+    say::add(counts, say::GYMS, 1);
+    queries(counts, &g, part(&text, 0, n));
     x
 }
 

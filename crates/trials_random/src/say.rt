@@ -3,36 +3,32 @@ use crate::enumerator::cells::word;
 
 pub const GYMS: usize = 0;
 
-pub const SUMMARIES: usize = 1;
+pub const QUERIES: usize = 1;
 
-pub const QUERIES: usize = 2;
+pub const PATHS: usize = 2;
 
-pub const PATHS: usize = 3;
-
-pub const ENTRIES: usize = 4;
+pub const ENTRIES: usize = 3;
 
 // None, one and several found.
-pub const FOUND: usize = 5;
+pub const FOUND: usize = 4;
 
-pub const SETTLED: usize = 8;
+pub const SETTLED: usize = 7;
 
-pub const END: usize = 9;
+pub const END: usize = 8;
 
-pub const LABEL: usize = 10;
+pub const LABEL: usize = 9;
 
-pub const LEFT_OUT: usize = 11;
+pub const LEFT_OUT: usize = 10;
 
-pub const DIFFERENCES: usize = 12;
-
-pub const SUM: usize = 13;
+pub const DIFFERENCES: usize = 11;
 
 // How many there are.
-pub const COUNTS: usize = 14;
+pub const COUNTS: usize = 12;
 
 // The differences that are shown in full.
 const SHOWN: u64 = 3;
 
-pub fn count(counts: &[u64], i: usize) -> u64 {
+fn count(counts: &[u64], i: usize) -> u64 {
     if i < counts.len() { counts[i] } else { 0 }
 }
 
@@ -49,27 +45,6 @@ fn sum(a: u64, b: u64) -> u64 {
 pub fn add(counts: &mut [u64], i: usize, n: usize) {
     let x = count(counts, i);
     keep(counts, i, sum(x, n as u64));
-}
-
-// A running sum with one more number, below the prime 4,294,967,291.
-fn mixed(sum: u64, x: u8) -> u64 {
-    ((sum % 4294967291) * 1000003 + x as u64 + 1) % 4294967291
-}
-
-fn mixed_all(sum: u64, s: &[u8]) -> u64 {
-    let mut x = sum;
-    let mut i = 0;
-    while i < s.len() {
-        x = mixed(x, s[i]);
-        i += 1;
-    }
-    x
-}
-
-// The running sum of all that the library wrote.
-pub fn add_to_sum(counts: &mut [u64], s: &[u8]) {
-    let x = mixed_all(count(counts, SUM), s);
-    keep(counts, SUM, x);
 }
 
 fn print(s: &[u8]) {
@@ -92,7 +67,6 @@ pub fn difference(counts: &mut [u64], text: &[u8], due: &[u8], got: &[u8]) {
 
 // What the library gave, held to what is due.
 pub fn compare(counts: &mut [u64], text: &[u8], due: &[u8], got: &[u8]) {
-    add_to_sum(counts, got);
     if check::same(due, got) {
         return;
     }
@@ -100,10 +74,7 @@ pub fn compare(counts: &mut [u64], text: &[u8], due: &[u8], got: &[u8]) {
 }
 
 fn print_gyms_name(i: usize) {
-    print(word(
-        b"gyms |summaries compared |listings compared |reached paths |entries ",
-        i,
-    ));
+    print(word(b"gyms |listings compared |reached paths |entries ", i));
 }
 
 fn print_found_name(i: usize) {
@@ -115,10 +86,7 @@ fn print_awaited_name(i: usize) {
 }
 
 fn print_last_name(i: usize) {
-    print(word(
-        b"left out, too many paths |differences |sum of all that was written ",
-        i,
-    ));
+    print(word(b"left out, too many paths |differences ", i));
 }
 
 // What is counted at a place.

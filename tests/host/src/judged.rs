@@ -1,11 +1,11 @@
-//! The library's judge against the enumerator itself, on small gyms of all forms: every path from a
-//! query's start, with each mark of the file and one that is nobody's, and rows made from it by
-//! chance, most of which are no paths.
+//! The library's judge and its summary against the enumerator itself, on small gyms of all forms.
+//! Judged is every path from a query's start, with each mark of the file and one that is nobody's,
+//! and rows made from it by chance, most of which are no paths.
 
 use crate::calls::{number, Test};
 use crate::differ;
-use plain::enumerate::{name_of, Graph, Path, Verdict};
-use plain::gym::{Form, Gym};
+use plain::enumerate::{declarations, name_of, Graph, Path, Verdict};
+use plain::gym::{Form, Gym, Query};
 use plain::path_row::{PathRow, Step};
 use plain::random::{gym, Rng, Size, SMALL};
 use tewhoranu::Standing;
@@ -73,8 +73,24 @@ fn paths_of(form: Form) -> &'static str {
     }
 }
 
+/// A gym's summary; the share (02, K1) is the whole per cent that is nearest, of two the even one.
+fn summary(gym: &Gym) -> String {
+    let graph = Graph::of(gym);
+    let seen = |query: &Query| declarations(&graph.entries(query.start as usize, &name_of(query.name)));
+    let counts: Vec<usize> = gym.queries.iter().map(seen).collect();
+    let (queries, one) = (counts.len(), counts.iter().filter(|&&n| n == 1).count());
+    let none = counts.iter().filter(|&&n| n == 0).count();
+    let far = |share: &usize| ((share * queries).abs_diff(100 * one), share % 2);
+    let share = match queries {
+        0 => "-".to_string(),
+        _ => (0..=100).min_by_key(far).expect("a hundred and one").to_string(),
+    };
+    format!("queries one several none share\n{queries} {one} {} {none} {share}\n", queries - one - none)
+}
+
 /// Every answer is to be met on paths; of made rows those that are reached, as most are not.
-pub const DUE: [(&str, &[&str]); 5] = [
+pub const DUE: [(&str, &[&str]); 6] = [
+    ("summed", &["-", "0", "12", "38", "50", "100"]),
     ("judged, old form", &["visible", "shadowed 0", "shadowed 1", "shadowed 2", "shadowed 3", "unreached"]),
     ("judged, with kinds", &["visible", "shadowed 0", "shadowed 1", "shadowed 2", "shadowed 3", "unreached"]),
     ("judged, with turns", &["visible", "shadowed 0", "shadowed 1", "shadowed 2", "shadowed 3", "unreached"]),
@@ -101,10 +117,22 @@ impl Test {
         self.tally.count(name, format!("{due:?}").to_lowercase().replace('(', " ").replace(')', ""));
     }
 
-    /// All rows of a small gym.
+    /// The summary of a gym, counted by its share.
+    fn summed(&mut self, text: &[u8], gym: &Gym) {
+        let due = summary(gym);
+        let mut out = [0; 64];
+        let got = tewhoranu::summary(text, &mut out).map_err(number);
+        if got != Ok(due.len()) || out[..due.len()] != *due.as_bytes() {
+            differ("summary", text, format!("{got:?}, {} and not {due}", String::from_utf8_lossy(&out)));
+        }
+        self.tally.count("summed", due.trim_end().rsplit(' ').next().unwrap_or("").to_string());
+    }
+
+    /// The summary and all rows of a small gym.
     pub fn judged(&mut self, seed: usize) {
         let text = drawn(seed);
         let gym = Gym::parse(&text).expect("an accepted file");
+        self.summed(&text, &gym);
         let mut marks: Vec<u16> = gym.declarations.iter().map(|d| d.mark).collect();
         marks.sort();
         marks.dedup();

@@ -1,7 +1,7 @@
 //! The host test: the library, through its Rust wrapper, against the plain Rust implementation, on
 //! random and damaged files, graph tables and path rows, with lent memory of every length about the
-//! due one; its judge against the enumerator; then the C example and the program against the plain
-//! implementation.
+//! due one; its judge and its summary against the enumerator; then the C example and the program
+//! against the plain implementation.
 //!
 //! host_test FILES EXAMPLE PROGRAM RUNS [GYM..]: so many random files in process, and as many small
 //! gyms whose paths are judged, so many runs of each of the two programs, and both programs on the

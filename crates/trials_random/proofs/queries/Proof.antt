@@ -1,5 +1,5 @@
--- `trials_random::queries` is safe and ends. The measure is the queries left; the lent slices keep
--- their lengths. Assumes nothing.
+-- `trials_random::queries` is safe and ends. The measure is the queries left; the lent slice keeps
+-- its length. Assumes nothing.
 use Prim.Native.Nat.{_-_}
 use borrow.Author.Needs.{needs}
 use mathlib.Core.Path.{_≡_}
@@ -8,10 +8,10 @@ use Rattle.trials_random.proofs.queries.Statement.{statement}
 use Rattle.trials_random.proofs.queries.Tie as tie
 
 abbrev Inv-loop : tie.InvT-loop
-Inv-loop counts₀ g text classes₀ n i₀ counts classes i = (length counts₀ ≡ length counts) × (length classes₀ ≡ length classes)
+Inv-loop counts₀ g text n i₀ counts i = length counts₀ ≡ length counts
 
 abbrev μ-loop : tie.MeasureT-loop
-μ-loop counts₀ g text classes₀ n i₀ counts classes i = n - i
+μ-loop counts₀ g text n i₀ counts i = n - i
 
 scopes-requires : tie.Need-scopes-requires Inv-loop μ-loop
 scopes-requires c κs = search needs
@@ -25,9 +25,6 @@ loop-holds c = search needs
 query-requires : tie.Need-query-requires Inv-loop μ-loop
 query-requires c κs = search needs
 
-add-requires : tie.Need-add-requires Inv-loop μ-loop
-add-requires c κs = search needs
-
 add-i : tie.Need-add-i Inv-loop μ-loop
 add-i c = search needs
 
@@ -39,9 +36,6 @@ loop-again c = search needs
 
 same-length : tie.Need-same-length Inv-loop μ-loop
 same-length c = search needs
-
-same-length-2 : tie.Need-same-length-2 Inv-loop μ-loop
-same-length-2 c = search needs
 
 returns : tie.Need-returns Inv-loop μ-loop
 returns c = search needs
@@ -56,10 +50,8 @@ queries-spec =
     mul-n
     loop-holds
     query-requires
-    add-requires
     add-i
     loop-less
     loop-again
     same-length
-    same-length-2
     returns)

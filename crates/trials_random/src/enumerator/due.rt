@@ -1,4 +1,4 @@
-// The listing and the summary that are due.
+// The listing that is due.
 use crate::enumerator::cells::put;
 use crate::enumerator::cells::put_all;
 use crate::enumerator::cells::word;
@@ -7,7 +7,6 @@ use crate::enumerator::text::end_byte;
 use crate::enumerator::text::put_field;
 use crate::enumerator::text::put_name;
 use crate::enumerator::text::put_number;
-use crate::enumerator::text::put_numbers;
 
 // What a query finds, by number.
 pub const FOUND_NONE: usize = 0;
@@ -51,29 +50,4 @@ pub fn put_listing(
     let e = put_awaits(out, d, g, pair);
     let f = put_all(out, e, b"mark path\n");
     put_all(out, f, rows)
-}
-
-// To the nearest per cent (02, K1), in halves of one: half up, and at an exact half the even one of
-// the two.
-fn share(queries: usize, one: usize) -> usize {
-    if queries == 0 {
-        return 0;
-    }
-    if 768 < queries {
-        return 0;
-    }
-    let halves = one % 256 * 200 + queries;
-    let up = halves / (2 * queries);
-    if halves % (2 * queries) == 0 {
-        return up % 256 / 2 * 2;
-    }
-    up
-}
-
-// Every gym here has a query.
-pub fn put_summary(out: &mut [u8], one: usize, several: usize, none: usize) -> usize {
-    let queries = one % 256 + several % 256 + none % 256;
-    let a = put_all(out, 0, b"queries one several none share\n");
-    let row = [queries, one, several, none, share(queries, one)];
-    put_numbers(out, a, &row)
 }

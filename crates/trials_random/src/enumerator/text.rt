@@ -51,17 +51,6 @@ fn after(k: usize, columns: usize) -> usize {
     if plus(k, 1) == columns { 10 } else { 32 }
 }
 
-// A row of numbers.
-pub fn put_numbers(out: &mut [u8], n: usize, numbers: &[usize]) -> usize {
-    let mut m = n;
-    let mut k = 0;
-    while k < numbers.len() {
-        m = put_field(out, m, numbers[k], after(k, numbers.len()));
-        k += 1;
-    }
-    m
-}
-
 // The byte of an end: `$` or its label's letter.
 pub fn end_byte(g: &[u8], end: usize) -> usize {
     if end == 0 {
