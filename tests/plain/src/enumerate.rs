@@ -68,8 +68,8 @@ impl Path {
     }
 }
 
-/// The number of equal steps before the first difference, 0 for different starts (02, K7): the
-/// longest beginning that both paths have.
+/// How many steps two paths share from the front on (02, K7): the length of the longest beginning
+/// that both have. Paths that start apart share none.
 pub fn agree(p: &Path, q: &Path) -> usize {
     if p.start != q.start {
         return 0;
@@ -280,8 +280,8 @@ impl Graph {
         met.iter().any(|q| self.accepts.contains(q))
     }
 
-    /// Is there a step of p where r, with the same steps before, goes on by a preferred one, or ends
-    /// where that is preferred?
+    /// Do p and r agree up to some step of p, at which r does better: by a preferred step, or by
+    /// ending, if that is preferred?
     fn cuts_a_step(&self, r: &Path, p: &Path) -> bool {
         (0..p.steps.len()).any(|i| {
             let at = if i == 0 { p.start } else { p.steps[i - 1].1 };
@@ -306,7 +306,8 @@ impl Graph {
     }
 }
 
-/// An ended path first, then label number, then scope; equal paths by mark.
+/// The order of a listing's rows: where two paths part, the one that has ended comes first, else the
+/// lower label number, else the lower scope. Rows of one path ascend by mark.
 fn listing_order(a: &Entry, b: &Entry) -> Ordering {
     for i in 0.. {
         match (a.0.steps.get(i), b.0.steps.get(i)) {

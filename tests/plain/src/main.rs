@@ -1,4 +1,5 @@
-//! Reads a gym file from standard input and prints each query's listing, then the summary.
+//! `resolve` again, in plain Rust: a gym file on standard input, all listings and the summary on
+//! standard output.
 
 use std::io::{self, Read, Write};
 

@@ -1,6 +1,6 @@
-//! How many lawful beginnings a query follows (02, K11): the paths from its start, the empty one
-//! included, after which transitions alone can still lead to acceptance and none of whose steps is
-//! cut.
+//! How many lawful beginnings a query follows (02, K11). A beginning is a path from the query's
+//! start, possibly without steps, whose state has a way to acceptance in the automaton and none of
+//! whose steps is cut.
 
 use super::{bit, Search};
 use crate::gym::Edge;
