@@ -67,7 +67,7 @@ module _ (cells block : List ℕ) (was : WasRead cells) (made : Made cells block
   -- behind steps that leave one scope: the same hop is one label and one scope
   rest-same : (s : ℕ) (t u : Step) (ts us : List Step)
       → preferredTo L (hops (t .scope) ts) (hops (t .scope) us) stop ≡ stepsPreferred block (t .scope) ts us
-      → (sameHop L (hopOf (blockHops block) (blockLetters block) s t) (hopOf (blockHops block) (blockLetters block) s u)
+      → (sameHop (L .same-step) (hopOf (blockHops block) (blockLetters block) s t) (hopOf (blockHops block) (blockLetters block) s u)
       && preferredTo L (hops (t .scope) ts) (hops (u .scope) us) stop)
       ≡ (sameStep block t u && stepsPreferred block (t .scope) ts us)
   unfolding sameHop hopOf

@@ -8,9 +8,9 @@ use mathlib.Core.List.{List, [], _∷_}
 use native.Mathlib.Omega.{arith}
 use lib.Dec.{eqb, ltb}
 use borrow.Author.Tests.{lt-ltb, ltb-true, eq-eqb, eqb-true, ne-eqb}
-use Rattle.text_field.specs.Name.{isNameCells, nameBefore, cellsBefore}
+use Rattle.text_field.specs.Name.{isNameCells, nameBefore}
 use Rattle.text_field.proofs.NameLaws.{cells-equal}
-use Rattle.text_field.proofs.OrderLaws.{cells-ordered}
+use Rattle.text_field.proofs.OrderLaws.{cellsBefore, cells-ordered}
 use Rattle.scope_graph.specs.Language.{_∈_}
 use Rattle.scope_graph.specs.Listing.{Pairwise}
 use Rattle.text_field.specs.Outcome.{done}

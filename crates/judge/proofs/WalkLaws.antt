@@ -25,7 +25,7 @@ use Rattle.path_row.specs.Numbering.{labelNumber, hopOf, hopsOf}
 use Rattle.path_row.proofs.TakenLaws.{taken-none, taken-next}
 use Rattle.comparison.specs.Letters.{blockLetters}
 use Rattle.judge.specs.LastCut.{leadsBy}
-use Rattle.judge.specs.Steps.{hasMark, hopTo, sameHop, hasHop, stepHops, stateOn, stateAlong, Behind, lastOf, rowReached}
+use Rattle.judge.specs.Steps.{hasMark, hopTo, hasHop, stepHops, stateOn, stateAlong, Behind, lastOf, rowReached}
 use Rattle.judge.proofs.HopLaws.{on-taken, on-free, free-is}
 
 -- the hops of the steps from step i on
@@ -82,7 +82,7 @@ module _ (block decls : List ℕ) (goal : ℕ) (x : QueryRow) (mark : ℕ) (n : 
 
     by-edge : reachedBy (tableBoard block goal) (hasScope (n .free)) (n .scope) (n .state) (hopTo block (n .scope) l t ∷ hs)
         ≡ byEdge (hasHop (hopTo block (n .scope) l t) (blockHops block (n .scope)))
-    unfolding reachedBy leadsTo leadsBy among hasHop sameHop tableBoard
+    unfolding reachedBy leadsTo leadsBy among hasHop tableBoard
     by-edge = refl
 
     pub reach-no : 16 ≤ r → reached n (hopTo block (n .scope) l t ∷ hs) ≡ false

@@ -12,6 +12,7 @@ use Rattle.scope_graph.specs.Language.{End, stop}
 use Rattle.scope_graph.specs.Path.{HopOf}
 use Rattle.scope_graph.specs.Turns.{Turned, sameTurned, turnBy}
 use Rattle.scope_graph.specs.Rows.{anyOf, language}
+use Rattle.scope_graph.specs.Computed.{sameHop}
 use Rattle.scope_graph.specs.Agree.{Judgement, judgement}
 use Rattle.graph_file.specs.Admission.{Row}
 use Rattle.graph_file.specs.Decode.{rulesOf, graphOf}
@@ -55,15 +56,12 @@ unfoldable pub hasMark : QueryRow → ℕ → ℕ → List Row → Bool
 hasMark x mark s rows = anyOf (isMarked x mark s) (map rowDeclared rows)
 
 -- a step that leaves scope s by a label to a scope, with the turn of the edge that it goes along,
--- if there is one (02, K12); is it another hop, is it one of these?
+-- if there is one (02, K12); is it one of these hops?
 abbrev pub hopTo : List ℕ → ℕ → ℕ → ℕ → HopOf Turned
 hopTo block s label to = record { step = record { label = label; turn = turnBy (blockHops block s) label to }; to = to }
 
-unfoldable pub sameHop : HopOf Turned → HopOf Turned → Bool
-sameHop h k = sameTurned (k .step) (h .step) && eqb (k .to) (h .to)
-
 unfoldable pub hasHop : HopOf Turned → List (HopOf Turned) → Bool
-hasHop h hops = anyOf (sameHop h) hops
+hasHop h hops = anyOf (λ k. sameHop sameTurned k h) hops
 
 -- steps as hops that leave scope s: by their letters' numbers, with their turns
 abbrev pub stepHops : List ℕ → List Step → ℕ → List (HopOf Turned)

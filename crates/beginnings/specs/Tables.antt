@@ -1,9 +1,8 @@
--- The count of lawful beginnings (02, K11) as the board's tables have it. Assumes nothing: these
--- are definitions.
+-- The places that are counted, as the board's tables have them: they are the lawful beginnings (02,
+-- K11), which `places` in proofs/Places.antt says. Assumes nothing: these are definitions.
 use Prim.Native.Nat.{ℕ, _<_}
-use mathlib.Core.Bool.{Bool, true, false}
+use mathlib.Core.Bool.{Bool}
 use mathlib.Core.List.{List}
-use lib.Dec.{ltb}
 use Rattle.scope_graph.specs.Language.{_∈_, End}
 use Rattle.scope_graph.specs.Order.{endOf}
 use Rattle.scope_graph.specs.Path.{HopOf}
@@ -14,13 +13,6 @@ use Rattle.block.specs.Block.{nextCell, acceptSet, scopesCell, blockHops}
 use Rattle.search.specs.Board.{hitsFrom}
 use Rattle.search.specs.Tables.{plainEnd, tableOrder, tableBoard}
 use Rattle.board.specs.Tables.{hopefulSet}
-
--- a count above 999,999,999 is given as this
-abbrev pub MOST : ℕ
-MOST = 1000000000
-
-unfoldable pub capped : ℕ → ℕ
-capped n = elim (ltb n MOST) [ true ↦ n | false ↦ MOST ]
 
 -- the states from which transitions alone lead to an accepting one
 unfoldable pub hopesIn : List ℕ → ℕ
