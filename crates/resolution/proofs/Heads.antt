@@ -34,10 +34,10 @@ use Rattle.follow.specs.declared.Bounds.{Bounds}
 use Rattle.follow.specs.declared.Seen.the-variants.{None}
 use Rattle.follow.specs.Text.{headLine, seekColumns, rowsLine, foundText, letterOf, endText}
 use Rattle.follow.specs.Tally as tally
-use Rattle.follow.specs.Tally.{Taken, State, fits, takeRows, joined}
+use Rattle.follow.specs.Tally.{Taken, State, fits, takeRows}
 use Rattle.follow.specs.Walk.{letterBytes}
 use Rattle.follow.proofs.TakeLaws.{fits-yes, fits-no, fits-true, fits-false}
-use Rattle.follow.proofs.TallyLaws.{rows-text, tallied}
+use Rattle.follow.proofs.TallyLaws.{joined, rows-text, tallied}
 use Rattle.resolution.specs.declared.text.Found as told
 use Rattle.resolution.specs.declared.text.Awaits.{Awaits}
 use Rattle.resolution.specs.declared.text.Awaits.the-variants.{Settled, Pair}
