@@ -15,10 +15,10 @@ use Rattle.scope_graph.specs.Computed.{sameHop}
 use Rattle.scope_graph.proofs.Lists.{Two, and-left, and-both, anyOf-intro, anyOf-false}
 use Rattle.scope_graph.proofs.Turns.{turned-is, turned-self}
 use Rattle.block.specs.Sets.{hasScope}
-use Rattle.block.specs.Block.{nextCell, scopesCell, firstEdge, blockHops, EdgeTo}
+use Rattle.block.specs.Block.{nextCell, scopesCell, firstEdge, blockHops}
 use Rattle.block.proofs.SetLaws.{scope-past, scope-below, scopes-all}
 use Rattle.block.proofs.BlockLaws.{next-no-label}
-use Rattle.block.proofs.EdgeLaws.{hop-turned}
+use Rattle.block.proofs.EdgeLaws.{EdgeTo, hop-turned}
 use Rattle.search.specs.declared.Node.{Node}
 use Rattle.search.specs.Board.{without}
 use Rattle.search.specs.Conditions.{Inside, freeAt}
