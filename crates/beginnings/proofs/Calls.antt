@@ -18,8 +18,8 @@ use Rattle.search.specs.Conditions.{freeAt}
 use Rattle.board.specs.Queries.{queryAt}
 use Rattle.resolution.specs.Asked.{Ready, queryIn}
 use Rattle.resolution.specs.Listing.{listingText, listingOf, listingFor}
-use Rattle.beginnings.specs.Count.{capped, placesBehind}
-use Rattle.beginnings.specs.Beginnings.{followedCount, countOf, countFor}
+use Rattle.beginnings.specs.Tables.{placesBehind}
+use Rattle.beginnings.specs.Beginnings.{capped, followedCount, countOf, countFor}
 use Rattle.beginnings.specs.Counted.{followedLeaves}
 use Rattle.beginnings.specs.Promises.{FollowedIs}
 use Rattle.beginnings.proofs.Places.{count-of}

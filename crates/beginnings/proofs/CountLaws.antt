@@ -17,7 +17,8 @@ use Rattle.search.proofs.Closed.{closed-less}
 use Rattle.search.proofs.HopLaws.{worthy}
 use Rattle.search.proofs.Leads.{Behind, taken-is}
 use Rattle.follow.specs.Steps.{FollowedEdge, NextFollowed}
-use Rattle.beginnings.specs.Count.{MOST, capped, hopesIn}
+use Rattle.beginnings.specs.Beginnings.{MOST, capped}
+use Rattle.beginnings.specs.Tables.{hopesIn}
 use Rattle.beginnings.specs.Steps.{ALL_SCOPES, Few, Flooded, Tells, ownPlace, behind, behindEdges, Recalls}
 use Rattle.beginnings.proofs.Few.{few-less}
 use Rattle.beginnings.proofs.Tells.{capped-few, own-few, tells-is, tells-count, tells-sum, tells-most}

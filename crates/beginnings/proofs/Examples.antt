@@ -12,8 +12,7 @@ use Rattle.text_field.specs.Outcome.{Outcome, done, andThen, refuseIf}
 use Rattle.board.specs.Example.{exampleText}
 use Rattle.board.proofs.Example.{exampleCells, example-read}
 use Rattle.resolution.proofs.Marked.{answers}
-use Rattle.beginnings.specs.Count.{capped}
-use Rattle.beginnings.specs.Beginnings.{stepCut, cutBefore, beginnings, followedCount, countOf, countFor}
+use Rattle.beginnings.specs.Beginnings.{capped, stepCut, cutBefore, beginnings, followedCount, countOf, countFor}
 use Rattle.beginnings.specs.Promises.{ExampleCounts}
 
 example-counted : (i : ℕ) → countFor exampleText i ≡ countOf exampleCells i

@@ -11,7 +11,7 @@ use lib.Dec.{eqb}
 use lib.ListN.{getD, set, length-set, replicate, length-replicate, getD-replicate}
 use lib.Seq.{getD-set-same, getD-set-other, lt-length-set}
 use Rattle.scope_graph.proofs.Lists.{Two}
-use Rattle.beginnings.specs.Count.{MOST}
+use Rattle.beginnings.specs.Beginnings.{MOST}
 use Rattle.beginnings.specs.Steps.{SLOTS, VALUES, tagOf, Recalls, MemoRight}
 
 module _ (block near ask memo : List ℕ) (right : MemoRight block near ask memo) (at free s q : ℕ) (slot : at < SLOTS) (state : q < 16) where

@@ -23,7 +23,7 @@ use Rattle.follow.specs.Tally.{Taken}
 use Rattle.follow.specs.Walk.{placeRows, placesFrom, rowsFrom}
 use Rattle.follow.specs.Steps.{ownRows, hopRows, FollowedEdge, NextFollowed}
 use Rattle.follow.proofs.FollowLaws.{own-passed, own-place, rows-on, rest-enter, rest-last, rest-further}
-use Rattle.beginnings.specs.Count.{hopesIn}
+use Rattle.beginnings.specs.Tables.{hopesIn}
 use Rattle.beginnings.specs.Steps.{ALL_SCOPES, anyPlace, ownPlace, behind, behindEdges}
 
 -- where places are sought each gives one row

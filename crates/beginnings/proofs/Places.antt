@@ -32,9 +32,8 @@ use Rattle.board.proofs.Board.{hops-are, hopeful-are}
 use Rattle.board.proofs.Queries.{accepted, sound}
 use Rattle.resolution.specs.Asked.{Ready, queryIn}
 use Rattle.resolution.proofs.Given.{scopes-same, board-same, order-same}
-use Rattle.beginnings.specs.Count.{capped, hopesIn, pastEnds, placesBehind, InScopes}
-use Rattle.beginnings.specs.Beginnings.{cutBefore, beginnings, followedCount}
-use Rattle.beginnings.specs.Promises.{PlacesAre, CountIs, HopsInScopes}
+use Rattle.beginnings.specs.Tables.{hopesIn, pastEnds, placesBehind, InScopes}
+use Rattle.beginnings.specs.Beginnings.{capped, cutBefore, beginnings, followedCount}
 use Rattle.beginnings.proofs.StepCuts.{cut-past}
 
 module _ (cells block ask : List ℕ) (ready : Ready cells block ask) where
@@ -86,20 +85,21 @@ module _ (cells block ask : List ℕ) (ready : Ready cells block ask) where
       ∙ ap (λ (o : End Turned → End Turned → Bool). found (boardOf L g (q .name)) o (scopesCell block)) (order-same cells (ready .asked .read) block (ready .made))
       ∙ ap (λ (n : ℕ). found (boardOf L g (q .name)) (L .prefers) n) (scopes-same cells (ready .asked .read) block (ready .made))
 
-  places : placesBehind block (askGoal ask) (scopesCell block) (freeAt (askStart ask)) (askStart ask) 0 ≡ beginnings L g q
+  -- the places that the search finds from the query's start on are the beginnings
+  pub places : placesBehind block (askGoal ask) (scopesCell block) (freeAt (askStart ask)) (askStart ask) 0 ≡ beginnings L g q
   unfolding placesBehind freeAt beginnings graphOf
   places =
       found-same
       ∙ hits-kept L laws g q range (ready .asked .starts) (λ s. ltb s 64) all-free hopeful pastEnds
       ∙ keep-same _ _ (nodes L g q) (λ n m. kept-same n)
 
-  hop-inside : InScopes block
+  -- what counting over the block asks for besides
+  pub in-scopes : InScopes block
   unfolding graphOf
-  hop-inside s h m =
+  in-scopes s h m =
       let edge = hopsAt-elim L (g .edges) s (rw (hops-are cells block (sound cells (ready .asked .read)) (ready .made) s) at m) in
       rw (scopes-same cells (ready .asked .read) block (ready .made)) (range .to-scope _ edge)
 
-  -- what counting over the block asks for besides
   pub starts-inside : askStart ask < scopesCell block
   starts-inside = rw (scopes-same cells (ready .asked .read) block (ready .made)) (ready .asked .starts)
 
@@ -111,12 +111,3 @@ module _ (cells block ask : List ℕ) (ready : Ready cells block ask) where
       → capped (length (placesBehind block (askGoal ask) (scopesCell block) (freeAt (askStart ask)) (askStart ask) 0)) ≡ followedCount cells i
   unfolding followedCount
   count-of i e = ap (λ (l : List (NodeOf Turned)). capped (length l)) (places ∙ ap (beginnings L g) e)
-
-pub places-are : PlacesAre
-places-are = places
-
-pub count-is : CountIs
-count-is cells block ask ready = ap (λ (l : List (NodeOf Turned)). length l) (places cells block ask ready)
-
-pub in-scopes : HopsInScopes
-in-scopes = hop-inside

@@ -1,7 +1,6 @@
 -- The values of specs/Promises. Assumes nothing.
 use Rattle.beginnings.specs.Promises.{Promises}
 use Rattle.beginnings.proofs.Listed.{beginnings-are, each-once, few}
-use Rattle.beginnings.proofs.Places.{places-are, count-is, in-scopes}
 use Rattle.beginnings.proofs.Texts.{capped-is, counted-right, count-refused}
 use Rattle.beginnings.proofs.Calls.{followed-is}
 use Rattle.beginnings.proofs.Examples.{example-counts}
@@ -12,9 +11,6 @@ promises = record {
   beginnings-are = beginnings-are;
   each-once = each-once;
   few = few;
-  places-are = places-are;
-  count-is = count-is;
-  in-scopes = in-scopes;
   counted-right = counted-right;
   count-refused = count-refused;
   followed-is = followed-is;

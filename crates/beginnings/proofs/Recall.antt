@@ -12,7 +12,8 @@ use Rattle.block.specs.Ask.{askGoal}
 use Rattle.search.specs.Tables.{plainEnd, tableOrder, tableBoard}
 use Rattle.search.proofs.CutEnds.{cut-past}
 use Rattle.follow.specs.Walk.{placesFrom}
-use Rattle.beginnings.specs.Count.{capped, hopesIn}
+use Rattle.beginnings.specs.Beginnings.{capped}
+use Rattle.beginnings.specs.Tables.{hopesIn}
 use Rattle.beginnings.specs.Steps.{ALL_SCOPES, Few, Covers, Flooded, Uncut, Tells, behind, Recalls}
 use Rattle.beginnings.proofs.Few.{few-less}
 use Rattle.beginnings.proofs.Narrow.{Enclosed, enclosed-same, narrow-hits}

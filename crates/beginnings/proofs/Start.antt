@@ -32,7 +32,7 @@ use Rattle.search.proofs.Closed.{closed-less}
 use Rattle.search.proofs.Leads.{Taken, taken-is}
 use Rattle.search.proofs.RulesLists.{flatMap-same}
 use Rattle.follow.specs.Walk.{placesFrom}
-use Rattle.beginnings.specs.Count.{hopesIn, pastEnds, placesBehind, InScopes}
+use Rattle.beginnings.specs.Tables.{hopesIn, pastEnds, placesBehind, InScopes}
 use Rattle.beginnings.specs.Steps.{ALL_SCOPES, Few, behind}
 use Rattle.beginnings.proofs.Few.{few-below}
 use Rattle.beginnings.proofs.Narrow.{Enclosed}

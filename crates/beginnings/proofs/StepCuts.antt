@@ -34,7 +34,7 @@ module _ (L : Language) (laws : Laws L) where
   sound [] (k ∷ p) t = record { shared = []; hop = k; p-rest = p; r-rest = []; p-is = refl; r-is = refl; preferred = t }
   sound (h ∷ r) (k ∷ p) t =
       ⊎-elim (λ z. record { shared = []; hop = k; p-rest = p; r-rest = h ∷ r; p-is = refl; r-is = refl; preferred = z })
-      (λ z. further ((same-hop L laws h k) .0 (and-left _ _ z)) (sound r p (and-right (sameHop L h k) _ z)))
+      (λ z. further ((same-hop L laws h k) .0 (and-left _ _ z)) (sound r p (and-right (sameHop (L .same-step) h k) _ z)))
       (or-cases (L .prefers (by (h .step)) (by (k .step))) _ t)
 
   along : (shared : List (Hop L)) (hop : Hop L) (p r : List (Hop L)) → L .prefers (onward L r) (by (hop .step)) ≡ true
@@ -58,7 +58,7 @@ module _ (L : Language) (laws : Laws L) where
       preferred-past (h ∷ r) [] = past _
       preferred-past [] (k ∷ p) = refl
       preferred-past (h ∷ r) (k ∷ p) =
-          ap (λ (b : Bool). L .prefers (by (h .step)) (by (k .step)) || sameHop L h k && b) (preferred-past r p)
+          ap (λ (b : Bool). L .prefers (by (h .step)) (by (k .step)) || sameHop (L .same-step) h k && b) (preferred-past r p)
 
       pub cut-past : (p : List (Hop L)) → cut L g q p e ≡ cutBefore L g q p
       unfolding cut cutBefore

@@ -23,7 +23,8 @@ use Rattle.follow.specs.Tally.{Taken, State, none, noted, isSeveral, isDone, ta
 use Rattle.follow.specs.Walk.{placeRow, placeRows, placesFrom, rowsFrom, walked}
 use Rattle.follow.proofs.TakeLaws.{more-on, more-off, noted-same, done-over, done-seen, take-entries, take-seen}
 use Rattle.follow.proofs.TallyLaws.{rows-done}
-use Rattle.beginnings.specs.Count.{capped, hopesIn, placesBehind}
+use Rattle.beginnings.specs.Beginnings.{capped}
+use Rattle.beginnings.specs.Tables.{hopesIn, placesBehind}
 use Rattle.beginnings.specs.Steps.{ALL_SCOPES, ENOUGH, behind}
 use Rattle.beginnings.proofs.Tells.{capped-few}
 use Rattle.beginnings.proofs.Start.{behind-places}

@@ -10,7 +10,7 @@ use borrow.Author.Tests.{lt-ltb, le-ltb, ltb-true, ltb-false}
 use lib.Dec.{ltb}
 use Rattle.scope_graph.proofs.Lists.{Two}
 use Rattle.block.specs.Sets.{hasState}
-use Rattle.beginnings.specs.Count.{MOST, capped}
+use Rattle.beginnings.specs.Beginnings.{MOST, capped}
 use Rattle.beginnings.specs.Steps.{Tells, ownPlace}
 
 pub capped-few : (n : ℕ) → n < MOST → capped n ≡ n

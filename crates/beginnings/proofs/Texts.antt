@@ -26,8 +26,7 @@ use Rattle.graph_file.specs.Accepted.{AcceptedTable}
 use Rattle.graph_file.proofs.DecodeAccepted.{read-accepted}
 use Rattle.board.specs.Queries.{queryAt}
 use Rattle.board.proofs.Queries.{getD-in}
-use Rattle.beginnings.specs.Count.{MOST, capped}
-use Rattle.beginnings.specs.Beginnings.{OneEdge, beginnings, followedCount, countOf, countFor}
+use Rattle.beginnings.specs.Beginnings.{MOST, capped, OneEdge, beginnings, followedCount, countOf, countFor}
 use Rattle.beginnings.specs.Promises.{CappedIs, OneEdgeRow, stepsOf, RightCount, CountedRight, CountRefused}
 use Rattle.beginnings.proofs.Listed.{beginnings-are, each-once, few}
 

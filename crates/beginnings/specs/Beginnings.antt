@@ -5,7 +5,7 @@ use mathlib.Core.Path.{_≡_}
 use mathlib.Core.Bool.{Bool, true, false, not, _&&_, _||_}
 use mathlib.Core.Option.{some}
 use mathlib.Core.List.{List, [], _∷_, _++_}
-use lib.Dec.{leb}
+use lib.Dec.{leb, ltb}
 use lib.ListN.{length}
 use Rattle.scope_graph.specs.Language.{_∈_, stop, by, Language}
 use Rattle.scope_graph.specs.Graph.{Edge, Graph, Query}
@@ -16,7 +16,6 @@ use Rattle.text_field.specs.Outcome.{Outcome, done, andThen, refuseIf}
 use Rattle.graph_file.specs.File.{readCells}
 use Rattle.graph_file.specs.Decode.{rulesOf, graphOf, queriesOf}
 use Rattle.board.specs.Queries.{queryAt}
-use Rattle.beginnings.specs.Count.{capped}
 
 module _ (L : Language) where
   -- Somewhere along p, r has the same steps before and goes on by what is preferred to p's step
@@ -48,7 +47,7 @@ module _ (L : Language) where
   abbrev pub Occurs : ℕ → Type 0
   Occurs l = (q : ℕ) × (r : ℕ) × (L .next q l ≡ some r)
 
-  -- every scope has at most one edge whose label occurs in a transition
+  -- of the edges that leave a scope, the automaton knows the label of one at the most
   abbrev pub OneEdge : Graph L → Type 0
   OneEdge g = (e f : Edge L) → e ∈ g .edges → f ∈ g .edges → e .from ≡ f .from
       → Occurs (L .label (e .step)) → Occurs (L .label (f .step)) → e ≡ f
@@ -57,7 +56,7 @@ module _ (L : Language) where
   unfoldable pub stepCut : List (Hop L) → List (Hop L) → Bool
   stepCut r [] = false
   stepCut [] (k ∷ p) = L .prefers stop (by (k .step))
-  stepCut (h ∷ r) (k ∷ p) = L .prefers (by (h .step)) (by (k .step)) || sameHop L h k && stepCut r p
+  stepCut (h ∷ r) (k ∷ p) = L .prefers (by (h .step)) (by (k .step)) || sameHop (L .same-step) h k && stepCut r p
 
   module _ (g : Graph L) (q : Query L) where
     -- a reached path cuts a step of p
@@ -68,11 +67,18 @@ module _ (L : Language) where
     unfoldable pub beginnings : List (Node L)
     beginnings = keep (λ n. leadsOn L (L .states) (n .state) && not (cutBefore (n .hops))) (nodes L g q)
 
+-- no count is given above this
+abbrev pub MOST : ℕ
+MOST = 1000000000
+
+unfoldable pub capped : ℕ → ℕ
+capped n = elim (ltb n MOST) [ true ↦ n | false ↦ MOST ]
+
 -- the number that goes with query i of a graph table
 unfoldable pub followedCount : List ℕ → ℕ → ℕ
 followedCount cells i = capped (length (beginnings (language (rulesOf cells)) (graphOf cells) (queryAt cells i)))
 
--- 7 where there is no query i
+-- 7 if there is no query i
 unfoldable pub countOf : List ℕ → ℕ → Outcome ℕ
 countOf cells i = refuseIf (leb (length (queriesOf cells)) i) 7 (done (followedCount cells i))
 

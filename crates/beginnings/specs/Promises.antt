@@ -1,6 +1,6 @@
--- What is proved of the count of lawful beginnings (02, K11): by the rules, over the board's
--- tables, and over a text. These are the statements; their proofs are in proofs/Promises.antt.
--- Assumes nothing: these are definitions.
+-- What is proved of the count of lawful beginnings (02, K11): by the rules, and over a text. These
+-- are the statements; their proofs are in proofs/Promises.antt. Assumes nothing: these are
+-- definitions.
 use Prim.Native.Nat.{ℕ, _≤_, _<_}
 use mathlib.Core.Path.{_≡_}
 use mathlib.Core.Logic.{_↔_}
@@ -17,15 +17,10 @@ use Rattle.text_field.specs.Outcome.{refused, done}
 use Rattle.text_field.specs.Answer.{answer}
 use Rattle.graph_file.specs.File.{readCells}
 use Rattle.graph_file.specs.Decode.{rulesOf, graphOf, queriesOf, scopesOf}
-use Rattle.block.specs.Block.{scopesCell}
-use Rattle.block.specs.Ask.{askStart, askGoal}
-use Rattle.search.specs.Conditions.{freeAt}
 use Rattle.board.specs.Example.{exampleText}
 use Rattle.board.specs.Queries.{queryAt}
-use Rattle.resolution.specs.Asked.{Ready, queryIn}
 use Rattle.resolution.specs.Listing.{listingFor}
-use Rattle.beginnings.specs.Count.{capped, placesBehind, InScopes}
-use Rattle.beginnings.specs.Beginnings.{Beginning, OneEdge, beginnings, countFor}
+use Rattle.beginnings.specs.Beginnings.{Beginning, OneEdge, beginnings, capped, countFor}
 use Rattle.beginnings.specs.Counted.{followedLeaves}
 
 -- a count up to 999,999,999 is given as it is, and any above as 1,000,000,000
@@ -43,27 +38,11 @@ abbrev pub EachOnce : Type 1
 EachOnce = (L : Language) (g : Graph L) (opens : List (OpenPair L)) (q : Query L) → Accepted L g opens q
     → Pairwise (λ (m n : Node L). ¬ (m .hops ≡ n .hops)) (beginnings L g q)
 
--- where every scope has at most one edge whose label occurs in a transition, there are at most as
--- many as scopes
+-- the bound that K11 asks for: if the automaton can leave each scope by one edge only, there are no
+-- more beginnings than scopes
 abbrev pub FewWhereOneEdge : Type 1
 FewWhereOneEdge = (L : Language) (g : Graph L) (opens : List (OpenPair L)) (q : Query L) → Accepted L g opens q
     → OneEdge L g → length (beginnings L g q) ≤ g .scopes
-
--- over the block of a table that was read and the ask of a query: the places that the search finds
--- behind the query's start are the beginnings, so there are as many
-abbrev pub PlacesAre : Type 0
-PlacesAre = (cells block ask : List ℕ) → Ready cells block ask
-    → placesBehind block (askGoal ask) (scopesCell block) (freeAt (askStart ask)) (askStart ask) 0
-    ≡ beginnings (language (rulesOf cells)) (graphOf cells) (queryIn cells ask)
-
-abbrev pub CountIs : Type 0
-CountIs = (cells block ask : List ℕ) → Ready cells block ask
-    → length (placesBehind block (askGoal ask) (scopesCell block) (freeAt (askStart ask)) (askStart ask) 0)
-    ≡ length (beginnings (language (rulesOf cells)) (graphOf cells) (queryIn cells ask))
-
--- and its hops lead to scopes of the file
-abbrev pub HopsInScopes : Type 0
-HopsInScopes = (cells block ask : List ℕ) → Ready cells block ask → InScopes block
 
 -- in a table: of two edges of one scope whose labels both stand in transition rows, one is the
 -- other
@@ -112,9 +91,6 @@ pub record Promises : Type 1 where
   pub beginnings-are : BeginningsAre
   pub each-once : EachOnce
   pub few : FewWhereOneEdge
-  pub places-are : PlacesAre
-  pub count-is : CountIs
-  pub in-scopes : HopsInScopes
   pub counted-right : CountedRight
   pub count-refused : CountRefused
   pub followed-is : FollowedIs

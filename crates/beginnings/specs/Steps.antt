@@ -19,7 +19,8 @@ use Rattle.follow.specs.declared.Aim.{Aim}
 use Rattle.follow.specs.declared.Task.the-variants.{Place}
 use Rattle.follow.specs.Walk.{placesFrom}
 use Rattle.follow.specs.Steps.{hopRows}
-use Rattle.beginnings.specs.Count.{MOST, capped, hopesIn}
+use Rattle.beginnings.specs.Beginnings.{MOST, capped}
+use Rattle.beginnings.specs.Tables.{hopesIn}
 
 -- a walk over places one by one ends at this many
 abbrev pub ENOUGH : ℕ

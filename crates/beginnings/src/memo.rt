@@ -5,7 +5,7 @@ ghost use mathlib.Core.Path.{_≡_};
 ghost use mathlib.Core.List.{List};
 ghost use Prim.Native.Nat.{ℕ, _*_, _≤_, _<_};
 ghost use lib.ListN.{length};
-ghost use Rattle.beginnings.specs.Count.{MOST};
+ghost use Rattle.beginnings.specs.Beginnings.{MOST};
 ghost use Rattle.beginnings.specs.Steps.{SLOTS, tagOf, Recalls, MemoRight};
 
 // Slots, of which the memo has two cells each: half a megabyte in all.

@@ -24,7 +24,8 @@ ghost use Rattle.block.specs.Block.{Bounds};
 ghost use Rattle.block.specs.Ask.{IsAsk, askGoal};
 ghost use Rattle.search.specs.Conditions.{Inside, LiveAt, WorthAt, Known};
 ghost use Rattle.follow.specs.Steps.{FollowedEdge};
-ghost use Rattle.beginnings.specs.Count.{MOST, capped, hopesIn};
+ghost use Rattle.beginnings.specs.Beginnings.{MOST, capped};
+ghost use Rattle.beginnings.specs.Tables.{hopesIn};
 ghost use Rattle.beginnings.specs.Steps.{ALL_SCOPES, Few, Tells, ownPlace, behind, behindEdges, MemoRight};
 
 // A place counts itself if its state can still lead to acceptance.

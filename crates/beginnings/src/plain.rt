@@ -13,7 +13,7 @@ ghost use Rattle.block.specs.Layout.{IsBlock};
 ghost use Rattle.block.specs.Block.{Bounds as BlockBounds, scopesCell};
 ghost use Rattle.block.specs.Ask.{IsAsk, askStart, askGoal};
 ghost use Rattle.search.specs.Conditions.{freeAt, LiveAt, WorthAt};
-ghost use Rattle.beginnings.specs.Count.{hopesIn, placesBehind};
+ghost use Rattle.beginnings.specs.Tables.{hopesIn, placesBehind};
 ghost use Rattle.beginnings.specs.Steps.{ALL_SCOPES, ENOUGH};
 
 // The walk ends at this many places. By then it took about as long as a memo takes to be cleared.

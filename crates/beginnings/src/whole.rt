@@ -28,7 +28,8 @@ ghost use Rattle.block.specs.Sets.{hasScope};
 ghost use Rattle.block.specs.Block.{Bounds, scopesCell};
 ghost use Rattle.block.specs.Ask.{IsAsk, askStart, askGoal};
 ghost use Rattle.search.specs.Conditions.{freeAt, Inside, LiveAt, WorthAt};
-ghost use Rattle.beginnings.specs.Count.{MOST, capped, hopesIn, placesBehind, InScopes};
+ghost use Rattle.beginnings.specs.Beginnings.{MOST, capped};
+ghost use Rattle.beginnings.specs.Tables.{hopesIn, placesBehind, InScopes};
 ghost use Rattle.beginnings.specs.Steps.{ALL_SCOPES, Few, Uncut, Tells, behind};
 
 // The scopes below n, as a set.

@@ -4,7 +4,7 @@ use mathlib.Core.Path.{_≡_, refl, sym, ap, _∙_}
 use mathlib.Core.Logic.{⊎-elim}
 use mathlib.Core.Bool.{Bool, true, false, _&&_}
 use mathlib.Core.Option.{some, none}
-use mathlib.Core.List.{List, List·Memᴰ·cases-cons, List·Memᴰ·not-nil}
+use mathlib.Core.List.{List, [], _∷_, _++_, List·Memᴰ·cases-cons, List·Memᴰ·not-nil}
 use Prim.Native.Nat.{ℕ, zero, suc, _+_, _-_, _≤_, _<_}
 use native.Mathlib.Omega.{arith}
 use native.Mathlib.Numerals.{add-one}
@@ -14,7 +14,7 @@ use Rattle.scope_graph.specs.Language.{_∈_, by}
 use Rattle.scope_graph.specs.Path.{HopOf}
 use Rattle.scope_graph.specs.Turns.{Turned, later, laterStep, turnBy}
 use Rattle.scope_graph.proofs.Lists.{and-left, and-right, here, there}
-use Rattle.block.specs.Block.{firstEdge, edgeCell, labelOf, turnOf, hopOf, hopsFrom, hopsOn, blockHops, EdgeTo}
+use Rattle.block.specs.Block.{firstEdge, edgeCell, labelOf, turnOf, hopOf, hopsFrom, hopsOn, blockHops, edgeAmong, edgeOn, goes, edgeTo}
 use Rattle.block.proofs.BlockLaws.{on-none, on-more, blockHops-in, hops-scope}
 
 -- an edge of the scope is one of its hops
@@ -56,52 +56,107 @@ hop-turned block s h m =
     let e = edge-of block s h m in
     (turnOf (edgeCell block (e .number)), ap (λ (k : HopOf Turned). k .step .turn) (e .is))
 
--- does the hop go by the label to the scope?
-abbrev pub goes : ℕ → ℕ → HopOf Turned → Bool
-goes l t h = eqb (h .step .label) l && eqb (h .to) t
+-- the first edge of the scope, from number p on, whose hop passes a test
+module _ (block : List ℕ) (test : HopOf Turned → Bool) (s p : ℕ) where
+  pub edge-past : firstEdge block (suc s) ≤ p → p ≡ edgeOn block test s p
+  unfolding edgeOn edgeAmong
+  edge-past h = let none : firstEdge block (suc s) - p ≡ 0 = omega arith in rw none
 
--- the turn looked up from edge p on
-module _ (block : List ℕ) (s l t p : ℕ) where
-  look-none : firstEdge block (suc s) ≤ p → turnBy (hopsOn block s p) l t ≡ none
-  unfolding turnBy
-  look-none h = rw (on-none block s p h)
+  pub edge-here : p < firstEdge block (suc s) → test (hopOf (edgeCell block p)) ≡ true → p ≡ edgeOn block test s p
+  unfolding edgeOn edgeAmong
+  edge-here h e = let one : firstEdge block (suc s) - p ≡ suc (firstEdge block (suc s) - suc p) = omega arith in rw (one, edgeAmong, e)
 
-  look-here : p < firstEdge block (suc s) → goes l t (hopOf (edgeCell block p)) ≡ true
-      → turnBy (hopsOn block s p) l t ≡ hopOf (edgeCell block p) .step .turn
-  unfolding turnBy
-  look-here h e = rw (on-more block s p h, turnBy, e)
+  pub edge-more : p < firstEdge block (suc s) → test (hopOf (edgeCell block p)) ≡ false → edgeOn block test s p ≡ edgeOn block test s (p + 1)
+  unfolding edgeOn edgeAmong
+  edge-more h e =
+      let one : firstEdge block (suc s) - p ≡ suc (firstEdge block (suc s) - suc p) = omega arith in
+      rw (one, edgeAmong, e, add-one p)
 
-  pub look-more : p < firstEdge block (suc s) → goes l t (hopOf (edgeCell block p)) ≡ false
-      → turnBy (hopsOn block s p) l t ≡ turnBy (hopsOn block s (p + 1)) l t
-  unfolding turnBy
-  look-more h e = rw (on-more block s p h, turnBy, e, add-one p)
+-- Edge number r is the first that passes: those from p on up to it do not, and r does unless it is
+-- past the scope's edges.
+pub record FirstEdge (block : List ℕ) (test : HopOf Turned → Bool) (s p r : ℕ) : Type 0 where
+  pub on : p ≤ r
+  pub skipped : List (HopOf Turned)
+  pub split : hopsOn block s p ≡ skipped ++ hopsOn block s r
+  pub failed : (h : HopOf Turned) → h ∈ skipped → test h ≡ false
+  pub passes : r < firstEdge block (suc s) → test (hopOf (edgeCell block r)) ≡ true
 
-  -- it is that of all the scope's hops where those before p go elsewhere
-  module _ (same : turnBy (blockHops block s) l t ≡ turnBy (hopsOn block s p) l t) where
-    pub edge-found : s < 64 → firstEdge block s ≤ p → p < firstEdge block (suc s) → goes l t (hopOf (edgeCell block p)) ≡ true
-        → EdgeTo block s l t p
-    edge-found inside from before e = record {
-      leaves = λ h. hop-of-scope block s p inside from before;
-      is = λ h.
-          let label-is = eqb-true (hopOf (edgeCell block p) .step .label) l (and-left _ _ e) in
-          let to-is = eqb-true (hopOf (edgeCell block p) .to) t (and-right (eqb (hopOf (edgeCell block p) .step .label) l) _ e) in
-          let turn-is = sym (same ∙ look-here before e) in
-          λ i. record { step = record { label = label-is i; turn = turn-is i }; to = to-is i };
-      none-is = λ h. absurd (omega arith);
+first-among : (block : List ℕ) (test : HopOf Turned → Bool) (s n p : ℕ) → n ≡ firstEdge block (suc s) - p → FirstEdge block test s p (edgeAmong block test p n)
+unfolding edgeAmong
+first-among block test s zero p left = record {
+  on = omega arith;
+  skipped = [];
+  split = refl;
+  failed = λ h m. absurd (List·Memᴰ·not-nil m);
+  passes = λ k. absurd (omega arith);
+}
+first-among block test s (suc n) p left =
+    at (edgeAmong block test (suc p) n) (first-among block test s n (suc p) (omega arith)) (test (hopOf (edgeCell block p))) refl
+  where
+    at : (rest : ℕ) → FirstEdge block test s (suc p) rest → (b : Bool) → test (hopOf (edgeCell block p)) ≡ b
+        → FirstEdge block test s p (elim b [ true ↦ p | false ↦ rest ])
+    at rest more true e = record {
+      on = omega arith;
+      skipped = [];
+      split = refl;
+      failed = λ h m. absurd (List·Memᴰ·not-nil m);
+      passes = λ k. e;
+    }
+    at rest more false e = record {
+      on = omega (arith, more .on);
+      skipped = hopOf (edgeCell block p) ∷ more .skipped;
+      split = on-more block s p (omega arith) ∙ rw (more .split);
+      failed = λ h m. ⊎-elim (λ f. rw f e) (more .failed h) (List·Memᴰ·cases-cons m);
+      passes = more .passes;
     }
 
-    pub edge-none : (end : ℕ) → end ≡ firstEdge block (suc s) → end ≤ p → EdgeTo block s l t end
-    edge-none end is past = record {
-      leaves = λ h. absurd (omega arith);
-      is = λ h. absurd (omega arith);
-      none-is = λ h. same ∙ look-none (omega arith);
-    }
+pub first-edge : (block : List ℕ) (test : HopOf Turned → Bool) (s p r : ℕ) → r ≡ edgeOn block test s p → FirstEdge block test s p r
+unfolding edgeOn
+first-edge block test s p r e = rw e (first-among block test s (firstEdge block (suc s) - p) p refl)
 
--- the turn of an edge that was found
-pub edge-turn : (block : List ℕ) (s l t r : ℕ) → EdgeTo block s l t r → r < firstEdge block (suc s)
-    → turnBy (blockHops block s) l t ≡ some (turnOf (edgeCell block r))
-unfolding hopOf
-edge-turn block s l t r e h = sym (ap (λ (k : HopOf Turned). k .step .turn) (e .is h))
+-- the turn looked up behind hops that go elsewhere
+turn-behind : (l t : ℕ) (xs ys : List (HopOf Turned)) → ((h : HopOf Turned) → h ∈ xs → goes l t h ≡ false)
+    → turnBy (xs ++ ys) l t ≡ turnBy ys l t
+unfolding turnBy
+turn-behind l t [] ys other = refl
+turn-behind l t (x ∷ xs) ys other = rw (other x here, turnBy) (turn-behind l t xs ys (λ h m. other h (there m)))
+
+-- Edge number r leaves the scope by the label to the scope `to`, and has the turn that comparing
+-- looks up; or it is past the scope's edges, where there is none.
+pub record EdgeTo (block : List ℕ) (s label to r : ℕ) : Type 0 where
+  pub leaves : r < firstEdge block (suc s) → hopOf (edgeCell block r) ∈ blockHops block s
+  pub is : r < firstEdge block (suc s)
+      → hopOf (edgeCell block r) ≡ record { step = record { label = label; turn = turnBy (blockHops block s) label to }; to = to }
+  pub none-is : firstEdge block (suc s) ≤ r → turnBy (blockHops block s) label to ≡ none
+
+module _ (block : List ℕ) (s l t r : ℕ) (inside : s < 64) (told : r ≡ edgeTo block s l t) where
+  abbrev first : FirstEdge block (goes l t) s (firstEdge block s) r
+  first = first-edge block (goes l t) s (firstEdge block s) r (unfold edgeTo in told)
+
+  -- the turn looked up among the scope's hops is the one looked up from edge r on
+  on-from : turnBy (blockHops block s) l t ≡ turnBy (hopsOn block s r) l t
+  on-from =
+      ap (λ (hs : List (HopOf Turned)). turnBy hs l t) (blockHops-in block s inside ∙ first .split)
+      ∙ turn-behind l t (first .skipped) (hopsOn block s r) (first .failed)
+
+  pub edge-told : EdgeTo block s l t r
+  edge-told = record {
+    leaves = λ h. hop-of-scope block s r inside (first .on) h;
+    is = λ h.
+        let e = first .passes h in
+        let label-is = eqb-true (hopOf (edgeCell block r) .step .label) l (and-left _ _ e) in
+        let to-is = eqb-true (hopOf (edgeCell block r) .to) t (and-right (eqb (hopOf (edgeCell block r) .step .label) l) _ e) in
+        let turn-is = sym (on-from ∙ look-here h e) in
+        λ i. record { step = record { label = label-is i; turn = turn-is i }; to = to-is i };
+    none-is = λ h. on-from ∙ look-none h;
+  }
+    where
+      look-here : r < firstEdge block (suc s) → goes l t (hopOf (edgeCell block r)) ≡ true
+          → turnBy (hopsOn block s r) l t ≡ hopOf (edgeCell block r) .step .turn
+      look-here h e = unfold turnBy in rw (on-more block s r h, turnBy, e)
+
+      look-none : firstEdge block (suc s) ≤ r → turnBy (hopsOn block s r) l t ≡ none
+      look-none h = unfold turnBy in rw (on-none block s r h)
 
 -- the later of two edges: by their turns if they have one label, else neither
 module _ (x y : ℕ) where

@@ -5,11 +5,10 @@ use mathlib.Core.Path.{_≡_}
 use mathlib.Core.Bool.{Bool, true, false, _&&_}
 use mathlib.Core.Option.{Option, some, none}
 use mathlib.Core.List.{List, [], _∷_}
-use lib.Dec.{ltb}
+use lib.Dec.{eqb, ltb}
 use lib.ListN.{getD, take, drop}
-use Rattle.scope_graph.specs.Language.{_∈_}
 use Rattle.scope_graph.specs.Path.{HopOf}
-use Rattle.scope_graph.specs.Turns.{Turned, turnBy}
+use Rattle.scope_graph.specs.Turns.{Turned}
 use Rattle.block.specs.Sets.{hasBit}
 use Rattle.block.specs.Layout.{DELTA, BETTER, ACCEPT, SCOPES, USABLE, LETTER, FIRST, EDGE, DECL, STATES, TURN}
 
@@ -100,14 +99,24 @@ hopsOn block s p = hopsFrom block p (firstEdge block (suc s) - p)
 unfoldable pub blockHops : List ℕ → ℕ → List (HopOf Turned)
 blockHops block s = elim (ltb s 64) [ true ↦ hopsOn block s (firstEdge block s) | false ↦ [] ]
 
--- Edge number r leaves the scope by the label to the scope `to`, and has the turn that comparing
--- looks up (02, K12), which is the first such edge's; or it is a number past the scope's edges
--- where there is none.
-pub record EdgeTo (block : List ℕ) (s label to r : ℕ) : Type 0 where
-  pub leaves : r < firstEdge block (suc s) → hopOf (edgeCell block r) ∈ blockHops block s
-  pub is : r < firstEdge block (suc s)
-      → hopOf (edgeCell block r) ≡ record { step = record { label = label; turn = turnBy (blockHops block s) label to }; to = to }
-  pub none-is : firstEdge block (suc s) ≤ r → turnBy (blockHops block s) label to ≡ none
+-- of n edges from number p on, the number of the first whose hop passes the test; p + n if none does
+unfoldable pub edgeAmong : List ℕ → (HopOf Turned → Bool) → ℕ → ℕ → ℕ
+edgeAmong block test p zero = p
+edgeAmong block test p (suc n) = elim (test (hopOf (edgeCell block p))) [ true ↦ p | false ↦ edgeAmong block test (suc p) n ]
+
+-- The same of the scope's edges from number p on. If none passes, it is the number behind the
+-- scope's last edge; or p itself, if p is behind that already.
+unfoldable pub edgeOn : List ℕ → (HopOf Turned → Bool) → ℕ → ℕ → ℕ
+edgeOn block test s p = edgeAmong block test p (firstEdge block (suc s) - p)
+
+-- does the hop go by the label to the scope?
+abbrev pub goes : ℕ → ℕ → HopOf Turned → Bool
+goes label to h = eqb (h .step .label) label && eqb (h .to) to
+
+-- The number of the first edge that leaves scope s by the label to the scope `to`; the one behind
+-- the scope's last edge if there is none. Its turn is the one that comparing looks up (02, K12).
+unfoldable pub edgeTo : List ℕ → ℕ → ℕ → ℕ → ℕ
+edgeTo block s label to = edgeOn block (goes label to) s (firstEdge block s)
 
 -- where a scope's declarations start in the graph table, and the part of the table that they are
 unfoldable pub firstDeclaration : List ℕ → ℕ → ℕ

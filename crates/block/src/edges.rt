@@ -7,13 +7,11 @@ use crate::parts::edge_label;
 use crate::parts::edge_scope;
 use crate::parts::edge_turn;
 ghost use mathlib.Core.Path.{_≡_};
-ghost use mathlib.Core.Bool.{_&&_};
 ghost use Prim.Native.Nat.{_<_};
-ghost use lib.Dec.{eqb};
 ghost use Rattle.scope_graph.specs.Language.{by};
 ghost use Rattle.scope_graph.specs.Turns.{laterStep};
 ghost use Rattle.block.specs.Layout.{IsBlock};
-ghost use Rattle.block.specs.Block.{turnCell, hopOf, EdgeTo};
+ghost use Rattle.block.specs.Block.{turnCell, hopOf, goes, edgeTo};
 
 // No edge's turn is above this one.
 pub fn most_turn(block: &[u64]) -> u64
@@ -35,7 +33,7 @@ pub fn is_later(x: u64, y: u64) -> bool
 
 // Does the edge go by the label to the scope?
 fn is_edge(x: u64, label: u64, to: u64) -> bool
-    ensures answer { λ r. ⌜ r ≡ (eqb (hopOf x .step .label) label && eqb (hopOf x .to) to) ⌝ }
+    ensures answer { λ r. ⌜ r ≡ goes label to (hopOf x) ⌝ }
 {
     if edge_label(x) != label {
         return false;
@@ -43,12 +41,12 @@ fn is_edge(x: u64, label: u64, to: u64) -> bool
     edge_scope(x) == to
 }
 
-// The number of the first edge that leaves scope s by the label to the scope; past the scope's
-// edges where there is none.
+// The number of the first edge that leaves scope s by the label to the scope; if there is none, the
+// number behind the scope's last edge.
 pub fn edge_to(block: &[u64], s: u64, label: u64, to: u64) -> u64
     requires block { ⌜ IsBlock (now block) ⌝ }
     requires scope { ⌜ s < 64 ⌝ }
-    ensures answer { λ r. ⌜ EdgeTo (now (block .entry)) s label to r ⌝ }
+    ensures answer { λ r. ⌜ r ≡ edgeTo (now (block .entry)) s label to ⌝ }
 {
     let end = edges_end(block, s);
     let mut p = edges_from(block, s);
@@ -58,5 +56,5 @@ pub fn edge_to(block: &[u64], s: u64, label: u64, to: u64) -> u64
         }
         p += 1;
     }
-    end
+    p
 }

@@ -13,7 +13,7 @@ use Rattle.graph_file.specs.Format.{edges, declarations, sections, sectionAt, e
 use Rattle.graph_file.specs.Admission.{Row, value}
 use Rattle.graph_file.specs.Decode.{rowsIn}
 use Rattle.graph_file.proofs.DecodeWay.{AdmittedTable}
-use Rattle.graph_file.proofs.DecodeRows.{KeyBefore}
+use Rattle.graph_file.proofs.KeyLaws.{KeyBefore}
 use Rattle.graph_file.proofs.DecodeTable.{table-ascends}
 use Rattle.graph_table.specs.Rows.{RowsAscend}
 use Rattle.graph_table.specs.Sections.{partOf, rowsOf, SectionsAscend}

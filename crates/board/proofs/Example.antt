@@ -7,7 +7,7 @@ use Rattle.text_field.specs.Number.{growing, digitsFrom, numberHere, numberMean
 use Rattle.text_field.specs.Name.{packed, packHigh, packLow, nameRun, nameOf, nameHere, nameMeaning}
 use Rattle.graph_file.specs.Format.{labels, pairs, transitions, accepts, scopeCount, edges, declarations, openPairs, queries, sections, sectionAt, hasKinds, hasTurns, edgeShape, declarationShape, queryShape, shapesOf, shapeAt, everyItem}
 use Rattle.text_field.specs.Outcome.{done, andThen, refuseIf}
-use Rattle.graph_file.specs.Admission.{nothing, begun, joined, counted, taken, contentInRange, itemInRange, inRange, keyLess, listed, ascends, sameSource, standsAbove, repeats, follows, unless, admission}
+use Rattle.graph_file.specs.Admission.{nothing, begun, joined, counted, taken, contentInRange, itemInRange, inRange, keyLess, listed, ascends, sameSource, sameEdge, repeats, follows, unless, admission}
 use Rattle.graph_file.specs.Line.{numberTaken, nameTaken, byteTaken, place, endTaken, readField, startsWith, readItem, placeOf, readItems}
 use Rattle.graph_file.specs.Order.{someRow, sameEnds, gap, pairFault, orderFault}
 use Rattle.graph_file.specs.File.{ifAdmitted, afterRow, oneRow, throughRows, afterNames, enough, throughSection, isEmpty, throughSections, ordered, atStart, whole, readNames, rowFollows, readRow, reading, throughSome, formShown, formAfter, turnsIn, kindsIn, formWith, formOf, readStage, madeOf, readCells}
@@ -15,7 +15,7 @@ use Rattle.board.specs.Example.{exampleText}
 
 -- what reading a text computes with: named alone on an `unfolding` line
 unfoldable pub reads : Unit {0}
-unfolding labels pairs transitions accepts scopeCount edges declarations openPairs queries sections sectionAt hasKinds hasTurns edgeShape declarationShape queryShape shapesOf shapeAt andThen refuseIf nothing begun joined counted taken everyItem contentInRange itemInRange inRange keyLess listed ascends sameSource standsAbove repeats follows unless admission someRow sameEnds gap pairFault orderFault ifAdmitted afterRow oneRow throughRows afterNames enough throughSection isEmpty throughSections ordered atStart whole madeOf within isDigit isCapital isLower isNameByte numberTaken numberMeaning nameTaken nameMeaning byteTaken place endTaken readField startsWith readItem placeOf readItems growing digitsFrom numberHere packed packHigh packLow nameRun nameOf nameHere readNames rowFollows readRow reading throughSome formShown formAfter turnsIn kindsIn formWith formOf readStage readCells
+unfolding labels pairs transitions accepts scopeCount edges declarations openPairs queries sections sectionAt hasKinds hasTurns edgeShape declarationShape queryShape shapesOf shapeAt andThen refuseIf nothing begun joined counted taken everyItem contentInRange itemInRange inRange keyLess listed ascends sameSource sameEdge repeats follows unless admission someRow sameEnds gap pairFault orderFault ifAdmitted afterRow oneRow throughRows afterNames enough throughSection isEmpty throughSections ordered atStart whole madeOf within isDigit isCapital isLower isNameByte numberTaken numberMeaning nameTaken nameMeaning byteTaken place endTaken readField startsWith readItem placeOf readItems growing digitsFrom numberHere packed packHigh packLow nameRun nameOf nameHere readNames rowFollows readRow reading throughSome formShown formAfter turnsIn kindsIn formWith formOf readStage readCells
 reads = tt
 
 abbrev pub exampleCells : List ℕ

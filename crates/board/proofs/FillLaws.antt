@@ -15,7 +15,7 @@ use Rattle.block.specs.Sets.{hasBit, hasState}
 use Rattle.block.specs.Layout.{DELTA, BETTER, ACCEPT, SCOPES, USABLE, LETTER, START, FIRST, EDGE, DECL, STATES, TURN, HINT, SIZE, IsBlock}
 use Rattle.block.specs.Block.{nextCell, statesCell, turnCell, turnOf, acceptSet, usableSet, letterCell, scopesCell, firstEdge, edgeCell, blockHops, firstDeclaration}
 use Rattle.block.proofs.BlockLaws.{getD-any, next-in, next-no-state, next-no-label, blockHops-in}
-use Rattle.graph_table.specs.Sections.{startOf, startCell, partOf}
+use Rattle.graph_table.specs.Sections.{startOf, partOf}
 use Rattle.board.specs.Tables.{tabulate, stateCell, transitionCell, transitionCells, accepted, letterOf, BetterIs, hopefulSet, usableStates}
 use Rattle.board.specs.Cells.{puts, HintsOnly}
 use Rattle.board.specs.Edges.{placed, EdgesPut}
@@ -224,11 +224,10 @@ graph-put cells old c1 c2 at declared turn size at-is e1 edges declared-are =
     }
 
 -- the table of the places is that
-pub starts-are : (cells at : List ℕ) → at ≡ tabulate (startCell cells) 10 → Starts cells at
-unfolding startCell
+pub starts-are : (cells at : List ℕ) → at ≡ tabulate (λ k. startOf k cells) 10 → Starts cells at
 starts-are cells at e = record {
-  size = ap length e ∙ tabulate-length (startCell cells) 10;
-  places = λ k h. ap (λ (x : List ℕ). getD x k 0) e ∙ tabulate-at (startCell cells) 10 k 0 h;
+  size = ap length e ∙ tabulate-length (λ k. startOf k cells) 10;
+  places = λ k h. ap (λ (x : List ℕ). getD x k 0) e ∙ tabulate-at (λ k. startOf k cells) 10 k 0 h;
 }
 
 -- all of it, read through the graph's tables and the hints
@@ -271,7 +270,7 @@ module _ (cells a b d : List ℕ) (rules : RulesPut cells a) (graph : GraphPut c
   delta-are = fun-ext (λ q. fun-ext (λ l. delta-same q l))
 
   pub made : Made cells d
-  unfolding acceptSet usableSet letterCell scopesCell statesCell turnCell firstDeclaration startCell
+  unfolding acceptSet usableSet letterCell scopesCell statesCell turnCell firstDeclaration
   made = record {
     size = whole;
     delta = λ q l h k. delta-cell q l h k ∙ rows-delta q l h k;

@@ -16,7 +16,7 @@ use Rattle.graph_file.specs.File.{readCells}
 use Rattle.graph_file.specs.Decode.{rowsIn}
 use Rattle.graph_file.proofs.DecodeWritten.{read-admitted}
 use Rattle.graph_file.proofs.DecodeKinds.{sought-lower}
-use Rattle.graph_table.specs.Values.{rowQuery}
+use Rattle.graph_table.proofs.RowLaws.{rowQuery}
 
 module _ (text cells : List ℕ) (e : readCells text ≡ done cells) (row : Row) (m : row ∈ rowsIn querySection cells) where
   pub query-kinds : rowQuery row .name .kind < 256

@@ -7,6 +7,7 @@ use mathlib.Core.Option.{some}
 use mathlib.Core.List.{List, [], _∷_, map}
 use mathlib.Core.Logic.{_⊎_, inl, inr, ⊎-elim}
 use native.Mathlib.Omega.{arith}
+use native.Mathlib.Numerals.{add-one}
 use lib.Bits.{bitOr}
 use lib.Dec.{eqb, ltb}
 use lib.ListN.{length, getD, set, drop, replicate, length-set, length-replicate, getD-replicate}
@@ -14,6 +15,9 @@ use lib.Seq.{getD-set-same, getD-set-other}
 use borrow.Author.Tests.{lt-ltb, le-ltb, eq-eqb, ne-eqb, eqb-true, eqb-false}
 use Rattle.scope_graph.specs.Rows.{OrderPair, sameEnd, anyOf, preferredBy, nextBy}
 use Rattle.scope_graph.specs.Order.{endOf}
+use Rattle.scope_graph.specs.declared.Turn.{Turn}
+use Rattle.scope_graph.specs.declared.End.{End}
+use Rattle.scope_graph.specs.declared.End.the-variants.{Stop, Label}
 use Rattle.scope_graph.proofs.Lists.{Two, and-left, and-right, not-true}
 use Rattle.graph_file.specs.Admission.{Row, value, rowOf}
 use Rattle.graph_file.specs.Decode.{orderPairOf, transitionOf}
@@ -21,7 +25,8 @@ use Rattle.graph_file.proofs.RowLaws.{row-cells}
 use Rattle.block.specs.Sets.{hasBit, hasState}
 use Rattle.block.proofs.SetLaws.{bits-or, bits-none, bits-one, one-shifted, states-none, states-or, states-one}
 use Rattle.graph_table.specs.Sections.{rowsOf}
-use Rattle.board.specs.Tables.{tabulate, stateCell, transitionCell, transitionCells, transitionPlace, accepted, BetterIs}
+use Rattle.graph_table.specs.Values.{rowEnd}
+use Rattle.board.specs.Tables.{tabulate, stateCell, transitionCell, transitionCells, transitionPlace, accepted, endPlace, BetterIs}
 use Rattle.graph_table.proofs.Tests.{below-or, and-first, and-second, and-rest, and-true, or-false, or-then, flip}
 use Rattle.board.proofs.Fill.{tabulate-is}
 use Rattle.graph_table.proofs.Parts.{rows-next, rows-none}
@@ -116,6 +121,39 @@ better-none rows = record {
   size = length-replicate {A = ℕ} 9 0;
   each = λ a c h k. rw (getD-replicate {A = ℕ} 9 c 0 0 k, bits-none a);
 }
+
+-- the number of an end, by the end's cases
+module _ (e : End) where
+  pub end-stop : e ≡ Stop → 0 ≡ endPlace e
+  unfolding endPlace
+  end-stop is = rw is
+
+  module _ (l : ℕ) (t : Turn) (is : e ≡ Label l t) where
+    pub end-none : 8 ≤ l → 9 ≡ endPlace e
+    unfolding endPlace
+    end-none h = rw (is, le-ltb l 8 h, endPlace)
+
+    pub end-label : l < 8 → l + 1 ≡ endPlace e
+    unfolding endPlace
+    end-label h = rw (is, lt-ltb l 8 h, endPlace, add-one l)
+
+-- an end's number is its cell, if that is one of the nine; else it is past them
+end-in : (cell : ℕ) → cell < 9 → endPlace (rowEnd cell) ≡ cell
+unfolding rowEnd endPlace
+end-in zero h = refl
+end-in (suc n) h = rw (lt-ltb n 8 (omega arith), endPlace)
+
+end-out : (cell : ℕ) → 9 ≤ cell → endPlace (rowEnd cell) ≡ 9
+unfolding rowEnd endPlace
+end-out zero h = absurd (omega arith)
+end-out (suc n) h = rw (le-ltb n 8 (omega arith), endPlace)
+
+module _ (cell r : ℕ) (e : r ≡ endPlace (rowEnd cell)) where
+  pub end-past : 9 ≤ r → 9 ≤ cell
+  end-past h = ⊎-elim (λ k. absurd (omega (arith, end-in cell k))) (λ k. k) (below-or cell 9)
+
+  pub end-cell : r < 9 → r ≡ cell
+  end-cell h = ⊎-elim (λ k. e ∙ end-in cell k) (λ k. absurd (omega (arith, end-out cell k))) (below-or cell 9)
 
 module _ (rows : List ℕ) (p : ℕ) (t : List ℕ) (so : Better rows p t) where
   abbrev less : ℕ

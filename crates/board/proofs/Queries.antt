@@ -15,11 +15,11 @@ use Rattle.graph_file.specs.Accepted.{AcceptedTable}
 use Rattle.graph_file.proofs.DecodeAccepted.{read-accepted}
 use Rattle.graph_table.specs.declared.rows.QueryRow.{QueryRow}
 use Rattle.graph_table.specs.Sections.{partOf, rowsOf}
-use Rattle.graph_table.specs.Values.{queryRow, rowQuery}
+use Rattle.graph_table.specs.Values.{queryRow}
 use Rattle.board.specs.Queries.{queryAt, queryOn, Asked}
 use Rattle.board.specs.Promises.{Sound}
 use Rattle.graph_table.proofs.Parts.{rows-count, row-at}
-use Rattle.graph_table.proofs.RowLaws.{query-cells}
+use Rattle.graph_table.proofs.RowLaws.{rowQuery, query-cells}
 use Rattle.board.proofs.SectionLaws.{rows-in-part}
 use Rattle.board.proofs.Accepted.{read-sound}
 use Rattle.board.proofs.KindBytes.{query-kinds}

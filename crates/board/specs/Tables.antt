@@ -9,6 +9,8 @@ use lib.Dec.{eqb, ltb}
 use lib.ListN.{length, getD}
 use Rattle.scope_graph.specs.Rows.{anyOf, preferredBy, nextBy}
 use Rattle.scope_graph.specs.Order.{endOf}
+use Rattle.scope_graph.specs.declared.End.{End}
+use Rattle.scope_graph.specs.declared.End.the-variants.{Stop, Label}
 use Rattle.scope_graph.specs.Computed.{anyBelow}
 use Rattle.graph_file.specs.Admission.{Row, value, blank}
 use Rattle.graph_file.specs.Decode.{orderPairOf, transitionOf}
@@ -43,8 +45,13 @@ accepted rows q = anyOf (eqb q) (map (λ (row : Row). value row 0) rows)
 unfoldable pub letterOf : List Row → ℕ → ℕ
 letterOf rows i = value (getD rows i blank) 0 % 256
 
--- nine sets of ends: those that are preferred to an end (the rows `less more`); the end mark is
--- number 0
+-- the number of an order row's end: 0 for the end mark, n + 1 for the label n; 9, which is no end's,
+-- for a label past the eight
+unfoldable pub endPlace : End → ℕ
+endPlace Stop = 0
+endPlace (Label l t) = elim (ltb l 8) [ true ↦ suc l | false ↦ 9 ]
+
+-- nine sets of ends: those that are preferred to an end (the rows `less more`)
 pub record BetterIs (rows : List Row) (better : List ℕ) : Type 0 where
   pub size : length better ≡ 9
   pub each : (a c : ℕ) → a < 9 → c < 9 → hasBit (getD better c 0) a ≡ preferredBy (map orderPairOf rows) (endOf a) (endOf c)

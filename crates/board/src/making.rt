@@ -70,7 +70,9 @@ fn put_graph(table: &[u64], at: &[u64], block: &mut [u64])
 }
 
 // Fills the block from the graph table, whatever stood in it; if it was not cleared, the hints are
-// wrong and cost time.
+// wrong and cost time. Left open are the hints, which bounds stand in `STATES` and `TURN`, at which
+// numbers the edges stand, and what cells and bits past a table's last entry hold: time depends on
+// the first two, and whatever is read of the block is the same for all of them.
 pub fn put_board(table: &[u64], block: &mut [u64])
     requires block { ⌜ IsBlock (now block) ⌝ }
     ensures made { λ r. ⌜ Made (now (table .entry)) (now (block .exit)) ⌝ }

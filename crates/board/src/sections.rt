@@ -5,7 +5,7 @@ use graph_table::first_row;
 use graph_table::rows_from;
 ghost use mathlib.Core.Path.{_≡_};
 ghost use Prim.Native.Nat.{_<_};
-ghost use Rattle.graph_table.specs.Sections.{startCell, partOf};
+ghost use Rattle.graph_table.specs.Sections.{startOf, partOf};
 ghost use Rattle.board.specs.Tables.{tabulate};
 ghost use Rattle.board.specs.Made.{Starts, Made};
 
@@ -15,7 +15,7 @@ const PLACES: usize = 10;
 // Where each section's rows start, and where the last one's end: one pass, as each is looked for
 // from the one before it on.
 pub fn starts(table: &[u64]) -> [u64; PLACES]
-    ensures answer { λ r. ⌜ r ≡ tabulate (startCell (now (table .entry))) 10 ⌝ }
+    ensures answer { λ r. ⌜ r ≡ tabulate (λ k. startOf k (now (table .entry))) 10 ⌝ }
 {
     let mut t = [0; 10];
     let mut p = first_row(table);

@@ -14,7 +14,7 @@ use Rattle.scope_graph.specs.Language.{Language}
 use Rattle.scope_graph.specs.Rows.{Rules, language}
 use Rattle.scope_graph.specs.Path.{HopOf}
 use Rattle.scope_graph.specs.Turns.{Turned}
-use Rattle.scope_graph.specs.Computed.{hopsAt}
+use Rattle.scope_graph.specs.Computed.{sameHop, hopsAt}
 use Rattle.scope_graph.specs.Agree.{agreeHops}
 use Rattle.scope_graph.specs.Agree.{sameStep as sameHopStep}
 use Rattle.scope_graph.proofs.Lists.{Two, not-true, true-false, and-left, and-right, and-both}
@@ -98,13 +98,13 @@ module _ (r : Rules) (leaving : ℕ → List (HopOf Turned)) (letters : List ℕ
   hop s t = hopOf leaving letters s t
 
   hop-same : (s : ℕ) (t u : Step) → sameShown t u ≡ true → sameHopStep (language r) (hop s t) (hop s u) ≡ true
-  unfolding sameHopStep hopOf
+  unfolding sameHopStep sameHop hopOf
   hop-same s t u h =
       let e : t ≡ u = shown-is t u h in
       and-both _ _ (eq-eqb _ _ (ap (λ (z : Step). labelNumber letters (z .label)) e)) (eq-eqb _ _ (ap (λ (z : Step). z .scope) e))
 
   hop-apart : (s : ℕ) (t u : Step) → sameShown t u ≡ false → sameHopStep (language r) (hop s t) (hop s u) ≡ false
-  unfolding sameHopStep hopOf
+  unfolding sameHopStep sameHop hopOf
   hop-apart s t u h =
       not-true _ (λ k. true-false
       (shown-same t u (number-tells letters (t .label) (u .label) (eqb-true _ _ (and-left _ _ k)))

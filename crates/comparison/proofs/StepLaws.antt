@@ -16,9 +16,10 @@ use Rattle.scope_graph.specs.declared.Turn.{Turn}
 use Rattle.scope_graph.specs.declared.Turn.the-variants.{None, Of}
 use Rattle.scope_graph.specs.declared.End.{End as CodeEnd}
 use Rattle.scope_graph.specs.declared.End.the-variants.{Stop, Label}
-use Rattle.block.specs.Block.{firstEdge, edgeCell, turnOf, blockHops, EdgeTo}
+use Rattle.block.specs.Block.{firstEdge, edgeCell, turnOf, blockHops}
 use Rattle.block.specs.Block.{hopOf as edgeHop}
 use Rattle.block.proofs.BlockLaws.{blockHops-past}
+use Rattle.block.proofs.EdgeLaws.{EdgeTo}
 use Rattle.search.specs.Tables.{tableOrder}
 use Rattle.path_row.specs.declared.form.Step.{Step}
 use Rattle.path_row.specs.declared.taken.Steps.{Steps}

@@ -17,7 +17,8 @@ use Rattle.block.specs.Ask.{askGoal}
 use Rattle.block.proofs.BlockLaws.{on-none}
 use Rattle.search.specs.Board.{cutHere}
 use Rattle.search.specs.Tables.{plainEnd, tableOrder, tableBoard}
-use Rattle.search.specs.Steps.{worthState, NextHop}
+use Rattle.search.specs.Steps.{worthState}
+use Rattle.search.proofs.HopLaws.{NextHop}
 use Rattle.search.specs.declared.Node.{Node}
 use Rattle.search.proofs.LaterLaws.{step-by-label, step-highest}
 use Rattle.follow.specs.Steps.{endCut, Skipped, NextFollowed}

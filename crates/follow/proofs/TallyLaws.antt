@@ -11,8 +11,13 @@ use Rattle.follow.specs.declared.Bounds.{Bounds}
 use Rattle.follow.specs.declared.Seen.{Seen}
 use Rattle.follow.specs.declared.Seen.the-variants.{None}
 use Rattle.follow.specs.declared.Tally.{Tally}
-use Rattle.follow.specs.Tally.{Taken, State, none, noted, fits, more, within, beyond, isDone, isBroken, takeRow, takeRows, joined}
+use Rattle.follow.specs.Tally.{Taken, State, none, noted, fits, more, within, beyond, isDone, isBroken, takeRow, takeRows}
 use Rattle.follow.proofs.TakeLaws.{fits-true, fits-false, more-least, keep-yes, keep-length, puts-text, notedAll, several-stay, done-later, done-over, whole-several, take-done, take-within, by-limit, take-entries, take-seen, take-length, take-before, take-behind}
+
+-- the rows' texts as one
+unfoldable pub joined : List Taken → List ℕ
+joined [] = []
+joined (row ∷ rows) = row .text ++ joined rows
 
 module _ (b : Bounds) where
   pub rows-append : (st : State) (xs ys : List Taken) → takeRows b st (xs ++ ys) ≡ takeRows b (takeRows b st xs) ys

@@ -5,7 +5,7 @@
 -- are definitions.
 use Prim.Native.Nat.{ℕ, _+_}
 use mathlib.Core.Bool.{Bool, true, false, not, _&&_, _||_}
-use mathlib.Core.List.{List, [], _∷_, _++_}
+use mathlib.Core.List.{List, [], _∷_}
 use lib.Dec.{eqb, leb, ltb}
 use lib.ListN.{length}
 use Rattle.text_field.specs.Buffer.{puts}
@@ -98,8 +98,3 @@ module _ (b : Bounds) where
   unfoldable pub takeRows : State → List Taken → State
   takeRows st [] = st
   takeRows st (row ∷ rows) = takeRows (takeRow st row) rows
-
--- the rows' texts as one
-unfoldable pub joined : List Taken → List ℕ
-joined [] = []
-joined (row ∷ rows) = row .text ++ joined rows

@@ -91,7 +91,9 @@ fn next_unturned(block: &[u64], ask: &[u64], onward: &[u64], n: Node, known: u64
 }
 
 // The node's first edge that is followed, or past its edges. (Two functions ask by turns or by
-// labels alone, so that neither loop is taken into the other.)
+// labels alone, so that neither loop is taken into the other.) Left open are which number past the
+// last edge says that none is followed, as callers only test that it is past, and of which ends
+// `known` tells more, as whatever it tells is so and saves a later question.
 pub fn first_followed(block: &[u64], ask: &[u64], onward: &[u64], n: Node, known: u64) -> Next
     requires block { ⌜ IsBlock (now block) ⌝ }
     requires bounds { ⌜ Bounds (now block) ⌝ }
@@ -110,8 +112,10 @@ pub fn first_followed(block: &[u64], ask: &[u64], onward: &[u64], n: Node, known
     next_turned(block, ask, onward, n, known, p)
 }
 
-// The next one from edge p on. Many calls come from a node's last edge: they end here, at little
-// cost.
+// The next edge from number p on that is followed, or past the node's edges. Many calls come from a
+// node's last edge: they end here, at little cost. Left open are which number past the last edge
+// says that none is followed, as callers only test that it is past, and of which ends `known` tells
+// more, as whatever it tells is so and saves a later question.
 pub fn next_followed(
     block: &[u64],
     ask: &[u64],

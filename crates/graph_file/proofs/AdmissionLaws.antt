@@ -10,7 +10,8 @@ use lib.ListN.{length, getD, drop}
 use Rattle.text_field.proofs.ByteLaws.{clash}
 use Rattle.graph_file.specs.declared.rows.Counts.{Counts}
 use Rattle.graph_file.specs.Format.{Content, state, scope, mark, count, letter, label, end, name, kind, plain, turn, Item, byte, field, everyItem, Sequence, ascending, apart, once, free, labels, pairs, transitions, accepts, scopeCount, edges, declarations, openPairs, queries, pastLast, sections, sectionAt, shapeAt, edgeSection}
-use Rattle.graph_file.specs.Admission.{Row, value, rowOf, contentInRange, itemInRange, inRange, keyLess, listed, ascends, sameSource, standsAbove, repeats, follows, unless, admission}
+use Rattle.graph_file.specs.Admission.{Row, value, rowOf, contentInRange, itemInRange, inRange, keyLess, listed, ascends, sameSource, repeats, follows, unless, admission}
+use Rattle.graph_file.specs.LookBack.{foundLookingBack, Ascended, SortedSofar}
 use Rattle.graph_file.specs.Line.{place}
 use Rattle.graph_file.specs.Table.{formatBytes, hasRange, keptRanged, ranged, keyAt, itemsAt, rangePlace, lettersAt, rowsBack, sofarAt}
 use Rattle.graph_file.proofs.FormatLaws.{keys-step, key-more, key-last, range-items}
@@ -69,21 +70,21 @@ back-row n p t h = let e : n ≡ suc (n - 1) = omega arith in ap (λ (m : ℕ). 
 -- the edge rows directly above, one by one: none is left, one of another source, the same edge, and
 -- another edge of the source
 module _ (n q : ℕ) (t : List ℕ) (row : Row) where
-  pub above-none : n ≤ 0 → standsAbove (rowsBack n q t) row ≡ false
-  unfolding standsAbove
+  pub above-none : n ≤ 0 → foundLookingBack (rowsBack n q t) row ≡ false
+  unfolding foundLookingBack
   above-none h = rw (back-none n q t (omega arith))
 
   module _ (some : 0 < n) where
-    pub above-other : sameSource (rowOf (drop (q - 6) t)) row ≡ false → standsAbove (rowsBack n q t) row ≡ false
-    unfolding standsAbove
+    pub above-other : sameSource (rowOf (drop (q - 6) t)) row ≡ false → foundLookingBack (rowsBack n q t) row ≡ false
+    unfolding foundLookingBack
     above-other e = rw (back-row n q t some, e)
 
-    pub above-hit : sameSource (rowOf (drop (q - 6) t)) row ≡ true → value (rowOf (drop (q - 6) t)) 2 ≡ value row 2 → standsAbove (rowsBack n q t) row ≡ true
-    unfolding standsAbove
+    pub above-hit : sameSource (rowOf (drop (q - 6) t)) row ≡ true → value (rowOf (drop (q - 6) t)) 2 ≡ value row 2 → foundLookingBack (rowsBack n q t) row ≡ true
+    unfolding foundLookingBack
     above-hit e f = rw (back-row n q t some, e, eq-eqb (value (rowOf (drop (q - 6) t)) 2) (value row 2) f)
 
-    pub above-on : sameSource (rowOf (drop (q - 6) t)) row ≡ true → (value (rowOf (drop (q - 6) t)) 2 ≡ value row 2 → ⊥) → standsAbove (rowsBack (n - 1) (q - 6) t) row ≡ standsAbove (rowsBack n q t) row
-    unfolding standsAbove
+    pub above-on : sameSource (rowOf (drop (q - 6) t)) row ≡ true → (value (rowOf (drop (q - 6) t)) 2 ≡ value row 2 → ⊥) → foundLookingBack (rowsBack (n - 1) (q - 6) t) row ≡ foundLookingBack (rowsBack n q t) row
+    unfolding foundLookingBack
     above-on e f = sym (rw (back-row n q t some, e, ne-eqb (value (rowOf (drop (q - 6) t)) 2) (value row 2) f))
 
 listed-hit : (x y : ℕ) (l : List ℕ) → eqb y x ≡ true → listed x (y ∷ l) ≡ true
@@ -177,6 +178,15 @@ unfolding isApart
 follows-edge k letters own row e =
     follows-apart (sectionAt k .sequence) (sectionAt k .key) letters own row e
     ∙ ap (λ (key : List ℕ). ascends key own row && not (repeats own row)) (sym (key-apart k (ap isApart (sym e))))
+
+-- so its rows so far ascend by the key of edges
+pub sorted-edges : (k : ℕ) (own : List Row) → SortedSofar k own → apart ≡ sectionAt k .sequence → Ascended (sectionAt edgeSection .key) own
+unfolding isApart
+sorted-edges k own s e = rw (key-apart k (ap isApart (sym e))) (s e)
+
+-- a section begins without rows
+pub sorted-none : (k n p : ℕ) (t : List ℕ) → n ≡ 0 → SortedSofar k (rowsBack n p t)
+sorted-none k n p t h e = rw (back-none n p t h) tt
 
 -- the refusals of the row at place p of a table, in their sequence
 module _ (form k : ℕ) (t : List ℕ) (p : ℕ) (c : Counts) where

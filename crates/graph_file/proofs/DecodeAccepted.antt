@@ -24,7 +24,8 @@ use Rattle.graph_file.specs.Decode.{rowsIn, lettersOf, orderPairOf, tran
 use Rattle.graph_file.specs.Accepted.{EndListed, TransitionBefore, AcceptedTable, ReadAccepted, WrittenAccepted}
 use Rattle.graph_file.proofs.DecodeWay.{AdmittedTable}
 use Rattle.graph_file.proofs.DecodeWritten.{read-admitted, written-admitted}
-use Rattle.graph_file.proofs.DecodeRows.{item-in, Ascends, KeyBefore}
+use Rattle.graph_file.proofs.KeyLaws.{KeyBefore}
+use Rattle.graph_file.proofs.DecodeRows.{item-in, Ascends}
 use Rattle.graph_file.proofs.DecodeTable.{table-limit, table-count, table-in-range, table-ascends, table-order, table-letters}
 use Rattle.graph_file.proofs.DecodeEdges.{edge-key, old-turns, turn-in, one-turn}
 use Rattle.graph_file.proofs.DecodeKinds.{declared-lower, declared-plain, sought-lower, sought-plain}

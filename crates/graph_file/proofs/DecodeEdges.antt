@@ -21,7 +21,8 @@ use Rattle.graph_file.specs.Line.{itemFormed, sparesPlace, idleZero, idl
 use Rattle.graph_file.specs.File.{formIn}
 use Rattle.graph_file.specs.Decode.{rowsIn, lettersOf, scopesOf, edgeOf}
 use Rattle.graph_file.proofs.DecodeWay.{AdmittedTable}
-use Rattle.graph_file.proofs.DecodeRows.{item-in, KeyBefore}
+use Rattle.graph_file.proofs.KeyLaws.{KeyBefore}
+use Rattle.graph_file.proofs.DecodeRows.{item-in}
 use Rattle.graph_file.proofs.DecodeTable.{table-formed, table-in-range, table-apart}
 
 -- at one label the step of the later row is preferred, if its turn is higher

@@ -2,20 +2,21 @@
 -- Assumes nothing.
 use Prim.Native.Nat.{ℕ, suc, _+_, _≤_, _<_}
 use mathlib.Core.Path.{_≡_, refl, sym, ap, _∙_}
-use mathlib.Core.Bool.{Bool, true, false, false≢true}
+use mathlib.Core.Bool.{Bool, true, false}
 use mathlib.Core.Logic.{_⊎_, inl, inr, ⊎-elim}
 use mathlib.Core.List.{List, [], _∷_, map, List·Memᴰ·not-nil, List·Memᴰ·cases-cons, List·Memᴰ·head, Memᴰ·cast, Memᴰ·append-left, Memᴰ·append-right}
 use native.Mathlib.Omega.{arith}
-use lib.Dec.{eqb, ltb}
+use lib.Dec.{eqb}
 use lib.ListN.{length, length-append}
 use borrow.Author.Tests.{ltb-true, leb-true, eqb-true, lt-ltb, le-leb, eq-eqb}
 use Rattle.scope_graph.specs.Language.{_∈_}
 use Rattle.scope_graph.specs.Path.{Distinct}
 use Rattle.scope_graph.specs.Listing.{Pairwise}
-use Rattle.scope_graph.proofs.Lists.{Two, and-left, and-right, and-both, or-cases, or-left, or-right, true-false, not-is, not-true}
+use Rattle.scope_graph.proofs.Lists.{Two, and-left, and-right, and-both, or-left, or-right, true-false, not-is, not-true}
 use Rattle.graph_file.specs.Format.{Content, state, scope, mark, count, letter, label, end, name, kind, plain, turn, Item, byte, field, everyItem, Sequence, ascending, apart, once, free, labels, scopeCount, sections, sectionAt, shapeAt, labelSection, countSection}
-use Rattle.graph_file.specs.Admission.{Row, value, Sofar, joined, counted, taken, contentInRange, itemInRange, inRange, keyLess, listed, ascends, follows, unless, admission}
+use Rattle.graph_file.specs.Admission.{Row, value, Sofar, joined, counted, taken, contentInRange, itemInRange, inRange, listed, ascends, follows, unless, admission}
 use Rattle.graph_file.specs.Line.{formed}
+use Rattle.graph_file.proofs.KeyLaws.{KeyBefore, LastBefore, last-before, last-then}
 use Rattle.graph_file.proofs.DecodeWay.{takenAll, AdmittedRows}
 
 -- the three tests of an admitted row
@@ -163,26 +164,6 @@ rows-in-range form k st f (first ∷ rows) h r g row m =
     (λ n. rows-in-range form k (taken k st first) f rows (h .2) (a .1) g row n)
     (List·Memᴰ·cases-cons m)
 
--- the order by a key: less at the first place where the rows differ
-abbrev pub KeyBefore : List ℕ → Row → Row → Type 0
-KeyBefore [] a b = ⊥
-KeyBefore (c ∷ key) a b = (value a c < value b c) ⊎ ((value a c ≡ value b c) × KeyBefore key a b)
-
-pub key-before : (key : List ℕ) (a b : Row) → keyLess key a b ≡ true → KeyBefore key a b
-unfolding keyLess
-key-before [] a b h = absurd (false≢true h)
-key-before (c ∷ key) a b h =
-    ⊎-elim (λ l. inl (ltb-true _ _ l))
-    (λ r. inr (eqb-true _ _ (and-left _ _ r), key-before key a b (and-right (eqb (value a c) (value b c)) _ r)))
-    (or-cases (ltb (value a c) (value b c)) _ h)
-
-pub key-then : (key : List ℕ) (a b c : Row) → KeyBefore key a b → KeyBefore key b c → KeyBefore key a c
-key-then [] a b c h k = h
-key-then (p ∷ key) a b c (inl h) (inl k) = inl (omega arith)
-key-then (p ∷ key) a b c (inl h) (inr k) = inl (let e = k .0 in omega arith)
-key-then (p ∷ key) a b c (inr h) (inl k) = inl (let e = h .0 in omega arith)
-key-then (p ∷ key) a b c (inr h) (inr k) = inr (h .0 ∙ k .0, key-then key a b c (h .1) (k .1))
-
 -- The sections whose rows ascend.
 abbrev pub Ascends : Sequence → Type 0
 Ascends ascending = Unit {0}
@@ -197,20 +178,6 @@ follow-ascends ascending key letters own row a h = h
 follow-ascends apart key letters own row a h = and-left _ _ h
 follow-ascends once key letters own row a h = absurd a
 follow-ascends free key letters own row a h = absurd a
-
--- the last of the rows above, if there is any, stands before the row
-abbrev pub LastBefore : List ℕ → List Row → Row → Type 0
-LastBefore key [] row = Unit {0}
-LastBefore key (last ∷ above) row = KeyBefore key last row
-
-last-before : (key : List ℕ) (own : List Row) (row : Row) → ascends key own row ≡ true → LastBefore key own row
-unfolding ascends
-last-before key [] row h = tt
-last-before key (last ∷ above) row h = key-before key last row h
-
-last-then : (key : List ℕ) (own : List Row) (row later : Row) → LastBefore key own row → KeyBefore key row later → LastBefore key own later
-last-then key [] row later h k = tt
-last-then key (last ∷ above) row later h k = key-then key last row later h k
 
 pub row-after : (form k : ℕ) (st : Sofar) (row : Row) → Ascends (sectionAt k .sequence) → Passed form k st row → LastBefore (sectionAt k .key) (st .own) row
 row-after form k st row a p =

@@ -16,7 +16,8 @@ use Rattle.graph_file.specs.Line.{formed}
 use Rattle.graph_file.specs.Order.{orderFault}
 use Rattle.graph_file.specs.Decode.{rowsAmong, rowsIn, lettersOf, scopesOf}
 use Rattle.graph_file.proofs.DecodeWay.{sofarAfter, AdmittedTable}
-use Rattle.graph_file.proofs.DecodeRows.{Ascends, KeyBefore, rows-stand, rows-limit, rows-in-range, rows-ascend, rows-once}
+use Rattle.graph_file.proofs.KeyLaws.{KeyBefore}
+use Rattle.graph_file.proofs.DecodeRows.{Ascends, rows-stand, rows-limit, rows-in-range, rows-ascend, rows-once}
 use Rattle.graph_file.proofs.ApartLaws.{rows-apart}
 use Rattle.graph_file.proofs.DecodeSections.{gathered, among-sections, SectionAt, section-at, fold, folded}
 
@@ -107,7 +108,7 @@ module _ (cells : List ℕ) (t : AdmittedTable cells) where
   -- no edge stands twice
   pub table-apart : Pairwise (λ (a b : Row). sameEdge a b ≡ false) (rowsIn edgeSection cells)
   unfolding begun
-  table-apart = let s = section-in edgeSection (omega arith) in rows-apart (t .form) (begun (s .before)) (rowsIn edgeSection cells) tt (s .admitted) .1
+  table-apart = let s = section-in edgeSection (omega arith) in rows-apart (t .form) (begun (s .before)) (rowsIn edgeSection cells) (s .admitted) .1
 
   -- refusal 6 is not met
   pub table-order : orderFault (rowsIn pairSection cells) ≡ false

@@ -8,7 +8,7 @@ use Rattle.text_field.specs.Number.{digitsOf, numberText, growing, digitsFrom, 
 use Rattle.text_field.specs.Name.{allNameBytes, isName, packed, packHigh, packLow, bytesOf, beforeZero, nameText, isNameCells, nameRun, nameOf, nameHere, nameMeaning}
 use Rattle.graph_file.specs.Format.{labels, pairs, transitions, accepts, scopeCount, edges, declarations, openPairs, queries, sections, sectionAt, hasKinds, hasTurns, edgeShape, declarationShape, queryShape, shapesOf, shapeAt, valuesOf, everyItem}
 use Rattle.text_field.specs.Outcome.{Outcome, refused, done, andThen, refuseIf}
-use Rattle.graph_file.specs.Admission.{nothing, begun, joined, counted, taken, contentInRange, itemInRange, inRange, rowOf, keyLess, listed, ascends, sameSource, standsAbove, repeats, follows, unless, admission}
+use Rattle.graph_file.specs.Admission.{nothing, begun, joined, counted, taken, contentInRange, itemInRange, inRange, rowOf, keyLess, listed, ascends, sameSource, sameEdge, repeats, follows, unless, admission}
 use Rattle.graph_file.specs.Line.{numberTaken, nameTaken, byteTaken, place, endTaken, readField, startsWith, readItem, placeOf, readItems, endByte, fieldText, itemText, lineText, fieldFormed, itemFormed, sparesPlace, idleZero, idleZeros, formed}
 use Rattle.graph_file.specs.Order.{someRow, sameEnds, gap, pairFault, orderFault}
 use Rattle.graph_file.specs.File.{ifAdmitted, afterRow, oneRow, throughRows, afterNames, enough, throughSection, isEmpty, throughSections, throughSome, ordered, atStart, whole, readNames, rowFollows, readRow, reading, formShown, formAfter, turnsIn, kindsIn, formWith, formOf, readStage, madeOf, readCells, writeNames, cellsFollow, writeRow, writing, hasForm, formIn, writeText}
@@ -22,21 +22,21 @@ abbrev pub exampleCells : List ℕ
 exampleCells = 0 ∷ 0 ∷ 73 ∷ 0 ∷ 0 ∷ 0 ∷ 0 ∷ 0 ∷ 80 ∷ 0 ∷ 0 ∷ 0 ∷ 0 ∷ 1 ∷ 0 ∷ 1 ∷ 0 ∷ 0 ∷ 0 ∷ 1 ∷ 0 ∷ 2 ∷ 0 ∷ 0 ∷ 0 ∷ 1 ∷ 1 ∷ 2 ∷ 0 ∷ 0 ∷ 0 ∷ 2 ∷ 0 ∷ 0 ∷ 1 ∷ 0 ∷ 0 ∷ 2 ∷ 0 ∷ 1 ∷ 0 ∷ 0 ∷ 0 ∷ 2 ∷ 1 ∷ 0 ∷ 1 ∷ 0 ∷ 0 ∷ 3 ∷ 0 ∷ 0 ∷ 0 ∷ 0 ∷ 0 ∷ 3 ∷ 1 ∷ 0 ∷ 0 ∷ 0 ∷ 0 ∷ 4 ∷ 5 ∷ 0 ∷ 0 ∷ 0 ∷ 0 ∷ 5 ∷ 1 ∷ 1 ∷ 0 ∷ 0 ∷ 0 ∷ 5 ∷ 2 ∷ 0 ∷ 4 ∷ 0 ∷ 0 ∷ 5 ∷ 2 ∷ 1 ∷ 1 ∷ 0 ∷ 0 ∷ 5 ∷ 3 ∷ 1 ∷ 1 ∷ 0 ∷ 0 ∷ 6 ∷ 0 ∷ 118 ∷ 7525362636775489536 ∷ 0 ∷ 5 ∷ 6 ∷ 1 ∷ 118 ∷ 8315178139909317888 ∷ 0 ∷ 10 ∷ 6 ∷ 2 ∷ 118 ∷ 8315178139909317888 ∷ 0 ∷ 21 ∷ 6 ∷ 4 ∷ 118 ∷ 7525362636775489536 ∷ 0 ∷ 40 ∷ 7 ∷ 3 ∷ 0 ∷ 0 ∷ 0 ∷ 0 ∷ 8 ∷ 2 ∷ 118 ∷ 8315178139909317888 ∷ 0 ∷ 0 ∷ 8 ∷ 3 ∷ 118 ∷ 8315178139909317888 ∷ 0 ∷ 0 ∷ 8 ∷ 2 ∷ 118 ∷ 7525362636775489536 ∷ 0 ∷ 0 ∷ []
 
 pub example-read : readCells exampleText ≡ done exampleCells
-unfolding labels pairs transitions accepts scopeCount edges declarations openPairs queries sections sectionAt hasKinds hasTurns edgeShape declarationShape queryShape shapesOf shapeAt andThen refuseIf nothing begun joined counted taken everyItem contentInRange itemInRange inRange keyLess listed ascends sameSource standsAbove repeats follows unless admission someRow sameEnds gap pairFault orderFault ifAdmitted afterRow oneRow throughRows afterNames enough throughSection isEmpty throughSections ordered atStart whole madeOf within isDigit isCapital isLower isNameByte numberTaken numberMeaning nameTaken nameMeaning byteTaken place endTaken readField startsWith readItem placeOf readItems growing digitsFrom numberHere packed packHigh packLow nameRun nameOf nameHere readNames rowFollows readRow reading throughSome formShown formAfter turnsIn kindsIn formWith formOf readStage readCells
+unfolding labels pairs transitions accepts scopeCount edges declarations openPairs queries sections sectionAt hasKinds hasTurns edgeShape declarationShape queryShape shapesOf shapeAt andThen refuseIf nothing begun joined counted taken everyItem contentInRange itemInRange inRange keyLess listed ascends sameSource sameEdge repeats follows unless admission someRow sameEnds gap pairFault orderFault ifAdmitted afterRow oneRow throughRows afterNames enough throughSection isEmpty throughSections ordered atStart whole madeOf within isDigit isCapital isLower isNameByte numberTaken numberMeaning nameTaken nameMeaning byteTaken place endTaken readField startsWith readItem placeOf readItems growing digitsFrom numberHere packed packHigh packLow nameRun nameOf nameHere readNames rowFollows readRow reading throughSome formShown formAfter turnsIn kindsIn formWith formOf readStage readCells
 example-read = refl
 
 pub example-written : writeText exampleCells ≡ done exampleText
-unfolding labels pairs transitions accepts scopeCount edges declarations openPairs queries sections sectionAt hasKinds hasTurns edgeShape declarationShape queryShape shapesOf shapeAt andThen refuseIf nothing begun joined counted taken everyItem contentInRange itemInRange inRange keyLess listed ascends sameSource standsAbove repeats follows unless admission someRow sameEnds gap pairFault orderFault ifAdmitted afterRow oneRow throughRows afterNames enough throughSection isEmpty throughSections ordered atStart whole madeOf within isDigit isCapital isLower isNameByte digitsOf numberText allNameBytes isName packed packHigh packLow bytesOf beforeZero nameText isNameCells endByte fieldText itemText lineText fieldFormed itemFormed valuesOf sparesPlace idleZero idleZeros formed rowOf writeNames cellsFollow writeRow writing hasForm formIn writeText
+unfolding labels pairs transitions accepts scopeCount edges declarations openPairs queries sections sectionAt hasKinds hasTurns edgeShape declarationShape queryShape shapesOf shapeAt andThen refuseIf nothing begun joined counted taken everyItem contentInRange itemInRange inRange keyLess listed ascends sameSource sameEdge repeats follows unless admission someRow sameEnds gap pairFault orderFault ifAdmitted afterRow oneRow throughRows afterNames enough throughSection isEmpty throughSections ordered atStart whole madeOf within isDigit isCapital isLower isNameByte digitsOf numberText allNameBytes isName packed packHigh packLow bytesOf beforeZero nameText isNameCells endByte fieldText itemText lineText fieldFormed itemFormed valuesOf sparesPlace idleZero idleZeros formed rowOf writeNames cellsFollow writeRow writing hasForm formIn writeText
 example-written = refl
 
 -- the last query's name is `hours`
 pub example-name : nameSought exampleText 2 ≡ 104 ∷ 111 ∷ 117 ∷ 114 ∷ 115 ∷ []
-unfolding labels pairs transitions accepts scopeCount edges declarations openPairs queries sections sectionAt hasKinds hasTurns edgeShape declarationShape queryShape shapesOf shapeAt andThen refuseIf nothing begun joined counted taken everyItem contentInRange itemInRange inRange keyLess listed ascends sameSource standsAbove repeats follows unless admission someRow sameEnds gap pairFault orderFault ifAdmitted afterRow oneRow throughRows afterNames enough throughSection isEmpty throughSections ordered atStart whole madeOf within isDigit isCapital isLower isNameByte numberTaken numberMeaning nameTaken nameMeaning byteTaken place endTaken readField startsWith readItem placeOf readItems growing digitsFrom numberHere packed packHigh packLow nameRun nameOf nameHere readNames rowFollows readRow reading throughSome formShown formAfter turnsIn kindsIn formWith formOf readStage readCells afterLines lineCount namePart restOf valuesOf isNameField fromName queryFrom fromWithin fromSought nameFront nameSought
+unfolding labels pairs transitions accepts scopeCount edges declarations openPairs queries sections sectionAt hasKinds hasTurns edgeShape declarationShape queryShape shapesOf shapeAt andThen refuseIf nothing begun joined counted taken everyItem contentInRange itemInRange inRange keyLess listed ascends sameSource sameEdge repeats follows unless admission someRow sameEnds gap pairFault orderFault ifAdmitted afterRow oneRow throughRows afterNames enough throughSection isEmpty throughSections ordered atStart whole madeOf within isDigit isCapital isLower isNameByte numberTaken numberMeaning nameTaken nameMeaning byteTaken place endTaken readField startsWith readItem placeOf readItems growing digitsFrom numberHere packed packHigh packLow nameRun nameOf nameHere readNames rowFollows readRow reading throughSome formShown formAfter turnsIn kindsIn formWith formOf readStage readCells afterLines lineCount namePart restOf valuesOf isNameField fromName queryFrom fromWithin fromSought nameFront nameSought
 example-name = refl
 
 -- there is no query 3
 pub example-no-name : nameSought exampleText 3 ≡ []
-unfolding labels pairs transitions accepts scopeCount edges declarations openPairs queries sections sectionAt hasKinds hasTurns edgeShape declarationShape queryShape shapesOf shapeAt andThen refuseIf nothing begun joined counted taken everyItem contentInRange itemInRange inRange keyLess listed ascends sameSource standsAbove repeats follows unless admission someRow sameEnds gap pairFault orderFault ifAdmitted afterRow oneRow throughRows afterNames enough throughSection isEmpty throughSections ordered atStart whole madeOf within isDigit isCapital isLower isNameByte numberTaken numberMeaning nameTaken nameMeaning byteTaken place endTaken readField startsWith readItem placeOf readItems growing digitsFrom numberHere packed packHigh packLow nameRun nameOf nameHere readNames rowFollows readRow reading throughSome formShown formAfter turnsIn kindsIn formWith formOf readStage readCells afterLines lineCount namePart restOf valuesOf isNameField fromName queryFrom fromWithin fromSought nameFront nameSought
+unfolding labels pairs transitions accepts scopeCount edges declarations openPairs queries sections sectionAt hasKinds hasTurns edgeShape declarationShape queryShape shapesOf shapeAt andThen refuseIf nothing begun joined counted taken everyItem contentInRange itemInRange inRange keyLess listed ascends sameSource sameEdge repeats follows unless admission someRow sameEnds gap pairFault orderFault ifAdmitted afterRow oneRow throughRows afterNames enough throughSection isEmpty throughSections ordered atStart whole madeOf within isDigit isCapital isLower isNameByte numberTaken numberMeaning nameTaken nameMeaning byteTaken place endTaken readField startsWith readItem placeOf readItems growing digitsFrom numberHere packed packHigh packLow nameRun nameOf nameHere readNames rowFollows readRow reading throughSome formShown formAfter turnsIn kindsIn formWith formOf readStage readCells afterLines lineCount namePart restOf valuesOf isNameField fromName queryFrom fromWithin fromSought nameFront nameSought
 example-no-name = refl
 
 -- a file with kinds (02, K8): one name in two kinds at one scope, and a query of each
@@ -47,14 +47,14 @@ abbrev pub kindsCells : List ℕ
 kindsCells = 1 ∷ 3 ∷ 0 ∷ 0 ∷ 0 ∷ 0 ∷ 0 ∷ 4 ∷ 1 ∷ 0 ∷ 0 ∷ 0 ∷ 0 ∷ 6 ∷ 0 ∷ 99 ∷ 7525362636775489536 ∷ 0 ∷ 1 ∷ 6 ∷ 0 ∷ 118 ∷ 7525362636775489536 ∷ 0 ∷ 2 ∷ 8 ∷ 0 ∷ 118 ∷ 7525362636775489536 ∷ 0 ∷ 0 ∷ 8 ∷ 0 ∷ 99 ∷ 7525362636775489536 ∷ 0 ∷ 0 ∷ []
 
 pub kinds-read : readCells kindsText ≡ done kindsCells
-unfolding labels pairs transitions accepts scopeCount edges declarations openPairs queries sections sectionAt hasKinds hasTurns edgeShape declarationShape queryShape shapesOf shapeAt andThen refuseIf nothing begun joined counted taken everyItem contentInRange itemInRange inRange keyLess listed ascends sameSource standsAbove repeats follows unless admission someRow sameEnds gap pairFault orderFault ifAdmitted afterRow oneRow throughRows afterNames enough throughSection isEmpty throughSections ordered atStart whole madeOf within isDigit isCapital isLower isNameByte numberTaken numberMeaning nameTaken nameMeaning byteTaken place endTaken readField startsWith readItem placeOf readItems growing digitsFrom numberHere packed packHigh packLow nameRun nameOf nameHere readNames rowFollows readRow reading throughSome formShown formAfter turnsIn kindsIn formWith formOf readStage readCells
+unfolding labels pairs transitions accepts scopeCount edges declarations openPairs queries sections sectionAt hasKinds hasTurns edgeShape declarationShape queryShape shapesOf shapeAt andThen refuseIf nothing begun joined counted taken everyItem contentInRange itemInRange inRange keyLess listed ascends sameSource sameEdge repeats follows unless admission someRow sameEnds gap pairFault orderFault ifAdmitted afterRow oneRow throughRows afterNames enough throughSection isEmpty throughSections ordered atStart whole madeOf within isDigit isCapital isLower isNameByte numberTaken numberMeaning nameTaken nameMeaning byteTaken place endTaken readField startsWith readItem placeOf readItems growing digitsFrom numberHere packed packHigh packLow nameRun nameOf nameHere readNames rowFollows readRow reading throughSome formShown formAfter turnsIn kindsIn formWith formOf readStage readCells
 kinds-read = refl
 
 pub kinds-written : writeText kindsCells ≡ done kindsText
-unfolding labels pairs transitions accepts scopeCount edges declarations openPairs queries sections sectionAt hasKinds hasTurns edgeShape declarationShape queryShape shapesOf shapeAt andThen refuseIf nothing begun joined counted taken everyItem contentInRange itemInRange inRange keyLess listed ascends sameSource standsAbove repeats follows unless admission someRow sameEnds gap pairFault orderFault ifAdmitted afterRow oneRow throughRows afterNames enough throughSection isEmpty throughSections ordered atStart whole madeOf within isDigit isCapital isLower isNameByte digitsOf numberText allNameBytes isName packed packHigh packLow bytesOf beforeZero nameText isNameCells endByte fieldText itemText lineText fieldFormed itemFormed valuesOf sparesPlace idleZero idleZeros formed rowOf writeNames cellsFollow writeRow writing hasForm formIn writeText
+unfolding labels pairs transitions accepts scopeCount edges declarations openPairs queries sections sectionAt hasKinds hasTurns edgeShape declarationShape queryShape shapesOf shapeAt andThen refuseIf nothing begun joined counted taken everyItem contentInRange itemInRange inRange keyLess listed ascends sameSource sameEdge repeats follows unless admission someRow sameEnds gap pairFault orderFault ifAdmitted afterRow oneRow throughRows afterNames enough throughSection isEmpty throughSections ordered atStart whole madeOf within isDigit isCapital isLower isNameByte digitsOf numberText allNameBytes isName packed packHigh packLow bytesOf beforeZero nameText isNameCells endByte fieldText itemText lineText fieldFormed itemFormed valuesOf sparesPlace idleZero idleZeros formed rowOf writeNames cellsFollow writeRow writing hasForm formIn writeText
 kinds-written = refl
 
 -- the name sought is the name alone
 pub kinds-name : nameSought kindsText 1 ≡ 104 ∷ 111 ∷ 117 ∷ 114 ∷ 115 ∷ []
-unfolding labels pairs transitions accepts scopeCount edges declarations openPairs queries sections sectionAt hasKinds hasTurns edgeShape declarationShape queryShape shapesOf shapeAt andThen refuseIf nothing begun joined counted taken everyItem contentInRange itemInRange inRange keyLess listed ascends sameSource standsAbove repeats follows unless admission someRow sameEnds gap pairFault orderFault ifAdmitted afterRow oneRow throughRows afterNames enough throughSection isEmpty throughSections ordered atStart whole madeOf within isDigit isCapital isLower isNameByte numberTaken numberMeaning nameTaken nameMeaning byteTaken place endTaken readField startsWith readItem placeOf readItems growing digitsFrom numberHere packed packHigh packLow nameRun nameOf nameHere readNames rowFollows readRow reading throughSome formShown formAfter turnsIn kindsIn formWith formOf readStage readCells afterLines lineCount namePart restOf valuesOf isNameField fromName queryFrom fromWithin fromSought nameFront nameSought
+unfolding labels pairs transitions accepts scopeCount edges declarations openPairs queries sections sectionAt hasKinds hasTurns edgeShape declarationShape queryShape shapesOf shapeAt andThen refuseIf nothing begun joined counted taken everyItem contentInRange itemInRange inRange keyLess listed ascends sameSource sameEdge repeats follows unless admission someRow sameEnds gap pairFault orderFault ifAdmitted afterRow oneRow throughRows afterNames enough throughSection isEmpty throughSections ordered atStart whole madeOf within isDigit isCapital isLower isNameByte numberTaken numberMeaning nameTaken nameMeaning byteTaken place endTaken readField startsWith readItem placeOf readItems growing digitsFrom numberHere packed packHigh packLow nameRun nameOf nameHere readNames rowFollows readRow reading throughSome formShown formAfter turnsIn kindsIn formWith formOf readStage readCells afterLines lineCount namePart restOf valuesOf isNameField fromName queryFrom fromWithin fromSought nameFront nameSought
 kinds-name = refl

@@ -15,7 +15,7 @@ use Rattle.graph_file.specs.Format.{Content, state, scope, mark, count, 
 use Rattle.graph_file.specs.Admission.{Row, value, blank, Sofar, nothing, begun, joined, counted, taken, contentInRange, itemInRange, inRange, sameEdge, listed, ascends, follows, unless, admission}
 use Rattle.graph_file.specs.Formed.{scopesIn, InTurn, FormedRow, FormedRows}
 use Rattle.graph_file.proofs.DecodeWay.{takenAll, AdmittedRows, AdmittedSections}
-use Rattle.graph_file.proofs.ApartLaws.{repeats-none}
+use Rattle.graph_file.proofs.LookBackLaws.{repeats-none}
 
 -- Does what is in range stay so, where the labels (l) and the scopes (s) are known to stay?
 unfoldable stays : Bool → Bool → Content → Bool

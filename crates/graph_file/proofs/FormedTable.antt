@@ -2,14 +2,12 @@
 use Prim.Native.Nat.{ℕ, zero, suc, _+_, _<_}
 use mathlib.Core.Path.{_≡_, refl, sym, ap, subst, _∙_}
 use mathlib.Core.Bool.{true}
-use mathlib.Core.Logic.{inl, inr}
 use mathlib.Core.List.{List, [], _∷_}
 use native.Mathlib.Omega.{arith}
-use lib.Dec.{ltb}
 use lib.ListN.{length, getD, length-map}
-use borrow.Author.Tests.{eqb-true, lt-ltb, eq-eqb}
+use borrow.Author.Tests.{eqb-true}
 use Rattle.scope_graph.specs.Listing.{Pairwise}
-use Rattle.scope_graph.proofs.Lists.{and-both, or-left, or-right, pairwise-weaken}
+use Rattle.scope_graph.proofs.Lists.{pairwise-weaken}
 use Rattle.graph_file.specs.Format.{Sequence, ascending, apart, once, free, sectionAt, labelSection, pairSection, edgeSection}
 use Rattle.graph_file.specs.Admission.{Row, value, begun, keyLess}
 use Rattle.graph_file.specs.Line.{formed}
@@ -19,7 +17,8 @@ use Rattle.graph_file.specs.Formed.{cellsFrom, tableOf, scopesIn, InTurn
 use Rattle.graph_file.proofs.InverseFile.{written-then-read}
 use Rattle.graph_file.proofs.DecodeWay.{tableCells, AdmittedTable}
 use Rattle.graph_file.proofs.DecodeWritten.{read-admitted, written-admitted}
-use Rattle.graph_file.proofs.DecodeRows.{Ascends, KeyBefore, rows-stand}
+use Rattle.graph_file.proofs.KeyLaws.{KeyBefore, before-key}
+use Rattle.graph_file.proofs.DecodeRows.{Ascends, rows-stand}
 use Rattle.graph_file.proofs.DecodeTable.{pairs-gathered, section-in, table-limit, table-in-range, table-ascends, table-apart, table-order, table-letters}
 use Rattle.graph_file.proofs.DecodePlaces.{gathered-at, listed-at}
 use Rattle.graph_file.proofs.FormedWriting.{admitted-written}
@@ -66,16 +65,10 @@ formed-written cells t =
     let w = admitted-written cells (subst (λ (c : List ℕ). AdmittedTable c) (sym (t .in-turn)) (rows-table (formIn cells) (λ k. rowsIn k cells) (t .rows))) in
     (w .0, w .1, written-then-read cells (w .0) (w .1))
 
--- The converse. Before by the key, as a test
-key-less : (key : List ℕ) (a b : Row) → KeyBefore key a b → keyLess key a b ≡ true
-unfolding keyLess
-key-less [] a b h = absurd h
-key-less (c ∷ key) a b (inl h) = or-left _ _ (lt-ltb (value a c) (value b c) h)
-key-less (c ∷ key) a b (inr h) = or-right (ltb (value a c) (value b c)) _ (and-both _ _ (eq-eqb (value a c) (value b c) (h .0)) (key-less key a b (h .1)))
-
+-- The converse.
 module _ (cells : List ℕ) (t : AdmittedTable cells) where
   keys-less : (k : ℕ) → k < 9 → Ascends (sectionAt k .sequence) → Pairwise (λ (a b : Row). keyLess (sectionAt k .key) a b ≡ true) (rowsIn k cells)
-  keys-less k h a = pairwise-weaken (KeyBefore (sectionAt k .key)) (λ (a b : Row). keyLess (sectionAt k .key) a b ≡ true) (rowsIn k cells) (λ a b m n p. key-less (sectionAt k .key) a b p) (table-ascends cells t k h a)
+  keys-less k h a = pairwise-weaken (KeyBefore (sectionAt k .key)) (λ (a b : Row). keyLess (sectionAt k .key) a b ≡ true) (rowsIn k cells) (λ a b m n p. before-key (sectionAt k .key) a b p) (table-ascends cells t k h a)
 
   turn-of : (k : ℕ) → k < 9 → (q : Sequence) → sectionAt k .sequence ≡ q → ownSequence k q ≡ true → InTurn q (sectionAt k .key) (rowsIn k cells)
   unfolding ownSequence lettersOf

@@ -3,6 +3,8 @@ pub mod Examples
 pub mod FormatLaws
 pub mod ColumnLaws
 pub mod RowLaws
+pub mod KeyLaws
+pub mod LookBackLaws
 pub mod AdmissionLaws
 pub mod LineLaws
 pub mod TakenLaws
@@ -28,6 +30,7 @@ pub mod FormLaws
 pub mod WriteLaws
 pub mod WriteStages
 pub mod WriteText
+pub mod SortedLaws
 pub mod SoughtLaws
 pub mod RoomLaws
 pub mod TableLaws

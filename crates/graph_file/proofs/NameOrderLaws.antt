@@ -8,31 +8,24 @@ use mathlib.Core.List.{List, [], _∷_}
 use native.Mathlib.Omega.{arith}
 use lib.Dec.{eqb, ltb}
 use borrow.Author.Tests.{lt-ltb, ltb-true, eq-eqb, eqb-true, ne-eqb}
-use Rattle.text_field.specs.Name.{isNameCells, nameBefore, cellsBefore}
+use Rattle.text_field.specs.Name.{isNameCells, nameBefore}
 use Rattle.text_field.proofs.NameLaws.{cells-equal}
-use Rattle.text_field.proofs.OrderLaws.{cells-ordered}
+use Rattle.text_field.proofs.OrderLaws.{cellsBefore, cells-ordered}
 use Rattle.scope_graph.specs.Language.{_∈_}
 use Rattle.scope_graph.specs.Listing.{Pairwise}
 use Rattle.text_field.specs.Outcome.{done}
-use Rattle.scope_graph.proofs.Lists.{here, there, and-both, or-left, or-right}
+use Rattle.scope_graph.proofs.Lists.{here, there}
 use Rattle.graph_file.specs.Format.{name, Item, field, sections, sectionAt, declarations, hasKinds, declarationShape, shapesOf, shapeAt, declarationSection}
-use Rattle.graph_file.specs.Admission.{Row, value, keyLess}
+use Rattle.graph_file.specs.Admission.{Row, value}
 use Rattle.graph_file.specs.Line.{itemFormed, fieldFormed}
 use Rattle.graph_file.specs.File.{formIn, readCells}
 use Rattle.graph_file.specs.Decode.{rowsIn}
 use Rattle.graph_file.specs.NameOrder.{nameIn, NamedBefore, DeclaredBefore, DeclarationsAscend, ReadDeclarationsAscend}
 use Rattle.graph_file.proofs.DecodeWritten.{read-admitted}
-use Rattle.graph_file.proofs.DecodeRows.{KeyBefore, key-before}
+use Rattle.graph_file.proofs.KeyLaws.{KeyBefore, key-before, before-key}
 use Rattle.graph_file.proofs.DecodeTable.{table-ascends}
 use Rattle.graph_file.proofs.DecodeFormed.{items-formed}
 use Rattle.graph_file.proofs.DecodeKinds.{declared-lower}
-
--- what is before by the key passes the test
-before-key : (key : List ℕ) (a b : Row) → KeyBefore key a b → keyLess key a b ≡ true
-unfolding keyLess
-before-key [] a b h = absurd h
-before-key (c ∷ key) a b (inl h) = or-left (ltb (value a c) (value b c)) _ (lt-ltb _ _ h)
-before-key (c ∷ key) a b (inr h) = or-right (ltb (value a c) (value b c)) _ (and-both _ _ (eq-eqb _ _ (h .0)) (before-key key a b (h .1)))
 
 -- two cells in order: the first ones, and where these are equal the second ones
 abbrev CellsLess : ℕ → ℕ → ℕ → ℕ → Type 0

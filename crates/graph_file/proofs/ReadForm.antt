@@ -20,6 +20,7 @@ use Rattle.graph_file.specs.File.{Stage, isEmpty, throughSections, throu
 use Rattle.graph_file.specs.Table.{itemsAt, namesPlace, rowsAt, lettersAt, pairsAt, rowsBack, sofarAt}
 use Rattle.graph_file.specs.Reader.{lineOutcome, stageAt, partOutcome, Placed, SomeTaken, roomBefore}
 use Rattle.graph_file.proofs.FormatLaws.{names-items}
+use Rattle.graph_file.proofs.TakenLaws.{noCounts}
 use Rattle.graph_file.proofs.LineLaws.{outcome-ok, outcome-not}
 use Rattle.graph_file.proofs.ReadLaws.{part-refused, part-done}
 use Rattle.graph_file.proofs.SectionLaws.{start-stage, placed-start}
@@ -89,9 +90,6 @@ sofar-set k n t c x p =
     }
 
 -- before any section
-abbrev noCounts : Counts
-noCounts = record { labels = 0; pairs = 0; scopes = 0; rows = 0 }
-
 pub begin-taken : (text : List ℕ) → SomeTaken 0 text (record { refusal = 0; next = 0; cells = 1; counts = noCounts })
 unfolding roomBefore
 begin-taken text = record { inside = omega arith; room = omega arith; placed = placed-start; lines = omega arith }

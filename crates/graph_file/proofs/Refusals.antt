@@ -8,7 +8,7 @@ use Rattle.text_field.specs.Number.{digitsOf, numberText, growing, digitsFrom, 
 use Rattle.text_field.specs.Name.{allNameBytes, isName, packed, packHigh, packLow, bytesOf, beforeZero, nameText, isNameCells, nameRun, nameOf, nameHere, nameMeaning}
 use Rattle.graph_file.specs.Format.{labels, pairs, transitions, accepts, scopeCount, edges, declarations, openPairs, queries, sections, sectionAt, hasKinds, hasTurns, edgeShape, declarationShape, queryShape, shapesOf, shapeAt, valuesOf, everyItem}
 use Rattle.text_field.specs.Outcome.{Outcome, refused, done, andThen, refuseIf}
-use Rattle.graph_file.specs.Admission.{nothing, begun, joined, counted, taken, contentInRange, itemInRange, inRange, rowOf, keyLess, listed, ascends, sameSource, standsAbove, repeats, follows, unless, admission}
+use Rattle.graph_file.specs.Admission.{nothing, begun, joined, counted, taken, contentInRange, itemInRange, inRange, rowOf, keyLess, listed, ascends, sameSource, sameEdge, repeats, follows, unless, admission}
 use Rattle.graph_file.specs.Line.{numberTaken, nameTaken, byteTaken, place, endTaken, readField, startsWith, readItem, placeOf, readItems, endByte, fieldText, itemText, lineText, fieldFormed, itemFormed, sparesPlace, idleZero, idleZeros, formed}
 use Rattle.graph_file.specs.Order.{someRow, sameEnds, gap, pairFault, orderFault}
 use Rattle.graph_file.specs.File.{ifAdmitted, afterRow, oneRow, throughRows, afterNames, enough, throughSection, isEmpty, throughSections, throughSome, ordered, atStart, whole, readNames, rowFollows, readRow, reading, formShown, formAfter, turnsIn, kindsIn, formWith, formOf, readStage, madeOf, readCells, writeNames, cellsFollow, writeRow, writing, hasForm, formIn, writeText}
@@ -62,7 +62,7 @@ texts =
     []
 
 pub reader-refuses : map (λ (t : List ℕ). refusalOf (readCells t)) texts ≡ 2 ∷ 0 ∷ 2 ∷ 2 ∷ 2 ∷ 2 ∷ 3 ∷ 3 ∷ 2 ∷ 5 ∷ 0 ∷ 5 ∷ 4 ∷ 2 ∷ 2 ∷ 4 ∷ 3 ∷ 4 ∷ 6 ∷ 6 ∷ 6 ∷ 0 ∷ 3 ∷ 3 ∷ 0 ∷ 3 ∷ 0 ∷ 3 ∷ 2 ∷ 0 ∷ 2 ∷ 4 ∷ 0 ∷ 4 ∷ 0 ∷ 3 ∷ 2 ∷ []
-unfolding labels pairs transitions accepts scopeCount edges declarations openPairs queries sections sectionAt hasKinds hasTurns edgeShape declarationShape queryShape shapesOf shapeAt andThen refuseIf nothing begun joined counted taken everyItem contentInRange itemInRange inRange keyLess listed ascends sameSource standsAbove repeats follows unless admission someRow sameEnds gap pairFault orderFault ifAdmitted afterRow oneRow throughRows afterNames enough throughSection isEmpty throughSections ordered atStart whole madeOf within isDigit isCapital isLower isNameByte numberTaken numberMeaning nameTaken nameMeaning byteTaken place endTaken readField startsWith readItem placeOf readItems growing digitsFrom numberHere packed packHigh packLow nameRun nameOf nameHere readNames rowFollows readRow reading throughSome formShown formAfter turnsIn kindsIn formWith formOf readStage readCells refusalOf
+unfolding labels pairs transitions accepts scopeCount edges declarations openPairs queries sections sectionAt hasKinds hasTurns edgeShape declarationShape queryShape shapesOf shapeAt andThen refuseIf nothing begun joined counted taken everyItem contentInRange itemInRange inRange keyLess listed ascends sameSource sameEdge repeats follows unless admission someRow sameEnds gap pairFault orderFault ifAdmitted afterRow oneRow throughRows afterNames enough throughSection isEmpty throughSections ordered atStart whole madeOf within isDigit isCapital isLower isNameByte numberTaken numberMeaning nameTaken nameMeaning byteTaken place endTaken readField startsWith readItem placeOf readItems growing digitsFrom numberHere packed packHigh packLow nameRun nameOf nameHere readNames rowFollows readRow reading throughSome formShown formAfter turnsIn kindsIn formWith formOf readStage readCells refusalOf
 reader-refuses = refl
 
 abbrev tables : List (List ℕ)
@@ -86,7 +86,7 @@ tables =
     []
 
 pub writer-refuses : map (λ (t : List ℕ). refusalOf (writeText t)) tables ≡ 2 ∷ 2 ∷ 2 ∷ 0 ∷ 2 ∷ 2 ∷ 2 ∷ 2 ∷ 2 ∷ 3 ∷ 5 ∷ 3 ∷ 2 ∷ 4 ∷ 6 ∷ 2 ∷ []
-unfolding labels pairs transitions accepts scopeCount edges declarations openPairs queries sections sectionAt hasKinds hasTurns edgeShape declarationShape queryShape shapesOf shapeAt andThen refuseIf nothing begun joined counted taken everyItem contentInRange itemInRange inRange keyLess listed ascends sameSource standsAbove repeats follows unless admission someRow sameEnds gap pairFault orderFault ifAdmitted afterRow oneRow throughRows afterNames enough throughSection isEmpty throughSections ordered atStart whole madeOf within isDigit isCapital isLower isNameByte digitsOf numberText allNameBytes isName packed packHigh packLow bytesOf beforeZero nameText isNameCells endByte fieldText itemText lineText fieldFormed itemFormed valuesOf sparesPlace idleZero idleZeros formed rowOf writeNames cellsFollow writeRow writing hasForm formIn writeText refusalOf
+unfolding labels pairs transitions accepts scopeCount edges declarations openPairs queries sections sectionAt hasKinds hasTurns edgeShape declarationShape queryShape shapesOf shapeAt andThen refuseIf nothing begun joined counted taken everyItem contentInRange itemInRange inRange keyLess listed ascends sameSource sameEdge repeats follows unless admission someRow sameEnds gap pairFault orderFault ifAdmitted afterRow oneRow throughRows afterNames enough throughSection isEmpty throughSections ordered atStart whole madeOf within isDigit isCapital isLower isNameByte digitsOf numberText allNameBytes isName packed packHigh packLow bytesOf beforeZero nameText isNameCells endByte fieldText itemText lineText fieldFormed itemFormed valuesOf sparesPlace idleZero idleZeros formed rowOf writeNames cellsFollow writeRow writing hasForm formIn writeText refusalOf
 writer-refuses = refl
 
 -- the same with kinds (02, K8)
@@ -113,7 +113,7 @@ kindTexts =
     []
 
 pub reader-refuses-kinds : map (λ (t : List ℕ). refusalOf (readCells t)) kindTexts ≡ 0 ∷ 2 ∷ 2 ∷ 3 ∷ 3 ∷ 2 ∷ 2 ∷ 2 ∷ 2 ∷ 2 ∷ 2 ∷ 0 ∷ 4 ∷ 0 ∷ 4 ∷ 0 ∷ 2 ∷ 2 ∷ []
-unfolding labels pairs transitions accepts scopeCount edges declarations openPairs queries sections sectionAt hasKinds hasTurns edgeShape declarationShape queryShape shapesOf shapeAt andThen refuseIf nothing begun joined counted taken everyItem contentInRange itemInRange inRange keyLess listed ascends sameSource standsAbove repeats follows unless admission someRow sameEnds gap pairFault orderFault ifAdmitted afterRow oneRow throughRows afterNames enough throughSection isEmpty throughSections ordered atStart whole madeOf within isDigit isCapital isLower isNameByte numberTaken numberMeaning nameTaken nameMeaning byteTaken place endTaken readField startsWith readItem placeOf readItems growing digitsFrom numberHere packed packHigh packLow nameRun nameOf nameHere readNames rowFollows readRow reading throughSome formShown formAfter turnsIn kindsIn formWith formOf readStage readCells refusalOf
+unfolding labels pairs transitions accepts scopeCount edges declarations openPairs queries sections sectionAt hasKinds hasTurns edgeShape declarationShape queryShape shapesOf shapeAt andThen refuseIf nothing begun joined counted taken everyItem contentInRange itemInRange inRange keyLess listed ascends sameSource sameEdge repeats follows unless admission someRow sameEnds gap pairFault orderFault ifAdmitted afterRow oneRow throughRows afterNames enough throughSection isEmpty throughSections ordered atStart whole madeOf within isDigit isCapital isLower isNameByte numberTaken numberMeaning nameTaken nameMeaning byteTaken place endTaken readField startsWith readItem placeOf readItems growing digitsFrom numberHere packed packHigh packLow nameRun nameOf nameHere readNames rowFollows readRow reading throughSome formShown formAfter turnsIn kindsIn formWith formOf readStage readCells refusalOf
 reader-refuses-kinds = refl
 
 abbrev kindTables : List (List ℕ)
@@ -133,5 +133,5 @@ kindTables =
     []
 
 pub writer-refuses-kinds : map (λ (t : List ℕ). refusalOf (writeText t)) kindTables ≡ 0 ∷ 2 ∷ 2 ∷ 0 ∷ 0 ∷ 2 ∷ 2 ∷ 2 ∷ 0 ∷ 2 ∷ 0 ∷ 4 ∷ []
-unfolding labels pairs transitions accepts scopeCount edges declarations openPairs queries sections sectionAt hasKinds hasTurns edgeShape declarationShape queryShape shapesOf shapeAt andThen refuseIf nothing begun joined counted taken everyItem contentInRange itemInRange inRange keyLess listed ascends sameSource standsAbove repeats follows unless admission someRow sameEnds gap pairFault orderFault ifAdmitted afterRow oneRow throughRows afterNames enough throughSection isEmpty throughSections ordered atStart whole madeOf within isDigit isCapital isLower isNameByte digitsOf numberText allNameBytes isName packed packHigh packLow bytesOf beforeZero nameText isNameCells endByte fieldText itemText lineText fieldFormed itemFormed valuesOf sparesPlace idleZero idleZeros formed rowOf writeNames cellsFollow writeRow writing hasForm formIn writeText refusalOf
+unfolding labels pairs transitions accepts scopeCount edges declarations openPairs queries sections sectionAt hasKinds hasTurns edgeShape declarationShape queryShape shapesOf shapeAt andThen refuseIf nothing begun joined counted taken everyItem contentInRange itemInRange inRange keyLess listed ascends sameSource sameEdge repeats follows unless admission someRow sameEnds gap pairFault orderFault ifAdmitted afterRow oneRow throughRows afterNames enough throughSection isEmpty throughSections ordered atStart whole madeOf within isDigit isCapital isLower isNameByte digitsOf numberText allNameBytes isName packed packHigh packLow bytesOf beforeZero nameText isNameCells endByte fieldText itemText lineText fieldFormed itemFormed valuesOf sparesPlace idleZero idleZeros formed rowOf writeNames cellsFollow writeRow writing hasForm formIn writeText refusalOf
 writer-refuses-kinds = refl

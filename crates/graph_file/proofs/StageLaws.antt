@@ -101,6 +101,11 @@ module _ (k n : ℕ) (t : List ℕ) (row : Row) (c : Counts) (p : Placed k n c) 
   unfolding grown
   grown-row = row-new t n k row (drop (n + 6) t) fits whole
 
+  -- the section's rows so far are kept
+  pub grown-own : rowsBack (c .rows) n (grown k n t row) ≡ rowsBack (c .rows) n t
+  unfolding grown
+  grown-own = own-kept t n ((k ∷ row) ++ drop (n + 6) t) (c .rows) n fits (omega arith) (omega (arith, p .rowed))
+
   pub grown-kept : sofarAt (grown k n t row) n c ≡ sofarAt t n c
   unfolding grown
   grown-kept = sofar-kept k n t ((k ∷ row) ++ drop (n + 6) t) c p fits

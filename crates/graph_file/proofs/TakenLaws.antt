@@ -15,6 +15,10 @@ use Rattle.graph_file.specs.Admission.{Row, value, rowOf, counted, joine
 use Rattle.graph_file.specs.Table.{rowsAt, lettersAt, pairsAt, rowsBack, sofarAt}
 use Rattle.graph_file.specs.Reader.{Placed, countsAfter}
 
+-- the counts before any row
+abbrev pub noCounts : Counts
+noCounts = record { labels = 0; pairs = 0; scopes = 0; rows = 0 }
+
 -- one row more, at the end
 pub rows-more : (m f : ℕ) (t : List ℕ) → rowsAt (suc m) (drop f t) ≡ rowsAt m (drop f t) ++ (rowOf (drop (f + 6 * m) t) ∷ [])
 unfolding rowsAt

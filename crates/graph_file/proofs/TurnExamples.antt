@@ -8,7 +8,7 @@ use Rattle.text_field.specs.Number.{digitsOf, numberText, growing, digitsFrom, 
 use Rattle.text_field.specs.Name.{allNameBytes, isName, packed, packHigh, packLow, bytesOf, beforeZero, nameText, isNameCells, nameRun, nameOf, nameHere, nameMeaning}
 use Rattle.graph_file.specs.Format.{labels, pairs, transitions, accepts, scopeCount, edges, declarations, openPairs, queries, sections, sectionAt, hasKinds, hasTurns, edgeShape, declarationShape, queryShape, shapesOf, shapeAt, valuesOf, everyItem}
 use Rattle.text_field.specs.Outcome.{done, andThen, refuseIf}
-use Rattle.graph_file.specs.Admission.{nothing, begun, joined, counted, taken, contentInRange, itemInRange, inRange, rowOf, keyLess, listed, ascends, sameSource, standsAbove, repeats, follows, unless, admission}
+use Rattle.graph_file.specs.Admission.{nothing, begun, joined, counted, taken, contentInRange, itemInRange, inRange, rowOf, keyLess, listed, ascends, sameSource, sameEdge, repeats, follows, unless, admission}
 use Rattle.graph_file.specs.Line.{numberTaken, nameTaken, byteTaken, place, endTaken, readField, startsWith, readItem, placeOf, readItems, endByte, fieldText, itemText, lineText, fieldFormed, itemFormed, sparesPlace, idleZero, idleZeros, formed}
 use Rattle.graph_file.specs.Order.{someRow, sameEnds, gap, pairFault, orderFault}
 use Rattle.graph_file.specs.File.{ifAdmitted, afterRow, oneRow, throughRows, afterNames, enough, throughSection, isEmpty, throughSections, throughSome, ordered, atStart, whole, readNames, rowFollows, readRow, reading, formShown, formAfter, turnsIn, kindsIn, formWith, formOf, readStage, madeOf, readCells, writeNames, cellsFollow, writeRow, writing, hasForm, formIn, writeText}
@@ -20,9 +20,9 @@ abbrev pub turnsCells : List ℕ
 turnsCells = 2 ∷ 0 ∷ 73 ∷ 0 ∷ 0 ∷ 0 ∷ 0 ∷ 0 ∷ 80 ∷ 0 ∷ 0 ∷ 0 ∷ 0 ∷ 2 ∷ 0 ∷ 0 ∷ 0 ∷ 0 ∷ 0 ∷ 3 ∷ 0 ∷ 0 ∷ 0 ∷ 0 ∷ 0 ∷ 4 ∷ 3 ∷ 0 ∷ 0 ∷ 0 ∷ 0 ∷ 5 ∷ 0 ∷ 0 ∷ 2 ∷ 1 ∷ 0 ∷ 5 ∷ 0 ∷ 0 ∷ 1 ∷ 2 ∷ 0 ∷ 5 ∷ 1 ∷ 1 ∷ 0 ∷ 0 ∷ 0 ∷ 6 ∷ 1 ∷ 118 ∷ 7525362636775489536 ∷ 0 ∷ 5 ∷ 6 ∷ 2 ∷ 99 ∷ 7525362636775489536 ∷ 0 ∷ 7 ∷ 8 ∷ 0 ∷ 118 ∷ 7525362636775489536 ∷ 0 ∷ 0 ∷ []
 
 pub turns-read : readCells turnsText ≡ done turnsCells
-unfolding labels pairs transitions accepts scopeCount edges declarations openPairs queries sections sectionAt hasKinds hasTurns edgeShape declarationShape queryShape shapesOf shapeAt andThen refuseIf nothing begun joined counted taken everyItem contentInRange itemInRange inRange keyLess listed ascends sameSource standsAbove repeats follows unless admission someRow sameEnds gap pairFault orderFault ifAdmitted afterRow oneRow throughRows afterNames enough throughSection isEmpty throughSections ordered atStart whole madeOf within isDigit isCapital isLower isNameByte numberTaken numberMeaning nameTaken nameMeaning byteTaken place endTaken readField startsWith readItem placeOf readItems growing digitsFrom numberHere packed packHigh packLow nameRun nameOf nameHere readNames rowFollows readRow reading throughSome formShown formAfter turnsIn kindsIn formWith formOf readStage readCells
+unfolding labels pairs transitions accepts scopeCount edges declarations openPairs queries sections sectionAt hasKinds hasTurns edgeShape declarationShape queryShape shapesOf shapeAt andThen refuseIf nothing begun joined counted taken everyItem contentInRange itemInRange inRange keyLess listed ascends sameSource sameEdge repeats follows unless admission someRow sameEnds gap pairFault orderFault ifAdmitted afterRow oneRow throughRows afterNames enough throughSection isEmpty throughSections ordered atStart whole madeOf within isDigit isCapital isLower isNameByte numberTaken numberMeaning nameTaken nameMeaning byteTaken place endTaken readField startsWith readItem placeOf readItems growing digitsFrom numberHere packed packHigh packLow nameRun nameOf nameHere readNames rowFollows readRow reading throughSome formShown formAfter turnsIn kindsIn formWith formOf readStage readCells
 turns-read = refl
 
 pub turns-written : writeText turnsCells ≡ done turnsText
-unfolding labels pairs transitions accepts scopeCount edges declarations openPairs queries sections sectionAt hasKinds hasTurns edgeShape declarationShape queryShape shapesOf shapeAt andThen refuseIf nothing begun joined counted taken everyItem contentInRange itemInRange inRange keyLess listed ascends sameSource standsAbove repeats follows unless admission someRow sameEnds gap pairFault orderFault ifAdmitted afterRow oneRow throughRows afterNames enough throughSection isEmpty throughSections ordered atStart whole madeOf within isDigit isCapital isLower isNameByte digitsOf numberText allNameBytes isName packed packHigh packLow bytesOf beforeZero nameText isNameCells endByte fieldText itemText lineText fieldFormed itemFormed valuesOf sparesPlace idleZero idleZeros formed rowOf writeNames cellsFollow writeRow writing hasForm formIn writeText
+unfolding labels pairs transitions accepts scopeCount edges declarations openPairs queries sections sectionAt hasKinds hasTurns edgeShape declarationShape queryShape shapesOf shapeAt andThen refuseIf nothing begun joined counted taken everyItem contentInRange itemInRange inRange keyLess listed ascends sameSource sameEdge repeats follows unless admission someRow sameEnds gap pairFault orderFault ifAdmitted afterRow oneRow throughRows afterNames enough throughSection isEmpty throughSections ordered atStart whole madeOf within isDigit isCapital isLower isNameByte digitsOf numberText allNameBytes isName packed packHigh packLow bytesOf beforeZero nameText isNameCells endByte fieldText itemText lineText fieldFormed itemFormed valuesOf sparesPlace idleZero idleZeros formed rowOf writeNames cellsFollow writeRow writing hasForm formIn writeText
 turns-written = refl

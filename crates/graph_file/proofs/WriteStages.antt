@@ -2,7 +2,7 @@
 use Prim.Native.Nat.{ℕ, zero, suc, _+_, _-_, _*_, _≤_, _<_}
 use mathlib.Core.Path.{_≡_, refl, sym, ap, _∙_}
 use mathlib.Core.List.{List, [], _∷_}
-use mathlib.Core.Bool.{Bool, true, false}
+use mathlib.Core.Bool.{Bool, true, false, not, _&&_}
 use native.Mathlib.Omega.{arith}
 use native.Mathlib.Numerals.{add-one}
 use lib.Dec.{eqb, ltb, leb}
@@ -13,7 +13,7 @@ use Rattle.text_field.specs.Buffer.{Buf, puts}
 use Rattle.text_field.proofs.ByteLaws.{clash}
 use Rattle.graph_file.specs.declared.rows.Counts.{Counts}
 use Rattle.graph_file.specs.declared.rows.Part.{Part}
-use Rattle.graph_file.specs.Format.{sectionAt, shapeAt}
+use Rattle.graph_file.specs.Format.{Item, sectionAt, shapeAt}
 use Rattle.text_field.specs.Outcome.{Outcome, refused, done, andThen, refuseIf}
 use Rattle.graph_file.specs.Admission.{Row, value, rowOf, nothing, begun, admission}
 use Rattle.graph_file.specs.Line.{lineText, formed}
@@ -21,11 +21,11 @@ use Rattle.graph_file.specs.Order.{orderFault}
 use Rattle.graph_file.specs.File.{Piece, Stage, ifAdmitted, afterRow, oneRow, throughRows, afterNames, enough, throughSection, throughSections, atStart, ordered, whole, writeNames, cellsFollow, writeRow, writing, hasForm, formIn}
 use Rattle.graph_file.specs.Table.{itemsAt, namesPlace, rowPlace, rowsAt, lettersAt, pairsAt, rowsBack, sofarAt}
 use Rattle.graph_file.specs.Reader.{Placed, countsAfter, roomBefore}
-use Rattle.graph_file.specs.Writer.{rowFormed, Poured, stageFrom, poured, pour, pouredAt, refusedOrPoured, partWritten, countsBegun, noCounts}
+use Rattle.graph_file.specs.Writer.{Poured, stageFrom, poured, pour, pouredAt, refusedOrPoured, partWritten, countsBegun}
 use Rattle.graph_file.proofs.ReadLaws.{admitted-room}
 use Rattle.graph_file.proofs.FormatLaws.{names-items, row-items}
 use Rattle.graph_file.proofs.WriteLaws.{text-bytes}
-use Rattle.graph_file.proofs.TakenLaws.{sofar-taken}
+use Rattle.graph_file.proofs.TakenLaws.{noCounts, sofar-taken}
 use Rattle.graph_file.proofs.SectionLaws.{placed-fresh, room-next, room-below, sections-over, sections-left}
 use Rattle.graph_file.proofs.PourLaws.{Onward, onward-then, onward-rows, onward-enough, onward-sections, onward-ordered, rows-on, rows-off, pour-from, pour-then}
 
@@ -78,7 +78,10 @@ pub pour-here : (t : List ℕ) (p : ℕ) (c : Counts) (out : List ℕ) (n : ℕ)
 unfolding pour poured pouredAt stageFrom puts
 pour-here t p c out n = refl
 
--- six cells stand at a place and can be written, or not
+-- Do six cells stand there, and are they a row that can be written?
+unfoldable pub rowFormed : List Item → List ℕ → Bool
+rowFormed items cells = not (ltb (length cells) 6) && formed items (rowOf cells)
+
 pub row-short : (o : ℕ) (t : List ℕ) (p : ℕ) → length t < p + 6 → false ≡ rowFormed (itemsAt o) (drop p t)
 unfolding rowFormed
 row-short o t p h = let e : length (drop p t) ≡ length t - p = length-drop p t in sym (rw (lt-ltb (length (drop p t)) 6 (omega arith)))

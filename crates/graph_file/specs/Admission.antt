@@ -1,5 +1,5 @@
--- Whether a row is admitted after those above it: refusals 5, 3 and 4 (document 01, "Who can cause
--- a refusal"). One definition serves the reader and the writer. Assumes nothing: these are
+-- Whether a row is admitted after the rows so far: refusals 5, 3 and 4 (document 01, "Who can cause
+-- a refusal"). The reader and the writer share this definition. Assumes nothing: these are
 -- definitions.
 use Prim.Native.Nat.{ℕ, zero, suc, _+_}
 use mathlib.Core.List.{List, [], _∷_, _++_}
@@ -12,7 +12,7 @@ use Rattle.graph_file.specs.Format.{Content, state, scope, mark, count, 
 abbrev pub Row : Type 0
 Row = List ℕ
 
--- the value at a place
+-- the row's value at a place
 abbrev pub value : Row → ℕ → ℕ
 value row c = getD row c 0
 
@@ -24,9 +24,9 @@ rowOf cells = getD cells 1 0 ∷ getD cells 2 0 ∷ getD cells 3 0 ∷ getD cell
 abbrev pub blank : Row
 blank = 0 ∷ 0 ∷ 0 ∷ 0 ∷ 0 ∷ []
 
--- What the rows above leave for the next one: the labels' letters in sequence, the order pairs'
--- rows, the count of scopes (0 before its row), how many rows this section has so far, and its own
--- rows, the last of them first.
+-- What is known when the next row comes: the labels' letters in sequence, the rows of the order
+-- pairs, the count of scopes (0 before its row), how many rows this section has so far, and these
+-- rows themselves, last first.
 pub record Sofar : Type 0 where
   pub letters : List ℕ
   pub pairs : List Row
@@ -42,16 +42,17 @@ nothing = record { letters = []; pairs = []; scopes = 0; rows = 0; own = [] }
 unfoldable pub begun : Sofar → Sofar
 begun st = record { letters = st .letters; pairs = st .pairs; scopes = st .scopes; rows = 0; own = [] }
 
--- a row joins the rows of a section
+-- a list with one more element at its end, if the test holds
 unfoldable pub joined : {A : Type 0} → Bool → List A → A → List A
 joined true xs x = xs ++ (x ∷ [])
 joined false xs x = xs
 
+-- the new number if the test holds, else the old one
 unfoldable pub counted : Bool → ℕ → ℕ → ℕ
 counted true new old = new
 counted false new old = old
 
--- the row is taken into section k
+-- what is known after a row of section k was admitted
 unfoldable pub taken : ℕ → Sofar → Row → Sofar
 taken k st row = record {
   letters = joined (eqb k labelSection) (st .letters) (value row 0);
@@ -78,7 +79,7 @@ contentInRange labels scopes kind v = true
 contentInRange labels scopes plain v = true
 contentInRange labels scopes turn v = ltb v turnCount
 
--- of an item of a line, whose value the row holds
+-- Is an item's value, which the row holds, in its range? A fixed byte has none.
 unfoldable pub itemInRange : ℕ → ℕ → Row → Item → Bool
 itemInRange labels scopes row (byte b) = true
 itemInRange labels scopes row (field k c) = contentInRange labels scopes k (value row c)
@@ -87,7 +88,7 @@ itemInRange labels scopes row (field k c) = contentInRange labels scopes k (valu
 unfoldable pub inRange : ℕ → ℕ → List Item → Row → Bool
 inRange labels scopes items row = everyItem (itemInRange labels scopes row) items
 
--- Does the first row stand before the second by the key: less at the first place where they differ?
+-- Does the first row stand before the second by the key: is it less where they first differ?
 unfoldable pub keyLess : List ℕ → Row → Row → Bool
 keyLess [] a b = false
 keyLess (c ∷ key) a b = ltb (value a c) (value b c) || (eqb (value a c) (value b c) && keyLess key a b)
@@ -97,7 +98,7 @@ unfoldable pub listed : ℕ → List ℕ → Bool
 listed x [] = false
 listed x (y ∷ ys) = eqb y x || listed x ys
 
--- Does the row ascend from the last one above it? The first row always does.
+-- Does the row ascend from the last one before it? The first row always does.
 unfoldable pub ascends : List ℕ → List Row → Row → Bool
 ascends key [] row = true
 ascends key (last ∷ above) row = keyLess key last row
@@ -110,32 +111,26 @@ sameSource a b = eqb (value a 0) (value b 0) && eqb (value a 1) (value b 1)
 unfoldable pub sameEdge : Row → Row → Bool
 sameEdge a b = sameSource a b && eqb (value a 2) (value b 2)
 
--- Is the row's edge among those directly above that leave the same scope by the same label?
-unfoldable pub standsAbove : List Row → Row → Bool
-standsAbove [] row = false
-standsAbove (a ∷ above) row = sameSource a row && (eqb (value a 2) (value row 2) || standsAbove above row)
-
--- Does the edge row repeat one of those above it (02, K12)? In rows that ascend, those of one scope
--- and label stand together, lower turns above higher ones, so that a row of turn 0 repeats none.
--- What this comes to is said in specs/Formed.
+-- Does one of the rows so far have the row's from, label and to, at whatever turn (02, K12)?
 unfoldable pub repeats : List Row → Row → Bool
-repeats own row = ltb 0 (value row 3) && standsAbove own row
+repeats [] row = false
+repeats (above ∷ own) row = sameEdge above row || repeats own row
 
--- Does the row follow those above as its section asks: by its key, the letters listed so far and
--- the section's own rows?
+-- May the row follow the rows so far in its section, given the section's key, the letters listed so
+-- far and the section's own rows?
 unfoldable pub follows : Sequence → List ℕ → List ℕ → List Row → Row → Bool
 follows ascending key letters own row = ascends key own row
 follows apart key letters own row = ascends key own row && not (repeats own row)
 follows once key letters own row = not (listed (value row 0) letters)
 follows free key letters own row = true
 
+-- the number, unless the test holds
 unfoldable pub unless : Bool → ℕ → ℕ → ℕ
 unless true n otherwise = otherwise
 unless false n otherwise = n
 
--- A row of section k in a file of a form, after the rows so far: refused by 5 where the section is
--- full, by 3 where a value is out of range, by 4 where it repeats or does not ascend, in this
--- sequence; 0 where it is admitted.
+-- Tests a row of section k, in a file of a form, after the rows so far: 5 if the section is full,
+-- then 3 if a value is out of range, then 4 if the row may not follow; 0 if it is admitted.
 unfoldable pub admission : ℕ → ℕ → Sofar → Row → ℕ
 admission form k st row =
     unless (ltb (st .rows) (sectionAt k .most)) 5

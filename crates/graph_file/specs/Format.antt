@@ -141,8 +141,8 @@ countShape = record {
 }
 
 -- `from label turn to`, or `from label to` without turns: an edge, sorted by from, label, turn and
--- to. Its turn is the value 3: the line without turns leaves that place idle, so it is 0 there (02,
--- K12: the old names line means turn 0 for all).
+-- to. Its turn is the value 3. A line without turns leaves that place idle, so every turn is 0 there
+-- (02, K12).
 unfoldable pub edges : Section
 edges = record { least = 0; most = 512; key = 0 ∷ 1 ∷ 3 ∷ 2 ∷ []; sequence = apart }
 

@@ -1,7 +1,8 @@
--- Which graph tables are written, told by the rows of their sections: the other way round than
--- specs/Accepted. A table is written exactly if it is formed, and its text is then read back as the
--- table (document 01, "Who can cause a refusal"; 02, K8, K9 and K12). These are the statements;
--- their proofs are in proofs/. Assumes nothing: these are definitions.
+-- Which graph tables can be written, in terms of their sections' rows. (specs/Accepted says what
+-- holds of a table that was read or written; this is the converse.) A table can be written exactly
+-- if it is formed, and its text then reads back as the table (document 01, "Who can cause a
+-- refusal"; 02, K8, K9 and K12). These are the statements; their proofs are in proofs/. Assumes
+-- nothing: these are definitions.
 use Prim.Native.Nat.{ℕ, zero, suc, _≤_, _<_}
 use mathlib.Core.Path.{_≡_}
 use mathlib.Core.List.{List, [], _∷_, _++_, map}
@@ -16,18 +17,18 @@ use Rattle.scope_graph.specs.Computed.{keep}
 use Rattle.text_field.specs.Outcome.{refused, done}
 use Rattle.text_field.specs.Answer.{answer}
 use Rattle.graph_file.specs.Format.{plainKind, Item, Sequence, ascending, apart, once, free, sectionAt, shapeAt, oldForm, kindForm, turnForm, labelSection, pairSection, countSection, edgeSection, declarationSection, querySection, textBytes}
-use Rattle.graph_file.specs.Admission.{Row, value, blank, inRange, keyLess, sameEdge, repeats}
+use Rattle.graph_file.specs.Admission.{Row, value, blank, inRange, keyLess, sameEdge}
 use Rattle.graph_file.specs.Line.{formed}
 use Rattle.graph_file.specs.Order.{someRow, orderFault}
 use Rattle.graph_file.specs.File.{readCells, formIn, writeText}
 use Rattle.graph_file.specs.Decode.{rowsIn}
 
--- the cells of rows of section k: the section's number before the values of each
+-- the cells of section k's rows: for each row the section's number, then its values
 unfoldable pub cellsOf : ℕ → List Row → List ℕ
 cellsOf k [] = []
 cellsOf k (row ∷ rows) = k ∷ (row ++ cellsOf k rows)
 
--- the cells of `left` sections from section k on, in turn, by each section's rows
+-- the cells of `left` sections in turn, from section k on, given each section's rows
 unfoldable pub cellsFrom : ℕ → ℕ → (ℕ → List Row) → List ℕ
 cellsFrom zero k rows = []
 cellsFrom (suc left) k rows = cellsOf k (rows k) ++ cellsFrom left (suc k) rows
@@ -36,54 +37,48 @@ cellsFrom (suc left) k rows = cellsOf k (rows k) ++ cellsFrom left (suc k) rows
 unfoldable pub tableOf : ℕ → (ℕ → List Row) → List ℕ
 tableOf form rows = form ∷ cellsFrom 9 0 rows
 
--- how many scopes there are, by the one row of the count
+-- how many scopes there are, from the one row of their count
 unfoldable pub scopesIn : (ℕ → List Row) → ℕ
 scopesIn rows = value (getD (rows countSection) 0 blank) 0
 
--- The rows follow one another as their section asks: each stands by the key before all that come
--- later, and where they stand apart no two are one edge; no two have one letter; or they are free.
+-- The rows follow one another as their section asks. If they ascend, each stands before all later
+-- ones by the key; if they also stand apart, no two are the same edge. Labels have different
+-- letters. Rows of other sections are free.
 abbrev pub InTurn : Sequence → List ℕ → List Row → Type 0
 InTurn ascending key rows = Pairwise (λ (a b : Row). keyLess key a b ≡ true) rows
 InTurn apart key rows = Pairwise (λ (a b : Row). keyLess key a b ≡ true) rows × Pairwise (λ (a b : Row). sameEdge a b ≡ false) rows
 InTurn once key rows = Distinct (map (λ (row : Row). value row 0) rows)
 InTurn free key rows = Unit {0}
 
--- The test that looks back through the edge rows (specs/Admission) comes to this: where a row and
--- those above it, the last of them first, ascend by the key of edges, it repeats one exactly if
--- some row above has its from, label and to.
-abbrev pub RepeatsTold : Type 0
-RepeatsTold = (own : List Row) (row : Row) → Pairwise (λ (a b : Row). keyLess (sectionAt edgeSection .key) b a ≡ true) (row ∷ own)
-    → repeats own row ≡ someRow (λ above. sameEdge above row) own
-
--- A row by the items of its line, with so many labels and so many scopes: five values that have a
--- text (no refusal 2), each in its range (no 3).
+-- A row fits the items of its line, with so many labels and scopes: it has five values, they can be
+-- written (no refusal 2), and each is in its range (no 3).
 pub record FormedRow (labels scopes : ℕ) (items : List Item) (row : Row) : Type 0 where
   pub five : length row ≡ 5
   pub formed : formed items row ≡ true
   pub in-range : inRange labels scopes items row ≡ true
 
 -- The rows of section k in a file of a form: each is formed, they follow one another as they must
--- (no 4), and are neither too few (2) nor too many (5).
+-- (no 4), and there are neither too few (2) nor too many (5).
 pub record FormedSection (labels scopes form k : ℕ) (rows : List Row) : Type 0 where
   pub each : (row : Row) → row ∈ rows → FormedRow labels scopes (shapeAt form k .row) row
   pub in-turn : InTurn (sectionAt k .sequence) (sectionAt k .key) rows
   pub least : sectionAt k .least ≤ length rows
   pub most : length rows ≤ sectionAt k .most
 
--- The rows of all sections, in one of the three forms: each section's are formed, by the labels and
--- the scopes that the rows themselves tell, and the order has no fault (no 6).
+-- The rows of all sections, in one of the three forms: each section is formed, with the labels and
+-- scopes that the rows themselves give, and the order has no fault (no 6).
 pub record FormedRows (form : ℕ) (rows : ℕ → List Row) : Type 0 where
   pub known : form ≤ turnForm
   pub sections : (k : ℕ) → k < 9 → FormedSection (length (rows labelSection)) (scopesIn rows) form k (rows k)
   pub order : orderFault (rows pairSection) ≡ false
 
--- A table whose sections stand in turn behind its form, with nothing between or after them, and
--- whose rows are formed in that form.
+-- A table holds its form, then its sections in turn, with nothing between or after them, and its
+-- rows are formed in that form.
 pub record FormedTable (cells : List ℕ) : Type 0 where
   pub in-turn : cells ≡ tableOf (formIn cells) (λ k. rowsIn k cells)
   pub rows : FormedRows (formIn cells) (λ k. rowsIn k cells)
 
--- a formed table is written, and its text is read back as the table
+-- a formed table can be written, and its text reads back as the table
 abbrev pub FormedWritten : Type 0
 FormedWritten = (cells : List ℕ) → FormedTable cells → (text : List ℕ) × (writeText cells ≡ done text) × (readCells text ≡ done cells)
 
@@ -99,9 +94,8 @@ abbrev pub TableFormed : Type 0
 TableFormed = (form : ℕ) (rows : ℕ → List Row) → FormedRows form rows
     → FormedTable (tableOf form rows) × ((k : ℕ) → k < 9 → rowsIn k (tableOf form rows) ≡ rows k)
 
--- Writing a formed table is refused by nothing but 9, and by nothing where as many bytes are lent
--- as a file has at most: in no form is a formed table's text longer; with kinds and turns it has
--- 29,823 at most.
+-- Writing a formed table is refused by nothing but 9, and by nothing at all if the buffer has the
+-- longest file's length. (A formed table's text has at most 29,823 bytes, with kinds and turns.)
 abbrev pub NothingButNine : Type 0
 NothingButNine = (cells : List ℕ) → FormedTable cells → (room n : ℕ) → answer (writeText cells) room ≡ refused n
     → (n ≡ 9) × (room < textBytes)
@@ -110,7 +104,7 @@ NothingButNine = (cells : List ℕ) → FormedTable cells → (room n : ℕ) →
 unfoldable pub otherKind : Row → Bool
 otherKind row = not (eqb (value row 1) plainKind)
 
--- the test of a table that is to have a form without kinds (02, K9)
+-- Does a table have other kinds than `v`, so that a form without kinds cannot show it (02, K9)?
 unfoldable pub otherKinds : List ℕ → Bool
 otherKinds cells = someRow otherKind (rowsIn declarationSection cells) || someRow otherKind (rowsIn querySection cells)
 
@@ -118,7 +112,8 @@ otherKinds cells = someRow otherKind (rowsIn declarationSection cells) || someRo
 unfoldable pub otherTurn : Row → Bool
 otherTurn row = not (eqb (value row 3) 0)
 
--- the test of a table that is to have a form without turns (02, K9 as K12 has it)
+-- Does a table have other turns than 0, so that a form without turns cannot show it (02, K9 with
+-- K12)?
 unfoldable pub otherTurns : List ℕ → Bool
 otherTurns cells = someRow otherTurn (rowsIn edgeSection cells)
 
@@ -126,7 +121,7 @@ otherTurns cells = someRow otherTurn (rowsIn edgeSection cells)
 unfoldable pub inForm : ℕ → List ℕ → List ℕ
 inForm form cells = form ∷ drop 1 cells
 
--- it has the same rows, so all that is decoded of them (specs/Decode) stays
+-- the rows stay the same, and so does all that is decoded from them (specs/Decode)
 abbrev pub RowsStay : Type 0
 RowsStay = (form k : ℕ) (cells : List ℕ) → rowsIn k (inForm form cells) ≡ rowsIn k cells
 
@@ -147,22 +142,22 @@ FormChanged = (cells : List ℕ) → FormedTable cells → FormsOf cells
 unfoldable pub replaced : ℕ → List Row → (ℕ → List Row) → ℕ → List Row
 replaced k new rows j = elim (eqb j k) [ true ↦ new | false ↦ rows j ]
 
--- A section other than the labels and the count may have any other formed rows; the order pairs any
--- without a fault.
+-- The rows of any section but the labels and the count may be replaced by other formed rows; order
+-- pairs only by pairs without a fault.
 abbrev pub SectionReplaced : Type 0
 SectionReplaced = (form : ℕ) (rows : ℕ → List Row) (k : ℕ) (new : List Row) → FormedRows form rows
     → ¬ (k ≡ labelSection) → ¬ (k ≡ countSection)
     → FormedSection (length (rows labelSection)) (scopesIn rows) form k new → (k ≡ pairSection → orderFault new ≡ false)
     → FormedRows form (replaced k new rows)
 
--- May a row join rows that ascend? Where they stand apart, only if it is none of the edges there.
+-- May a row join rows that ascend? Among edges, only if the same edge is not there yet.
 abbrev pub MayJoin : Sequence → Row → List Row → Type 0
 MayJoin ascending row rows = Unit {0}
 MayJoin apart row rows = (a : Row) → a ∈ rows → sameEdge a row ≡ false
 MayJoin once row rows = ⊥
 MayJoin free row rows = ⊥
 
--- A section that ascends may have a formed row more, at its place, while it has room (02, K10).
+-- A section that ascends and is not full may get another formed row at its place (02, K10).
 abbrev pub RowAdded : Type 0
 RowAdded = (labels scopes form k : ℕ) (above below : List Row) (row : Row) → MayJoin (sectionAt k .sequence) row (above ++ below)
     → FormedSection labels scopes form k (above ++ below) → FormedRow labels scopes (shapeAt form k .row) row
@@ -171,7 +166,7 @@ RowAdded = (labels scopes form k : ℕ) (above below : List Row) (row : Row) →
     → ((b : Row) → b ∈ below → keyLess (sectionAt k .key) row b ≡ true)
     → FormedSection labels scopes form k (above ++ (row ∷ below))
 
--- A section that may be empty may have any of its rows less.
+-- A section that may be empty may lose any of its rows.
 abbrev pub RowsKept : Type 0
 RowsKept = (labels scopes form k : ℕ) (test : Row → Bool) (rows : List Row) → sectionAt k .least ≡ 0
     → FormedSection labels scopes form k rows → FormedSection labels scopes form k (keep test rows)

@@ -12,5 +12,6 @@ pub mod NameOrder
 pub mod Accepted
 pub mod Formed
 pub mod Table
+pub mod LookBack
 pub mod Reader
 pub mod Writer

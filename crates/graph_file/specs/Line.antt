@@ -148,8 +148,8 @@ unfoldable pub sparesPlace : ℕ → Item → Bool
 sparesPlace d (byte b) = true
 sparesPlace d (field k c) = ltb d c || leb (c + valuesOf k) d
 
--- A place that every item leaves alone holds 0. So a line without turns can hold no turn but 0 (02,
--- K12: in a graph of the old line any other turn is 2).
+-- A place that every item leaves alone holds 0. So a row whose line shows no turn must have turn 0,
+-- and is refused by 2 if it has another (02, K12).
 unfoldable pub idleZero : List Item → Row → ℕ → Bool
 idleZero items row d = not (everyItem (sparesPlace d) items) || eqb (value row d) 0
 

@@ -1,4 +1,4 @@
-// Whether a row is admitted after those above it.
+// Tests whether a row is admitted after the rows so far: refusals 5, 3 and 4.
 use crate::apart::stands_apart;
 use crate::format::Layout;
 use crate::format::MARKS;
@@ -20,8 +20,9 @@ ghost use lib.ListN.{length, drop};
 ghost use Rattle.graph_file.specs.Format.{sectionAt};
 ghost use Rattle.graph_file.specs.Admission.{rowOf, value, contentInRange, itemInRange, inRange, keyLess, listed, ascends, follows, admission};
 ghost use Rattle.graph_file.specs.Table.{contentOf, itemOf, formatBytes, itemsAt, keyAt, lettersAt, rowsBack, sofarAt, Known};
+ghost use Rattle.graph_file.specs.LookBack.{SortedSofar};
 
-// Is the value in its range, by what its field holds?
+// Is the value in the range of its field's content?
 fn content_in_range(labels: u32, scopes: u64, content: u8, v: u64) -> bool
     ensures answer { λ r. ⌜ r ≡ contentInRange labels scopes (contentOf content) v ⌝ }
 {
@@ -40,7 +41,7 @@ fn content_in_range(labels: u32, scopes: u64, content: u8, v: u64) -> bool
     }
 }
 
-// Is the value that the row holds for the item of a code in its range?
+// Is the row's value for the item with this code in its range?
 fn item_in_range(labels: u32, scopes: u64, x: u8, table: &[u64], p: usize) -> bool
     requires room { ⌜ p + 6 ≤ length (now table) ⌝ }
     ensures answer { λ r. ⌜ r ≡ itemInRange labels scopes (rowOf (drop p (now (table .entry)))) (itemOf x) ⌝ }
@@ -52,7 +53,7 @@ fn item_in_range(labels: u32, scopes: u64, x: u8, table: &[u64], p: usize) -> bo
     content_in_range(labels, scopes, (x - 128) / 8, value_at(table, p, c))
 }
 
-// Is every value of the row in its range, by the items at a place of the format?
+// Is every value of the row in its range? The row's items stand at place o of the format.
 fn in_range(format: &[u8], o: usize, labels: u32, scopes: u64, table: &[u64], p: usize) -> bool
     requires format { ⌜ now format ≡ formatBytes ⌝ }
     requires room { ⌜ p + 6 ≤ length (now table) ⌝ }
@@ -70,7 +71,7 @@ fn in_range(format: &[u8], o: usize, labels: u32, scopes: u64, table: &[u64], p:
     true
 }
 
-// Does the row at place q stand before the one at place p by the key at a place of the format?
+// Does the row at place q stand before the one at place p? The key stands at place o of the format.
 fn key_less(format: &[u8], o: usize, table: &[u64], q: usize, p: usize) -> bool
     requires format { ⌜ now format ≡ formatBytes ⌝ }
     requires room { ⌜ (q + 6 ≤ length (now table)) × (p + 6 ≤ length (now table)) ⌝ }
@@ -94,7 +95,7 @@ fn key_less(format: &[u8], o: usize, table: &[u64], q: usize, p: usize) -> bool
     false
 }
 
-// Does the row at place p ascend from the one before it, if the section has any?
+// Does the row at place p ascend from the one before it? A section's first row does.
 fn ascends(format: &[u8], k: usize, table: &[u64], p: usize, rows: u32) -> bool
     requires format { ⌜ now format ≡ formatBytes ⌝ }
     requires room { ⌜ p + 6 ≤ length (now table) ⌝ }
@@ -107,17 +108,18 @@ fn ascends(format: &[u8], k: usize, table: &[u64], p: usize, rows: u32) -> bool
     key_less(format, key_place(k), table, row_before(p), p)
 }
 
-// Is x no label's letter?
+// Is x the letter of no label so far?
 fn unlisted(table: &[u64], labels: u32, x: u64) -> bool
     ensures answer { λ r. ⌜ r ≡ not (listed x (lettersAt labels (drop 1 (now (table .entry))))) ⌝ }
 {
     label_place(table, labels, x) == labels
 }
 
-// Does the row at place p follow those above as its section asks?
+// May the row at place p follow the section's rows so far?
 fn row_follows(format: &[u8], k: usize, table: &[u64], p: usize, labels: u32, rows: u32) -> bool
     requires format { ⌜ now format ≡ formatBytes ⌝ }
     requires room { ⌜ p + 6 ≤ length (now table) ⌝ }
+    requires sorted { ⌜ SortedSofar k (rowsBack rows p (now table)) ⌝ }
     ensures answer { λ r. ⌜ r ≡ follows (sectionAt k .sequence) (sectionAt k .key)
         (lettersAt labels (drop 1 (now (table .entry)))) (rowsBack rows p (now (table .entry)))
         (rowOf (drop p (now (table .entry)))) ⌝ }
@@ -131,12 +133,13 @@ fn row_follows(format: &[u8], k: usize, table: &[u64], p: usize, labels: u32, ro
     }
 }
 
-// The row at place p as a row of a section, after the rows above: 5, 3 or 4 where it is refused, 0
-// where it is admitted.
+// Tests the row at place p as the next row of a section. Returns 5, 3 or 4 if it is refused, 0 if it
+// is admitted.
 pub fn admitted(format: &[u8], s: Layout, table: &[u64], p: usize, c: Counts) -> u64
     requires format { ⌜ now format ≡ formatBytes ⌝ }
     requires room { ⌜ p + 6 ≤ length (now table) ⌝ }
     requires layout { ⌜ Known s ⌝ }
+    requires sorted { ⌜ SortedSofar (s .section) (rowsBack (c .rows) p (now table)) ⌝ }
     ensures answer { λ r. ⌜ r ≡ admission (s .form) (s .section) (sofarAt (now (table .entry)) p c)
         (rowOf (drop p (now (table .entry)))) ⌝ }
 {

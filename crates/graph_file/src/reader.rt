@@ -1,4 +1,4 @@
-// The file's text read into a table, section by section.
+// Reads a file's text into a table, section by section.
 use crate::admission::admitted;
 use crate::cells::put_row;
 use crate::format::DECLARATIONS;
@@ -25,12 +25,13 @@ ghost use mathlib.Core.List.{List, [], _∷_};
 ghost use Prim.Native.Nat.{ℕ, suc, _+_, _-_, _*_, _≤_};
 ghost use lib.ListN.{length, drop};
 ghost use Rattle.graph_file.specs.Format.{sectionAt, tableCells};
-ghost use Rattle.graph_file.specs.Table.{formatBytes, Known};
+ghost use Rattle.graph_file.specs.Table.{formatBytes, rowsBack, Known};
+ghost use Rattle.graph_file.specs.LookBack.{SortedSofar};
 ghost use Rattle.graph_file.specs.File.{oneRow, throughRows, throughSection, throughSections, throughSome, atStart, rowFollows, reading, turnsIn, formOf, readStage, formIn};
 ghost use Rattle.graph_file.specs.Reader.{stageAt, partOutcome, Placed, RowTaken, RowsTaken, SectionTaken, SomeTaken, RowsRoom, TextRoom};
 
-// One row of a section, at a place of the section's part of the text, written after the table's
-// first n cells.
+// Reads one row of a section, at a place of the section's part of the text, and puts it after the
+// table's first n cells.
 fn read_row(
     format: &[u8],
     s: Layout,
@@ -43,6 +44,7 @@ fn read_row(
     requires format { ⌜ now format ≡ formatBytes ⌝ }
     requires room { ⌜ (n + 6 ≤ length (now table)) × (n ≤ tableCells) × Placed (s .section) n c
         × Known s ⌝ }
+    requires sorted { ⌜ SortedSofar (s .section) (rowsBack (c .rows) n (now table)) ⌝ }
     ensures answer { λ r. ⌜ partOutcome r (now (table .exit)) (now (part .entry))
         ≡ oneRow (reading (s .form)) (s .section) (stageAt (now (table .entry)) n c (drop at (now (part .entry)))) ⌝ }
     ensures taken { λ r. ⌜ (r .refusal ≡ 0 → RowTaken (s .section) n c (r .cells) (r .counts)) ⌝ }
@@ -77,7 +79,7 @@ fn read_row(
     }
 }
 
-// Does a row follow: neither the end of the text nor a lower-case letter?
+// Does a row come next? At the text's end, or at a lower-case letter, none does.
 fn row_comes(part: &[u8], at: usize) -> bool
     ensures answer { λ r. ⌜ r ≡ rowFollows (drop at (now (part .entry))) ⌝ }
 {
@@ -87,7 +89,7 @@ fn row_comes(part: &[u8], at: usize) -> bool
     !is_lower(byte_at(part, at, 0))
 }
 
-// The rows of a section from a place of the section's part of the text on.
+// Reads the rows of a section, from a place of the section's part of the text on.
 fn read_rows(
     format: &[u8],
     s: Layout,
@@ -127,7 +129,7 @@ fn read_rows(
     }
 }
 
-// A place in the text, or its end where the place is past it.
+// The place itself, or the text's end if the place is past it.
 fn clipped(part: &[u8], at: usize) -> usize
     ensures place { λ r. ⌜ (drop r (now (part .entry)) ≡ drop at (now (part .entry)))
         × (r ≤ length (now (part .entry))) ⌝ }
@@ -135,8 +137,8 @@ fn clipped(part: &[u8], at: usize) -> usize
     if at < part.len() { at } else { part.len() }
 }
 
-// Section k, of which the part of the text begins at the names line. Its limit is read from the
-// table of nine, and its places in the format are looked up, once.
+// Reads section k, whose part of the text begins at its names line. The section's limit and its
+// places in the format are looked up once.
 fn read_section(
     format: &[u8],
     form: u64,
@@ -190,8 +192,8 @@ fn read_section(
     }
 }
 
-// The sections from section `first` up to section `last`, each handed the rest of the text from its
-// start, behind what is read above.
+// Reads the sections from `first` up to but without `last`, after the sections above them. Each is
+// handed the rest of the text from its start.
 fn read_some(
     format: &[u8],
     form: u64,
@@ -231,8 +233,9 @@ fn read_some(
     }
 }
 
-// The six sections above the declarations: those above the edges are the same in all forms, and the
-// names line that comes next shows whether there are turns. The table's first cell says so.
+// Reads the six sections above the declarations. The sections above the edges are the same in all
+// forms; the names line of the edges shows whether there are turns, and the table's first cell
+// records it.
 fn read_upper(format: &[u8], text: &[u8], table: &mut [u64]) -> Part
     requires format { ⌜ now format ≡ formatBytes ⌝ }
     requires room { ⌜ TextRoom (now text) (length (now table)) ⌝ }
@@ -264,7 +267,7 @@ fn read_upper(format: &[u8], text: &[u8], table: &mut [u64]) -> Part
     read_some(format, form, EDGES, DECLARATIONS, text, table, above)
 }
 
-// The nine sections: the names line of declarations shows the form where it is not known by then.
+// Reads the nine sections. In a file without turns the names line of declarations shows the form.
 fn read_sections(format: &[u8], text: &[u8], table: &mut [u64]) -> Part
     requires format { ⌜ now format ≡ formatBytes ⌝ }
     requires room { ⌜ TextRoom (now text) (length (now table)) ⌝ }
@@ -296,7 +299,7 @@ fn read_sections(format: &[u8], text: &[u8], table: &mut [u64]) -> Part
     r
 }
 
-// The whole file: its length, its sections, its order.
+// Reads the whole file: tests its length, reads its sections, tests its order.
 pub fn read_whole(text: &[u8], table: &mut [u64]) -> Part
     requires room { ⌜ TextRoom (now text) (length (now table)) ⌝ }
     ensures answer { λ r. ⌜ partOutcome r (now (table .exit)) (now (text .entry))

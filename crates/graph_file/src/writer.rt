@@ -1,4 +1,4 @@
-// A graph table written as the file's text, section by section.
+// Writes a graph table as a file's text, section by section.
 use crate::admission::admitted;
 use crate::cells::copy_bytes;
 use crate::format::FORMAT;
@@ -24,7 +24,8 @@ ghost use Prim.Native.Nat.{suc, _+_, _*_, _≤_};
 ghost use lib.ListN.{length, drop};
 ghost use Rattle.graph_file.specs.Format.{sectionAt, tableCells, textBytes};
 ghost use Rattle.graph_file.specs.Admission.{nothing};
-ghost use Rattle.graph_file.specs.Table.{formatBytes, sofarAt, Known};
+ghost use Rattle.graph_file.specs.Table.{formatBytes, rowsBack, sofarAt, Known};
+ghost use Rattle.graph_file.specs.LookBack.{SortedSofar};
 ghost use Rattle.graph_file.specs.File.{oneRow, throughRows, throughSection, throughSections, whole, cellsFollow, hasForm, formIn, writing, writeText};
 ghost use Rattle.text_field.specs.Answer.{answer, leaves, answerOf};
 ghost use Rattle.graph_file.specs.Reader.{Placed, RowTaken, RowsTaken};
@@ -40,7 +41,7 @@ fn row_comes(k: usize, table: &[u64], p: usize) -> bool
     cell(table, p, 0) == k as u64
 }
 
-// The row at place p as a row of a section, its line put into the text at place n.
+// Tests the row at place p as the next row of a section, and puts its line into the text at place n.
 fn write_row(
     format: &[u8],
     s: Layout,
@@ -52,6 +53,7 @@ fn write_row(
 ) -> Part
     requires format { ⌜ now format ≡ formatBytes ⌝ }
     requires room { ⌜ (p ≤ tableCells) × Placed (s .section) p c × Known s ⌝ }
+    requires sorted { ⌜ SortedSofar (s .section) (rowsBack (c .rows) p (now table)) ⌝ }
     ensures answer { λ r. ⌜ partWritten r (now (table .entry)) (now (out .exit))
         ≡ pour (now (out .entry), n)
         (oneRow (writing (s .form)) (s .section) (stageFrom (sofarAt (now (table .entry)) p c) (drop p (now (table .entry))))) ⌝ }
@@ -93,7 +95,7 @@ fn write_row(
     }
 }
 
-// The rows of a section from place p on.
+// Writes the rows of a section, from place p of the table on.
 fn write_rows(
     format: &[u8],
     s: Layout,
@@ -134,7 +136,7 @@ fn write_rows(
     }
 }
 
-// The counts where a section begins.
+// The counts when a section begins.
 fn counts_begun(c: Counts) -> Counts
     ensures answer { λ r. ⌜ r ≡ countsBegun c ⌝ }
 {
@@ -146,7 +148,7 @@ fn counts_begun(c: Counts) -> Counts
     }
 }
 
-// Section k from place p on: its names line, its rows, and that they are enough.
+// Writes section k from place p on: its names line, then its rows, of which there must be enough.
 fn write_section(
     format: &[u8],
     form: u64,
@@ -184,7 +186,7 @@ fn write_section(
     r
 }
 
-// The nine sections in turn, after which nothing may be left.
+// Writes the nine sections in turn. Cells left over after them are refused.
 fn write_sections(format: &[u8], form: u64, table: &[u64], out: &mut [u8]) -> Part
     requires format { ⌜ now format ≡ formatBytes ⌝ }
     ensures answer { λ r. ⌜ partWritten r (now (table .entry)) (now (out .exit))
@@ -233,7 +235,7 @@ fn form_in(table: &[u64]) -> u64
     cell(table, 0, OLD_FORM)
 }
 
-// The sections in the table's form, and then the order of the pairs.
+// Writes the sections in the table's form, then tests the order pairs.
 fn write_graph(table: &[u64], out: &mut [u8]) -> Part
     ensures answer { λ r. ⌜ partWritten r (now (table .entry)) (now (out .exit))
         ≡ pour (now (out .entry), 0) (whole (writing (formIn (now (table .entry)))) [] (drop 1 (now (table .entry)))) ⌝ }
@@ -256,7 +258,7 @@ fn write_graph(table: &[u64], out: &mut [u8]) -> Part
     r
 }
 
-// Is the table's first cell there, and a form's number?
+// Does the table have a first cell, and is it a form's number?
 fn has_form(table: &[u64]) -> bool
     ensures answer { λ r. ⌜ r ≡ hasForm (now (table .entry)) ⌝ }
 {
@@ -266,8 +268,7 @@ fn has_form(table: &[u64]) -> bool
     cell(table, 0, OLD_FORM) <= TURN_FORM
 }
 
-// The text of a graph table made in working memory and then put into the lent buffer, where it has
-// room.
+// Makes the text of a graph table in working memory, then copies it to the lent buffer if it fits.
 fn write_by(table: &[u64], text: &mut [u8], out: &mut [u8]) -> Answer
     requires room { ⌜ length (now text) ≡ textBytes ⌝ }
     ensures answer { λ r. ⌜ answerOf r ≡ answer (writeText (now (table .entry))) (length (now (out .entry))) ⌝ }
@@ -288,7 +289,7 @@ fn write_by(table: &[u64], text: &mut [u8], out: &mut [u8]) -> Answer
     Answer::Written(n)
 }
 
-// The text of a graph table, put into the lent buffer: how many bytes it has, or the refusal.
+// Writes a graph table's text into the lent buffer. Returns how many bytes it has, or the refusal.
 pub fn write(table: &[u64], out: &mut [u8]) -> Answer
     ensures answer { λ r. ⌜ answerOf r ≡ answer (writeText (now (table .entry))) (length (now (out .entry))) ⌝ }
     ensures memory { λ r. ⌜ now (out .exit) ≡ leaves (writeText (now (table .entry))) (now (out .entry)) ⌝ }

@@ -10,7 +10,7 @@ use lib.Dec.{ltb}
 use lib.ListN.{length, getD, take, drop, length-take, length-drop}
 use lib.Seq.{drop-drop, getD-drop}
 use borrow.Author.Tests.{lt-ltb, le-ltb}
-use Rattle.graph_table.specs.Sections.{leading, firstRow, startOf, startCell, partOf}
+use Rattle.graph_table.specs.Sections.{leading, firstRow, startOf, partOf}
 use Rattle.graph_table.proofs.Tests.{below-or}
 
 module _ (c : ℕ) where
@@ -128,8 +128,7 @@ start-next j k t h =
 pub start-ascends : (k : ℕ) (t : List ℕ) → startOf k t ≤ startOf (k + 1) t
 start-ascends k t = let e = start-next k (k + 1) t (omega arith) in omega arith
 
-pub start-first : (k : ℕ) (t : List ℕ) → firstRow t + leading 0 k (drop (firstRow t) t) ≡ startCell t k
-unfolding startCell
+pub start-first : (k : ℕ) (t : List ℕ) → firstRow t + leading 0 k (drop (firstRow t) t) ≡ startOf k t
 start-first k t = sym (start-from k t)
 
 -- Places looked for number by number, each from the one before it on: what is left to look through
@@ -157,7 +156,7 @@ module _ (c : ℕ) (table : List ℕ) (place : ℕ → ℕ) (k p r : ℕ) (so : 
         omega arith;
   }
 
-pub looking-starts : (table : List ℕ) (p : ℕ) → p ≡ firstRow table → Looking 0 table (startCell table) 0 p
+pub looking-starts : (table : List ℕ) (p : ℕ) → p ≡ firstRow table → Looking 0 table (λ k. startOf k table) 0 p
 looking-starts table p e =
     let w = first-within table in
     record { within = omega arith; on = λ j h. rw e (start-first j table) }

@@ -10,10 +10,12 @@ use borrow.Author.Tests.{ltb-true, ltb-false}
 use lib.Dec.{ltb}
 use lib.ListN.{length, getD, drop}
 use Rattle.scope_graph.specs.Path.{HopOf}
-use Rattle.scope_graph.specs.Turns.{Turned}
+use Rattle.scope_graph.specs.Turns.{Turned, labelEnd}
+use Rattle.scope_graph.specs.Order.{endOf, meaning}
 use Rattle.scope_graph.proofs.Lists.{Two}
 use Rattle.graph_table.specs.Rows.{hopTo, ifOwn, byScope, rowHops, allHops, RowsAscend, nextRow}
-use Rattle.graph_table.specs.Promises.{NextRow, NextIs, NextOne, NoneLater, AboveLater, WithoutLater, AscendingAll}
+use Rattle.graph_table.specs.Values.{rowEnd}
+use Rattle.graph_table.specs.Promises.{NextRow, NextIs, NextOne, NoneLater, AboveLater, WithoutLater, AscendingAll, RowEndIs}
 use Rattle.graph_table.proofs.Laws.{if-own, if-other, by-later, by-own, by-earlier, compare, next-from}
 
 -- a row up to scope s, before what both find alike
@@ -128,3 +130,8 @@ all-from least (a ∷ from ∷ label ∷ to ∷ turn ∷ x ∷ cells) up s = at 
 
 pub ascending-all : AscendingAll
 ascending-all rows up s = all-from 0 rows up s
+
+pub row-end-is : RowEndIs
+unfolding rowEnd meaning endOf
+row-end-is zero = refl
+row-end-is (suc n) = refl

@@ -10,14 +10,17 @@ use lib.ListN.{length, getD, drop, set, drop-of-length-le, List·getD-eq-default
 use lib.Seq.{drop-cons, getD-drop}
 use Rattle.text_field.proofs.ByteLaws.{clash}
 use Rattle.graph_file.specs.Format.{hasKinds}
-use Rattle.graph_file.specs.Admission.{rowOf}
+use Rattle.graph_file.specs.Admission.{Row, value, rowOf}
 use Rattle.graph_file.specs.File.{formIn}
 use Rattle.graph_file.specs.Line.{startsWith}
 use Rattle.scope_graph.specs.Rows.{PackedName, sameName}
+use Rattle.scope_graph.specs.declared.Turn.the-variants.{None}
+use Rattle.scope_graph.specs.declared.End.the-variants.{Stop, Label}
 use Rattle.graph_file.proofs.RowLaws.{row-cells}
 use Rattle.graph_table.specs.declared.names.Name.{Name}
-use Rattle.graph_table.specs.Values.{packed, declarationRow, queryRow, rowDeclared, rowQuery, declares}
+use Rattle.graph_table.specs.Values.{packed, rowEnd, declarationRow, queryRow, rowDeclared, declares}
 use Rattle.graph_table.specs.declared.rows.DeclarationRow.{DeclarationRow}
+use Rattle.graph_table.specs.declared.rows.QueryRow.{QueryRow}
 use Rattle.graph_table.specs.declared.sections.Form.{Form}
 use Rattle.graph_table.specs.declared.sections.Form.the-variants.{Old, Kinds}
 use Rattle.graph_table.specs.Sections.{tableForm, formNumber, withForm}
@@ -32,6 +35,19 @@ module _ (cells : List ℕ) (p k : ℕ) where
   pub row-test : p < length cells → startsWith k (drop p cells) ≡ eqb (getD cells p 0) k
   unfolding startsWith
   row-test h = rw (drop-cons cells p 0 h)
+
+-- an order row's end, by its cell
+pub row-end-stop : (cell : ℕ) → cell ≡ 0 → Stop ≡ rowEnd cell
+unfolding rowEnd
+row-end-stop cell e = rw e
+
+pub row-end-label : (cell n : ℕ) → cell ≡ suc n → Label n None ≡ rowEnd cell
+unfolding rowEnd
+row-end-label cell n e = rw e
+
+-- a query's row by its five values
+abbrev pub rowQuery : Row → QueryRow
+rowQuery row = record { start = value row 0; name = record { kind = value row 1; high = value row 2; low = value row 3 } }
 
 -- a declaration's and a query's row, by cells and by values
 pub declaration-cells : (rows : List ℕ) (p : ℕ) → declarationRow rows p ≡ rowDeclared (rowOf (drop p rows))

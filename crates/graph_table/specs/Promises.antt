@@ -1,9 +1,12 @@
--- What is promised of the rows of a scope, whatever the rows. Values are in proofs/Promises.
--- Assumes nothing: these are definitions.
+-- What is promised of the rows of a scope, whatever the rows, and of an order row's ends. Values are
+-- in proofs/Promises. Assumes nothing: these are definitions.
 use Prim.Native.Nat.{ℕ, _+_, _*_, _≤_, _<_}
 use mathlib.Core.Path.{_≡_}
 use mathlib.Core.List.{List, [], _∷_, _++_}
 use lib.ListN.{length, getD, drop}
+use Rattle.scope_graph.specs.Turns.{labelEnd}
+use Rattle.scope_graph.specs.Order.{endOf, meaning}
+use Rattle.graph_table.specs.Values.{rowEnd}
 use Rattle.graph_table.specs.Rows.{hopAt, rowHops, allHops, RowsAscend, nextRow}
 
 -- the next row from cell p on is the first of those that are found from there on, and behind it
@@ -47,3 +50,7 @@ WithoutLater = (rows : List ℕ) (s : ℕ) → NoneLater rows s → rowHops rows
 -- later scope's row (02, K4)
 abbrev pub AscendingAll : Type 0
 AscendingAll = (rows : List ℕ) → RowsAscend 0 rows → (s : ℕ) → rowHops rows s ≡ allHops rows s
+
+-- an order row's end means the rules' end of its cell (01, "The gym file", the rows `less more`)
+abbrev pub RowEndIs : Type 0
+RowEndIs = (cell : ℕ) → labelEnd (meaning (rowEnd cell)) ≡ endOf cell

@@ -49,9 +49,6 @@ unfoldable pub startOf : ℕ → List ℕ → ℕ
 startOf k [] = 0
 startOf k (form ∷ cells) = suc (leading 0 k cells)
 
-unfoldable pub startCell : List ℕ → ℕ → ℕ
-startCell cells k = startOf k cells
-
 -- the cells of section k's rows, in a table whose section numbers ascend
 unfoldable pub partOf : ℕ → List ℕ → List ℕ
 partOf k cells = take (startOf (suc k) cells - startOf k cells) (drop (startOf k cells) cells)

@@ -1,5 +1,6 @@
-// The graph table is read here and nowhere else: where rows stand, and what a row says. Handed on
-// are the sections' numbers and how a row is put: `graph_file` makes the table and has them.
+// The graph table as the crates above `graph_file` read it: where rows stand, and what a row says.
+// `graph_file` itself, which makes, tests and writes the table, reads its own cells; the sections'
+// numbers and how a row is put are handed on from there.
 mod edges;
 mod names;
 mod rows;
@@ -21,7 +22,6 @@ pub use names::same_name;
 pub use rows::DeclarationRow;
 pub use rows::EdgeRow;
 pub use rows::OpenRow;
-pub use rows::PairRow;
 pub use rows::QueryRow;
 pub use rows::TransitionRow;
 pub use rows::declaration_row;

@@ -1,18 +1,16 @@
-// The rows of a graph table by their values. Every read of a row's cell is here: the first cell is
-// the section's number, then come the values.
+// The rows of a graph table by their values: the first cell is the section's number, then come the
+// values. The crates above `graph_file` read rows here; `graph_file` itself, which makes, tests and
+// writes the table, reads its own cells.
 use crate::names::Name;
 use crate::names::same_name;
+use scope_graph::End;
+use scope_graph::Pair;
+use scope_graph::Turn;
 ghost use mathlib.Core.Path.{_≡_};
 ghost use Prim.Native.Nat.{_+_, _≤_};
 ghost use lib.ListN.{length, getD, drop};
 ghost use Rattle.graph_file.specs.Line.{startsWith};
-ghost use Rattle.graph_table.specs.Values.{packed, pairRow, transitionRow, edgeRow, declarationRow, openRow, queryRow, declares};
-
-// `less more`: ends by their numbers
-pub struct PairRow {
-    pub less: u64,
-    pub more: u64,
-}
+ghost use Rattle.graph_table.specs.Values.{packed, rowEnd, pairRow, transitionRow, edgeRow, declarationRow, openRow, queryRow, declares};
 
 // `state label next`
 pub struct TransitionRow {
@@ -56,14 +54,24 @@ pub fn first_value(rows: &[u64], p: usize) -> u64
     rows[p + 1]
 }
 
-pub fn pair_row(rows: &[u64], p: usize) -> PairRow
+// An end by its cell: 0 is `$`, n + 1 is label n. The end of a row has no turn.
+fn row_end(cell: u64) -> End
+    ensures answer { λ r. ⌜ r ≡ rowEnd cell ⌝ }
+{
+    if cell == 0 {
+        return End::Stop;
+    }
+    End::Label(cell - 1, Turn::None)
+}
+
+// `less more`, in the form that document 01 binds for an order pair.
+pub fn pair_row(rows: &[u64], p: usize) -> Pair
     requires whole { ⌜ p + 6 ≤ length (now rows) ⌝ }
     ensures answer { λ r. ⌜ r ≡ pairRow (now (rows .entry)) p ⌝ }
 {
-    PairRow {
-        less: rows[p + 1],
-        more: rows[p + 2],
-    }
+    let less = row_end(rows[p + 1]);
+    let more = row_end(rows[p + 2]);
+    Pair { less, more }
 }
 
 pub fn transition_row(rows: &[u64], p: usize) -> TransitionRow

@@ -3,7 +3,7 @@ use crate::words::Reply;
 use beginnings::Counted;
 use beginnings::count;
 use comparison::Compared;
-use comparison::decide;
+use comparison::compare_text;
 use conversion::to_new;
 use conversion::to_old;
 use judge::Judged;
@@ -110,16 +110,18 @@ fn put_count_line(out: &mut [u8], c: Counted) -> usize
 fn put_judged<'s, 'o>(text: &'s [u8], query: usize, row: &'s [u8], out: &'o mut [u8]) -> usize
     ensures written { λ r. ⌜ Replied (now (out .entry)) (now (out .exit)) r (inPlace replyRoom (judgeLine (now (text .entry)) query (now (row .entry)))) ⌝ }
 {
-    let j = judge_text(text, query, row, MOST_STEPS);
-    put_standing(out, j)
+    let told = judge_text(text, query, row, MOST_STEPS);
+    let answer = told.answer;
+    put_standing(out, answer)
 }
 
 // Which of two rows is more specific.
 fn put_compared<'s, 'o>(text: &'s [u8], a: &'s [u8], b: &'s [u8], out: &'o mut [u8]) -> usize
     ensures written { λ r. ⌜ Replied (now (out .entry)) (now (out .exit)) r (inPlace replyRoom (compareLine (now (text .entry)) (now (a .entry)) (now (b .entry)))) ⌝ }
 {
-    let c = decide(text, a, b, MOST_STEPS, MOST_STEPS);
-    put_comparison(out, c)
+    let told = compare_text(text, a, b, MOST_STEPS, MOST_STEPS);
+    let answer = told.answer;
+    put_comparison(out, answer)
 }
 
 // The file with the path rules of an expression, or its refusal.
@@ -146,7 +148,16 @@ fn put_usage(out: &mut [u8]) -> usize
     put_bytes(
         out,
         0,
-        b"usage: gym WORD [ARGUMENT..] < FILE\n  list\n  old\n  new\n  judge QUERY ROW\n  compare ROW ROW\n  rules EXPRESSION\n  count QUERY\n",
+        b"usage: gym WORD [ARGUMENT..] < FILE
+  list              all listings, then the summary
+  old               the file in the old form, without kinds
+  new               the file in the form with kinds
+  judge QUERY ROW   the standing of a path row such as '10 3P1' for query 0, 1, ..
+  compare ROW ROW   which of two path rows is more specific, and how many steps agree
+  rules EXPRESSION  the file with the path rules of an expression such as 'P*I*'
+  count QUERY       how many lawful beginnings a query follows
+  help              this text
+",
     )
 }
 
@@ -201,6 +212,13 @@ pub fn put_reply<'s, 'o>(
         }
         Reply::Count(query) => {
             let size = put_count(text, query, out);
+            Put {
+                on: Stream::Out,
+                size,
+            }
+        }
+        Reply::Help => {
+            let size = put_usage(out);
             Put {
                 on: Stream::Out,
                 size,

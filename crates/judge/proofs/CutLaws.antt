@@ -13,8 +13,9 @@ use Rattle.scope_graph.specs.Order.{endOf}
 use Rattle.scope_graph.specs.Path.{HopOf}
 use Rattle.scope_graph.specs.Turns.{Turned, labelEnd}
 use Rattle.block.specs.Sets.{hasScope}
-use Rattle.block.specs.Block.{firstEdge, edgeCell, hopOf, EdgeTo}
+use Rattle.block.specs.Block.{firstEdge, edgeCell, hopOf}
 use Rattle.block.proofs.BlockLaws.{pair-no-second}
+use Rattle.block.proofs.EdgeLaws.{EdgeTo}
 use Rattle.search.specs.declared.Node.{Node}
 use Rattle.search.specs.Board.{without, cutHere}
 use Rattle.search.specs.Tables.{endNumber, plainEnd, tableOrder, tableBoard}

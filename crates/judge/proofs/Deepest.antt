@@ -85,7 +85,7 @@ module _ (L : Language) (laws : Laws L) (g : Graph L) (x : L .Name) (range : InR
     unfolding preferredTo
     parts-ended = record { flat = agree-ended L (h ∷ p); at-end = refl }
 
-    parts-hop : (k : Hop L) (r : Node L) → k ∈ hopsAt L (g .edges) s → sameHop L k h ≡ false → Parts (behind L k r)
+    parts-hop : (k : Hop L) (r : Node L) → k ∈ hopsAt L (g .edges) s → sameHop (L .same-step) k h ≡ false → Parts (behind L k r)
     unfolding preferredTo behind
     parts-hop k r m e = record {
       flat =
@@ -126,10 +126,10 @@ module _ (L : Language) (laws : Laws L) (g : Graph L) (x : L .Name) (range : InR
     unfolding behind
     view m i =
         let k = keep-elim (sought L g x) (nodesFrom L (suc fuel) g seen s q) i in
-        ⊎-elim (λ z. inl (subst Parts (sym z) parts-ended)) (λ f. by-hop f (k .1) (Two (sameHop L (f .hop) h)))
+        ⊎-elim (λ z. inl (subst Parts (sym z) parts-ended)) (λ f. by-hop f (k .1) (Two (sameHop (L .same-step) (f .hop) h)))
         (node-view L g x range fuel free seen a s q m (k .0))
       where
-        by-hop : (f : Further L g x fuel free seen s q m) → sought L g x m ≡ true → (sameHop L (f .hop) h ≡ true) ⊎ (sameHop L (f .hop) h ≡ false) → Parts m ⊎ Passes m
+        by-hop : (f : Further L g x fuel free seen s q m) → sought L g x m ≡ true → (sameHop (L .same-step) (f .hop) h ≡ true) ⊎ (sameHop (L .same-step) (f .hop) h ≡ false) → Parts m ⊎ Passes m
         by-hop f t (inr e) = inl (subst Parts (sym (f .is)) (parts-hop (f .hop) (f .rest) (f .leaves) e))
         by-hop f t (inl e) =
             let same = (same-hop L laws (f .hop) h) .0 e in

@@ -10,25 +10,26 @@ use native.Mathlib.Omega.{arith}
 use borrow.Author.Tests.{eq-eqb, ltb-true, ltb-false}
 use lib.Dec.{eqb, ltb}
 use Rattle.scope_graph.specs.Path.{HopOf}
-use Rattle.scope_graph.specs.Turns.{Turned}
+use Rattle.scope_graph.specs.Turns.{Turned, sameTurned}
+use Rattle.scope_graph.specs.Computed.{sameHop}
 use Rattle.scope_graph.proofs.Lists.{Two, and-left, and-both, anyOf-intro, anyOf-false}
 use Rattle.scope_graph.proofs.Turns.{turned-is, turned-self}
 use Rattle.block.specs.Sets.{hasScope}
-use Rattle.block.specs.Block.{nextCell, scopesCell, firstEdge, blockHops, EdgeTo}
+use Rattle.block.specs.Block.{nextCell, scopesCell, firstEdge, blockHops}
 use Rattle.block.proofs.SetLaws.{scope-past, scope-below, scopes-all}
 use Rattle.block.proofs.BlockLaws.{next-no-label}
-use Rattle.block.proofs.EdgeLaws.{hop-turned}
+use Rattle.block.proofs.EdgeLaws.{EdgeTo, hop-turned}
 use Rattle.search.specs.declared.Node.{Node}
 use Rattle.search.specs.Board.{without}
 use Rattle.search.specs.Conditions.{Inside, freeAt}
 use Rattle.search.proofs.Leads.{taken-is, live-taken}
-use Rattle.judge.specs.Steps.{hopTo, sameHop, hasHop, stateOn, stateAlong, Begins, Behind, Ready}
+use Rattle.judge.specs.Steps.{hopTo, hasHop, stateOn, stateAlong, Begins, Behind, Ready}
 
 -- an edge has a turn
 turned : (o : Option ℕ) (n : ℕ) → o ≡ some n → o ≡ none → ⊥
 turned o n e f = let y : _≡_ {A = ℕ} 0 1 = cc in omega arith
 
-same-self : (h : HopOf Turned) → sameHop h h ≡ true
+same-self : (h : HopOf Turned) → sameHop sameTurned h h ≡ true
 unfolding sameHop
 same-self h = and-both _ _ (turned-self (h .step)) (eq-eqb (h .to) _ refl)
 
@@ -41,10 +42,10 @@ module _ (block : List ℕ) (s l t p end : ℕ) (e : EdgeTo block s l t p) (is :
       at : (ltb p end ≡ true) ⊎ (ltb p end ≡ false) → ltb p end ≡ hasHop (hopTo block s l t) (blockHops block s)
       at (inl f) =
           let h : p < firstEdge block (suc s) = rw is at (ltb-true p end f) in
-          f ∙ sym (anyOf-intro (sameHop (hopTo block s l t)) (rw (e .is h) at (e .leaves h)) (same-self (hopTo block s l t)))
+          f ∙ sym (anyOf-intro (λ k. sameHop sameTurned k (hopTo block s l t)) (rw (e .is h) at (e .leaves h)) (same-self (hopTo block s l t)))
       at (inr f) =
           let h : firstEdge block (suc s) ≤ p = rw is at (ltb-false p end f) in
-          f ∙ sym (anyOf-false (sameHop (hopTo block s l t)) (blockHops block s)
+          f ∙ sym (anyOf-false (λ k. sameHop sameTurned k (hopTo block s l t)) (blockHops block s)
           (λ k m g. turned (k .step .turn) (hop-turned block s k m .0) (hop-turned block s k m .1)
           (ap (λ (z : Turned). z .turn) (turned-is (k .step) (hopTo block s l t .step) (and-left _ _ g)) ∙ e .none-is h)))
 

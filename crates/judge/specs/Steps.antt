@@ -5,13 +5,14 @@ use Prim.Native.Nat.{ℕ, zero, suc, _≤_}
 use mathlib.Core.Path.{_≡_}
 use mathlib.Core.Bool.{Bool, true, false, not, _&&_}
 use mathlib.Core.Option.{Option}
-use mathlib.Core.List.{List, [], _∷_, map}
+use mathlib.Core.List.{List, map}
 use lib.Dec.{eqb, leb, ltb}
 use lib.ListN.{length}
 use Rattle.scope_graph.specs.Language.{End, stop}
-use Rattle.scope_graph.specs.Path.{HopOf}
+use Rattle.scope_graph.specs.Path.{HopOf, lastFrom}
 use Rattle.scope_graph.specs.Turns.{Turned, sameTurned, turnBy}
 use Rattle.scope_graph.specs.Rows.{anyOf, language}
+use Rattle.scope_graph.specs.Computed.{sameHop}
 use Rattle.scope_graph.specs.Agree.{Judgement, judgement}
 use Rattle.graph_file.specs.Admission.{Row}
 use Rattle.graph_file.specs.Decode.{rulesOf, graphOf}
@@ -28,10 +29,9 @@ use Rattle.graph_table.specs.Sections.{rowsOf}
 use Rattle.graph_table.specs.Values.{packed, rowDeclared, declares}
 use Rattle.board.specs.Queries.{queryOn}
 use Rattle.path_row.specs.declared.form.Step.{Step}
-use Rattle.path_row.specs.Form.{stepsIn}
 use Rattle.path_row.specs.Numbering.{hopsOf}
 use Rattle.comparison.specs.Letters.{blockLetters}
-use Rattle.judge.specs.Judge.{ruled}
+use Rattle.judge.specs.Judge.{asRulesRow}
 use Rattle.judge.specs.LastCut.{lastCut}
 
 -- The refusal of query number i where there are n queries, and of a table with room for fewer
@@ -55,15 +55,12 @@ unfoldable pub hasMark : QueryRow → ℕ → ℕ → List Row → Bool
 hasMark x mark s rows = anyOf (isMarked x mark s) (map rowDeclared rows)
 
 -- a step that leaves scope s by a label to a scope, with the turn of the edge that it goes along,
--- if there is one (02, K12); is it another hop, is it one of these?
+-- if there is one (02, K12); is it one of these hops?
 abbrev pub hopTo : List ℕ → ℕ → ℕ → ℕ → HopOf Turned
 hopTo block s label to = record { step = record { label = label; turn = turnBy (blockHops block s) label to }; to = to }
 
-unfoldable pub sameHop : HopOf Turned → HopOf Turned → Bool
-sameHop h k = sameTurned (k .step) (h .step) && eqb (k .to) (h .to)
-
 unfoldable pub hasHop : HopOf Turned → List (HopOf Turned) → Bool
-hasHop h hops = anyOf (sameHop h) hops
+hasHop h hops = anyOf (λ k. sameHop sameTurned k h) hops
 
 -- steps as hops that leave scope s: by their letters' numbers, with their turns
 abbrev pub stepHops : List ℕ → List Step → ℕ → List (HopOf Turned)
@@ -93,17 +90,12 @@ pub record Behind (n : Node) (to r left : ℕ) (m : Node) : Type 0 where
   pub scope : m .scope ≡ to
   pub state : m .state ≡ r
 
--- the scope that hops come to
-unfoldable pub lastOf : ℕ → List (HopOf Turned) → ℕ
-lastOf s [] = s
-lastOf s (h ∷ hs) = lastOf (h .to) hs
-
 -- the hops lead from the node to what is sought, and the mark is that of a matching declaration
 -- where they end
 unfoldable pub rowReached : List ℕ → List ℕ → ℕ → QueryRow → ℕ → Node → List (HopOf Turned) → Bool
 rowReached block decls goal x mark n hs =
     reachedBy (tableBoard block goal) (hasScope (n .free)) (n .scope) (n .state) hs
-    && hasMark x mark (lastOf (n .scope) hs) (rowsOf decls)
+    && hasMark x mark (lastFrom (n .scope) hs) (rowsOf decls)
 
 -- what is asked of a node's ends: the node is within the tables, and the table of places worth
 -- entering is closed for it
@@ -124,8 +116,8 @@ unfoldable pub rowLast : List ℕ → ℕ → Node → List (HopOf Turned) → O
 rowLast block goal n hs =
     lastCut (tableBoard block goal) (tableOrder block) (suc (n .left)) (hasScope (n .free)) (n .scope) (n .state) hs stop
 
--- the standing of a row with this mark, this start and these steps in its text, for a query
-abbrev pub judgedRow : List ℕ → QueryRow → ℕ → ℕ → List ℕ → Judgement
-judgedRow cells x mark from row =
+-- the standing of a row with this mark, this start and these steps, for a query
+abbrev pub judgedRow : List ℕ → QueryRow → ℕ → ℕ → List Step → Judgement
+judgedRow cells x mark from steps =
     judgement (language (rulesOf cells)) (graphOf cells) (queryOn cells x)
-    (ruled cells (record { mark = mark; start = from; steps = stepsIn row }))
+    (asRulesRow cells (record { mark = mark; start = from; steps = steps }))

@@ -32,7 +32,7 @@ use Rattle.resolution.proofs.Buffers.{head-fits, short-answer, short-leaves, wh
 use Rattle.graph_file.proofs.TableLaws.{ReadInto, made-read}
 use Rattle.resolution.proofs.Counts.{queries-few, figures-few, figures-text, summary-short}
 use Rattle.printing.specs.Printed.{refusedLine, inPlace, lent, tableText, outcomeText, programText, Due}
-use Rattle.printing.specs.Parts.{answered, partText, partsText}
+use Rattle.printing.specs.Parts.{answered, partText}
 
 -- the line, in three writes
 pub refused-puts : (n : ℕ) (b c d e : Buf) → c ≡ puts b (114 ∷ 101 ∷ 102 ∷ 117 ∷ 115 ∷ 101 ∷ 100 ∷ 32 ∷ []) → d ≡ puts c (numberText n) → e ≡ put d 10
@@ -125,6 +125,11 @@ module _ (room : ℕ) (cells : List ℕ) (i : ℕ) where
       one : (t : Bool) → ltb i (length (queriesOf cells)) ≡ t → length (partText room cells i) ≤ room
       one true t = rw (part-query (ltb-true i (length (queriesOf cells)) t)) (done-short room (listingText cells (queryAt cells i)) h)
       one false t = rw (part-summary (ltb-false i (length (queriesOf cells)) t)) (done-short room (summaryOf cells) h)
+
+-- so many parts from part i on, with so much room lent for each
+unfoldable pub partsText : ℕ → List ℕ → ℕ → ℕ → List ℕ
+partsText room cells zero i = []
+partsText room cells (suc left) i = partText room cells i ++ partsText room cells left (suc i)
 
 -- of two texts due together the first is due, and the other behind it
 module _ (text : List ℕ) (sent : ℕ) (x y : List ℕ) (d : Due text sent (x ++ y)) where

@@ -1,7 +1,7 @@
 -- The output in the parts in which the code makes it. Assumes nothing: these are definitions.
-use Prim.Native.Nat.{ℕ, zero, suc}
+use Prim.Native.Nat.{ℕ}
 use mathlib.Core.Bool.{true, false}
-use mathlib.Core.List.{List, [], _∷_, _++_}
+use mathlib.Core.List.{List}
 use lib.Dec.{ltb}
 use lib.ListN.{length}
 use Rattle.text_field.specs.Buffer.{Buf, puts}
@@ -24,8 +24,3 @@ module _ (room : ℕ) (cells : List ℕ) where
   unfoldable pub partText : ℕ → List ℕ
   partText i =
       elim (ltb i (length (queriesOf cells))) [ true ↦ inPlace room (listingOf cells i) | false ↦ inPlace room (done (summaryOf cells)) ]
-
-  -- so many parts from part i on
-  unfoldable pub partsText : ℕ → ℕ → List ℕ
-  partsText zero i = []
-  partsText (suc left) i = partText i ++ partsText left (suc i)

@@ -21,8 +21,8 @@ use Rattle.graph_file.specs.Decode.{rowsIn, rulesOf, scopesOf, graphOf, openPai
 use Rattle.graph_file.specs.Accepted.{EndListed}
 use Rattle.block.specs.Block.{usableSet}
 use Rattle.graph_table.specs.Sections.{partOf, rowsOf}
-use Rattle.follow.specs.Tally.{joined}
 use Rattle.follow.specs.Walk.{followedIn}
+use Rattle.follow.proofs.TallyLaws.{joined}
 use Rattle.resolution.specs.declared.text.Awaits.{Awaits}
 use Rattle.resolution.specs.declared.text.Awaits.the-variants.{Settled, Pair}
 use Rattle.resolution.specs.Listing.{entriesText}

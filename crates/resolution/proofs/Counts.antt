@@ -2,7 +2,7 @@
 -- Assumes nothing.
 use Prim.Native.Nat.{ℕ, zero, suc, _+_, _^_, _≤_, _<_}
 use mathlib.Core.Path.{_≡_, refl, sym, ap, _∙_}
-use mathlib.Core.List.{List, [], _∷_, _++_, append-assoc}
+use mathlib.Core.List.{List, [], _∷_, _++_, map, append-assoc}
 use native.Mathlib.Omega.{arith}
 use native.Mathlib.Numerals.{add-one}
 use lib.ListN.{length, getD, drop, length-append, length-map, drop-of-length-le}
@@ -19,9 +19,9 @@ use Rattle.text_field.proofs.BufferLaws.{puts-then}
 use Rattle.graph_file.specs.Format.{querySection, queries, sections, sectionAt}
 use Rattle.graph_file.specs.Decode.{rowsIn, rulesOf, queryOf, queriesOf, WasRead}
 use Rattle.board.specs.Queries.{queryAt}
-use Rattle.resolution.specs.Summary.{summaryLine, shareText, summaryText}
+use Rattle.resolution.specs.Summary.{summaryLine, shareText, summaryText, sameFound, countFound, summaryBy}
 use Rattle.resolution.specs.declared.sums.Figures.{Figures}
-use Rattle.resolution.specs.Listing.{foundFor, isFound, countFound, summaryOf}
+use Rattle.resolution.specs.Listing.{foundFor, summaryOf}
 use Rattle.resolution.specs.Figures.{figuresAfter, noFigures, figuresOver, total, Few, fieldText, countsText, figuresText}
 use Rattle.board.proofs.Queries.{accepted}
 
@@ -44,32 +44,32 @@ module _ (cells : List ℕ) where
       let x : drop i qs ≡ queryAt cells i ∷ drop (i + 1) qs = drop-cons qs i _ h ∙ ap (λ (n : ℕ). queryAt cells i ∷ drop n qs) (sym (add-one i)) in
       ap (λ (y : Figures). figuresOver cells y (drop (i + 1) qs)) (k ∙ ap (figuresAfter c) g) ∙ sym (ap (figuresOver cells c) x)
 
-  over-one : (c : Figures) (qs : List Q) → figuresOver cells c qs .one ≡ c .one + countFound cells found-one qs
-  unfolding figuresOver countFound figuresAfter isFound
+  over-one : (c : Figures) (qs : List Q) → figuresOver cells c qs .one ≡ c .one + countFound found-one (map (foundFor cells) qs)
+  unfolding figuresOver countFound figuresAfter sameFound
   over-one c [] = omega arith
   over-one c (q ∷ qs) = over-one (figuresAfter c (foundFor cells q)) qs ∙ by (foundFor cells q)
     where
-      by : (f : Found) → figuresAfter c f .one + countFound cells found-one qs ≡ c .one + (isFound cells found-one f + countFound cells found-one qs)
+      by : (f : Found) → figuresAfter c f .one + countFound found-one (map (foundFor cells) qs) ≡ c .one + countFound found-one (f ∷ map (foundFor cells) qs)
       by found-none = omega arith
       by found-one = omega arith
       by found-several = omega arith
 
-  over-several : (c : Figures) (qs : List Q) → figuresOver cells c qs .several ≡ c .several + countFound cells found-several qs
-  unfolding figuresOver countFound figuresAfter isFound
+  over-several : (c : Figures) (qs : List Q) → figuresOver cells c qs .several ≡ c .several + countFound found-several (map (foundFor cells) qs)
+  unfolding figuresOver countFound figuresAfter sameFound
   over-several c [] = omega arith
   over-several c (q ∷ qs) = over-several (figuresAfter c (foundFor cells q)) qs ∙ by (foundFor cells q)
     where
-      by : (f : Found) → figuresAfter c f .several + countFound cells found-several qs ≡ c .several + (isFound cells found-several f + countFound cells found-several qs)
+      by : (f : Found) → figuresAfter c f .several + countFound found-several (map (foundFor cells) qs) ≡ c .several + countFound found-several (f ∷ map (foundFor cells) qs)
       by found-none = omega arith
       by found-one = omega arith
       by found-several = omega arith
 
-  over-none : (c : Figures) (qs : List Q) → figuresOver cells c qs .none ≡ c .none + countFound cells found-none qs
-  unfolding figuresOver countFound figuresAfter isFound
+  over-none : (c : Figures) (qs : List Q) → figuresOver cells c qs .none ≡ c .none + countFound found-none (map (foundFor cells) qs)
+  unfolding figuresOver countFound figuresAfter sameFound
   over-none c [] = omega arith
   over-none c (q ∷ qs) = over-none (figuresAfter c (foundFor cells q)) qs ∙ by (foundFor cells q)
     where
-      by : (f : Found) → figuresAfter c f .none + countFound cells found-none qs ≡ c .none + (isFound cells found-none f + countFound cells found-none qs)
+      by : (f : Found) → figuresAfter c f .none + countFound found-none (map (foundFor cells) qs) ≡ c .none + countFound found-none (f ∷ map (foundFor cells) qs)
       by found-none = omega arith
       by found-one = omega arith
       by found-several = omega arith
@@ -115,12 +115,13 @@ module _ (cells : List ℕ) where
     figures-few was = let f = queries-few was in let s = total-is in omega arith
 
     pub figures-text : figuresText r ≡ summaryOf cells
-    unfolding summaryOf noFigures figuresText
+    unfolding summaryOf summaryBy noFigures figuresText
     figures-text =
-        let a : r .one ≡ countFound cells found-one (queriesOf cells) = (let z = ap (λ (x : Figures). x .one) e ∙ over-one noFigures (queriesOf cells) in omega arith) in
-        let b : r .several ≡ countFound cells found-several (queriesOf cells) = (let z = ap (λ (x : Figures). x .several) e ∙ over-several noFigures (queriesOf cells) in omega arith) in
-        let c : r .none ≡ countFound cells found-none (queriesOf cells) = (let z = ap (λ (x : Figures). x .none) e ∙ over-none noFigures (queriesOf cells) in omega arith) in
-        ap (λ (n : ℕ). summaryText n (r .one) (r .several) (r .none)) total-is ∙ rw (a, b, c)
+        let founds : List Found = map (foundFor cells) (queriesOf cells) in
+        let a : r .one ≡ countFound found-one founds = (let z = ap (λ (x : Figures). x .one) e ∙ over-one noFigures (queriesOf cells) in omega arith) in
+        let b : r .several ≡ countFound found-several founds = (let z = ap (λ (x : Figures). x .several) e ∙ over-several noFigures (queriesOf cells) in omega arith) in
+        let c : r .none ≡ countFound found-none founds = (let z = ap (λ (x : Figures). x .none) e ∙ over-none noFigures (queriesOf cells) in omega arith) in
+        ap (λ (n : ℕ). summaryText n (r .one) (r .several) (r .none)) (total-is ∙ sym (length-map (queriesOf cells) (foundFor cells))) ∙ rw (a, b, c)
 
 -- one write after another
 pub field-puts : (v : ℕ) (b c d : Buf) → c ≡ puts b (numberText v) → d ≡ put c 32 → d ≡ puts b (fieldText v)

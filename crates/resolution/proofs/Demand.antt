@@ -28,10 +28,10 @@ use Rattle.graph_file.specs.Decode.{rulesOf, graphOf, opensOf, queriesOf, lette
 use Rattle.graph_file.specs.Accepted.{AcceptedTable}
 use Rattle.graph_file.proofs.DecodeAccepted.{read-accepted}
 use Rattle.follow.specs.Text.{endText}
-use Rattle.resolution.specs.Listing.{awaitsText, foundFor, entriesText, listingText, listingOf, listingFor}
+use Rattle.resolution.specs.Listing.{awaitsText, foundFor, listingText, listingOf, listingFor}
 use Rattle.board.specs.Queries.{queryAt}
 use Rattle.board.proofs.Queries.{getD-in}
-use Rattle.resolution.specs.Demand.{shownText, Right, Handed, Demand3}
+use Rattle.resolution.specs.Demand.{Right, Handed, Demand3}
 
 module _ (cells : List ℕ) where
   abbrev L : Language
@@ -60,7 +60,7 @@ module _ (cells : List ℕ) where
     no-repeat (r ∷ rows) a = (λ p k e. told .once r (subst (RowBefore L r) (sym e) (a .0 p k)), no-repeat rows (a .1))
 
     pub listing-right : Right cells q (listingText cells q)
-    unfolding listingText shownText entriesText foundFor
+    unfolding listingText foundFor
     listing-right =
         let d = dash-none (awaits L (graphOf cells) q (opensOf cells)) in
         let n = told .awaits-none in

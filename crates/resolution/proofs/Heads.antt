@@ -34,14 +34,14 @@ use Rattle.follow.specs.declared.Bounds.{Bounds}
 use Rattle.follow.specs.declared.Seen.the-variants.{None}
 use Rattle.follow.specs.Text.{headLine, seekColumns, rowsLine, foundText, letterOf, endText}
 use Rattle.follow.specs.Tally as tally
-use Rattle.follow.specs.Tally.{Taken, State, fits, takeRows, joined}
+use Rattle.follow.specs.Tally.{Taken, State, fits, takeRows}
 use Rattle.follow.specs.Walk.{letterBytes}
 use Rattle.follow.proofs.TakeLaws.{fits-yes, fits-no, fits-true, fits-false}
-use Rattle.follow.proofs.TallyLaws.{rows-text, tallied}
+use Rattle.follow.proofs.TallyLaws.{joined, rows-text, tallied}
 use Rattle.resolution.specs.declared.text.Found as told
 use Rattle.resolution.specs.declared.text.Awaits.{Awaits}
 use Rattle.resolution.specs.declared.text.Awaits.the-variants.{Settled, Pair}
-use Rattle.resolution.specs.Listing.{awaitsText, foundFor, entriesText, listingText, listingOf}
+use Rattle.resolution.specs.Listing.{awaitsText, shownText, foundFor, entriesText, listingText, listingOf, foundAt}
 use Rattle.resolution.specs.Asked.{Ready, queryIn, entriesTaken, foundMeaning, awaitsMeaning, awaitsBytes, queryText, headText, queryHead}
 use Rattle.resolution.proofs.Given.{letters-same}
 use Rattle.board.proofs.Queries.{accepted}
@@ -104,7 +104,7 @@ module _ (cells block ask : List ℕ) (ready : Ready cells block ask) where
   T = listingText cells q
 
   listing-parts : T ≡ head ++ joined rows
-  unfolding listingText queryHead queryText
+  unfolding listingText shownText entriesText queryHead queryText
   listing-parts =
       line-parts (headLine (tableForm cells)) (numberText (askStart ask)) (seekColumns (tableForm cells) (askName ask)) (foundText (foundFor cells q)) (awaitsText cells (awaits L (graphOf cells) q (opensOf cells))) rowsLine (entriesText cells q)
       ∙ ap (λ (l : List ℕ). head ++ l) (sym (texts-joined cells q))
@@ -279,13 +279,18 @@ pub listing-inside : (cells : List ℕ) (i : ℕ) → i < length (queriesOf cell
 unfolding listingOf refuseIf
 listing-inside cells i h = rw (lt-leb (length (queriesOf cells)) i h)
 
-pub no-query : (cells : List ℕ) (i : ℕ) → length (queriesOf cells) ≤ i → (out : List ℕ) → (refused 7 ≡ answer (listingOf cells i) (length out)) × (out ≡ leaves (listingOf cells i) out)
-unfolding listingOf answer leaves andThen refuseIf
-no-query cells i h out = rw (le-leb (length (queriesOf cells)) i h) (refl, refl)
+pub found-inside : (cells : List ℕ) (i : ℕ) → i < length (queriesOf cells) → foundAt cells i ≡ foundFor cells (queryAt cells i)
+unfolding foundAt
+found-inside cells i h = rw (lt-leb (length (queriesOf cells)) i h, foundAt)
+
+pub no-query : (cells : List ℕ) (i : ℕ) → length (queriesOf cells) ≤ i → (out : List ℕ)
+    → (refused 7 ≡ answer (listingOf cells i) (length out)) × ((out ≡ leaves (listingOf cells i) out) × (found-none ≡ foundAt cells i))
+unfolding listingOf foundAt answer leaves andThen refuseIf
+no-query cells i h out = rw (le-leb (length (queriesOf cells)) i h, foundAt) (refl, (refl, refl))
 
 pub query-listed : (cells : List ℕ) (i : ℕ) → i < length (queriesOf cells) → (z : Query (language (rulesOf cells))) → z ≡ queryAt cells i → (r : Outcome ℕ) (o out : List ℕ) (f : Found)
     → (r ≡ answer (done (listingText cells z)) (length out)) × ((o ≡ leaves (done (listingText cells z)) out) × (f ≡ foundFor cells z))
-    → (r ≡ answer (listingOf cells i) (length out)) × ((o ≡ leaves (listingOf cells i) out) × (i < length (queriesOf cells) → f ≡ foundFor cells (queryAt cells i)))
+    → (r ≡ answer (listingOf cells i) (length out)) × ((o ≡ leaves (listingOf cells i) out) × (f ≡ foundAt cells i))
 query-listed cells i h z is r o out f e =
     let l : done (listingText cells z) ≡ listingOf cells i = ap {B = Outcome (List ℕ)} (λ (y : Query (language (rulesOf cells))). done (listingText cells y)) is ∙ sym (listing-inside cells i h) in
-    (e .0 ∙ ap (λ (y : Outcome (List ℕ)). answer y (length out)) l, (e .1 .0 ∙ ap (λ (y : Outcome (List ℕ)). leaves y out) l, λ k. e .1 .1 ∙ ap (foundFor cells) is))
+    (e .0 ∙ ap (λ (y : Outcome (List ℕ)). answer y (length out)) l, (e .1 .0 ∙ ap (λ (y : Outcome (List ℕ)). leaves y out) l, e .1 .1 ∙ ap (foundFor cells) is ∙ sym (found-inside cells i h)))

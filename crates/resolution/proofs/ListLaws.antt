@@ -3,7 +3,8 @@ use Prim.Native.Nat.{ℕ, suc}
 use mathlib.Core.Path.{_≡_, refl, sym, ap, _∙_}
 use mathlib.Core.List.{List, [], _∷_, _++_, map, flatMap, append-assoc}
 use lib.ListN.{length}
-use Rattle.follow.specs.Tally.{Taken, joined}
+use Rattle.follow.specs.Tally.{Taken}
+use Rattle.follow.proofs.TallyLaws.{joined}
 
 module _ {A B : Type 0} where
   pub flatMap-append : (f : A → List B) (s t : List A) → flatMap f (s ++ t) ≡ flatMap f s ++ flatMap f t

@@ -29,11 +29,10 @@ use Rattle.graph_file.proofs.DecodeAccepted.{read-accepted}
 use Rattle.path_row.specs.Form.{frontText, stepText, stepsText}
 use Rattle.path_row.specs.Form.{rowText as pathRowText}
 use Rattle.follow.specs.Text.{foundText, letterOf, rowText, endText}
-use Rattle.resolution.specs.Listing.{awaitsText, foundFor, entriesText, listingText}
+use Rattle.resolution.specs.Listing.{awaitsText, shownText, foundFor, listingText}
 use Rattle.board.specs.Queries.{queryAt}
 use Rattle.board.specs.Example.{hours, service, exampleText}
 use Rattle.graph_table.specs.Sections.{tableForm}
-use Rattle.resolution.specs.Demand.{shownText}
 use Rattle.resolution.specs.Marked.{serviceAt2, serviceAt3Awaits3, hoursAt2, serviceAt3, serviceAt3Awaits1, hoursAt2AwaitsI, hoursTwice, serviceAt0, closedText, open1Text, open2PText, open2IText, twoMarksText, turnedText, I, P, Shown, pathRow, openPair, queryFor, Dash, Lists, Judges, Marked}
 use Rattle.resolution.proofs.Demand.{listing-is}
 use Rattle.board.proofs.Queries.{getD-in}
@@ -65,7 +64,7 @@ module _ (text cells : List ℕ) (e : readCells text ≡ done cells) (i : ℕ) (
   -- the listing's text, from its parts
   shown-parts : (p : Query L) (f : Found) (o : Option (OpenPair L)) (rows : List (PathRow L)) → q ≡ p → found L (graphOf cells) q ≡ f
       → awaits L (graphOf cells) q (opensOf cells) ≡ o → entries L (graphOf cells) q ≡ rows → listingText cells q ≡ shownText cells p f o rows
-  unfolding listingText shownText entriesText foundFor
+  unfolding listingText foundFor
   shown-parts p f o rows s d w r = rw (d, w, r) (ap (λ (z : Query L). shownText cells z f o rows) s)
 
   -- a trial, from what is computed

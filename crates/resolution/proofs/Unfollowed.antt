@@ -25,7 +25,7 @@ use Rattle.search.specs.Conditions.{freeAt, wayOf, AwayAt}
 use Rattle.search.proofs.RulesLists.{flatMap-same}
 use Rattle.search.proofs.Closed.{without-within, closed-hits}
 use Rattle.follow.specs.Walk.{placesFrom, followedIn}
-use Rattle.resolution.specs.Asked.{barred, Missed, AwayFrom, followedBy}
+use Rattle.resolution.specs.Asked.{barred, AwayFrom, followedBy}
 
 -- a place's flag by its scope's set
 pub place-set : (t : List ℕ) (s q : ℕ) → s < 64 → placeFlag t s q ≡ hasState (getD t s 0) q
@@ -69,6 +69,10 @@ module _ (block : List ℕ) (goal : ℕ) (away : List ℕ) (at end : ℕ) (insid
 
       here : barred block goal away at end q ≡ (hasState (getD away at 0) q || hasState (acceptSet block) q)
       here = rw (g, p, place-set away at q inside, barred, alone (hasState (acceptSet block) q))
+
+-- no place of the scope shows the pair followed: each where its end is usable is barred
+abbrev Missed : List ℕ → ℕ → List ℕ → ℕ → ℕ → Type 0
+Missed block goal away at end = (q : ℕ) → hasState (usableSet block end) q ≡ true → barred block goal away at end q ≡ true
 
 -- none is left: each place is barred
 pub none-left : (block : List ℕ) (goal : ℕ) (away : List ℕ) (at end states g : ℕ) → g ≡ goal

@@ -14,8 +14,8 @@ use Rattle.scope_graph.specs.Computed.{Found, found-none, found-one, found-seve
 use Rattle.scope_graph.specs.Ends.{endsAt}
 use Rattle.text_field.specs.Number.{numberText}
 use Rattle.graph_file.specs.Admission.{Row, value}
-use Rattle.graph_file.specs.Decode.{lettersOf, rulesOf, scopesOf, graphOf, opensOf, WasRead}
-use Rattle.block.specs.Sets.{hasState, placesOf}
+use Rattle.graph_file.specs.Decode.{rulesOf, graphOf, opensOf}
+use Rattle.block.specs.Sets.{placesOf}
 use Rattle.block.specs.Block.{acceptSet, usableSet, pairFlag}
 use Rattle.block.specs.Ask.{IsAsk, askStart, askName, askGoal}
 use Rattle.search.specs.Tables.{placeFlag}
@@ -31,9 +31,9 @@ use Rattle.follow.specs.declared.Bounds.{Bounds}
 use Rattle.follow.specs.declared.Tally.{Tally}
 use Rattle.follow.specs.Tally as tally
 use Rattle.follow.specs.Tally.{Taken, takeRows}
-use Rattle.follow.specs.Text.{headLine, seekColumns, rowsLine, foundText, rowText, endText}
+use Rattle.follow.specs.Text.{headLine, seekColumns, rowsLine, foundText, endText}
 use Rattle.follow.specs.Walk.{letterBytes, followedIn}
-use Rattle.resolution.specs.Listing.{awaitsText, foundFor}
+use Rattle.resolution.specs.Listing.{awaitsText, entryText, foundFor}
 use Rattle.resolution.specs.declared.text.Found as told
 use Rattle.resolution.specs.declared.text.Found.the-variants.{None, One, Several}
 use Rattle.resolution.specs.declared.text.Awaits.{Awaits}
@@ -64,7 +64,7 @@ entriesTaken cells q =
     (λ r. record {
       at = rowDeclaration (language (rulesOf cells)) q r .at;
       mark = r .mark;
-      text = rowText (lettersOf cells) (r .mark) (r .path .start) (r .path .hops);
+      text = entryText cells r;
     })
     (entries (language (rulesOf cells)) (graphOf cells) q)
 
@@ -89,10 +89,6 @@ foundMeaning Several = found-several
 -- is there itself and stopping is preferred to the end
 unfoldable pub barred : List ℕ → ℕ → List ℕ → ℕ → ℕ → ℕ → Bool
 barred block goal away at end q = placeFlag away at q || (placesOf goal (acceptSet block) at q && pairFlag block 0 end)
-
--- no place of the scope shows the pair followed: each where its end is usable is barred
-abbrev pub Missed : List ℕ → ℕ → List ℕ → ℕ → ℕ → Type 0
-Missed block goal away at end = (q : ℕ) → hasState (usableSet block end) q ≡ true → barred block goal away at end q ≡ true
 
 -- a table of the places that are away from a start: no steps lead to them from the start, which is
 -- not away itself

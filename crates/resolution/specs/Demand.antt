@@ -4,39 +4,26 @@
 use Prim.Native.Nat.{ℕ, _<_, _≤_}
 use mathlib.Core.Path.{_≡_}
 use mathlib.Core.Logic.{_↔_}
-use mathlib.Core.Option.{Option, none}
-use mathlib.Core.List.{List, [], _∷_, _++_, flatMap}
+use mathlib.Core.Option.{Option}
+use mathlib.Core.List.{List, [], _∷_, _++_}
 use lib.ListN.{length, drop}
 use Rattle.scope_graph.specs.Language.{_∈_, Language}
-use Rattle.scope_graph.specs.Graph.{Graph, Query, OpenPair}
+use Rattle.scope_graph.specs.Graph.{Query, OpenPair}
 use Rattle.scope_graph.specs.Path.{PathRow, Entry}
 use Rattle.scope_graph.specs.Completion.{Settled, Awaits}
 use Rattle.scope_graph.specs.Rows.{language}
 use Rattle.scope_graph.specs.Computed.{Found}
 use Rattle.scope_graph.specs.Listing.{Pairwise, RowBefore, FoundIs}
-use Rattle.text_field.specs.Number.{numberText}
 use Rattle.text_field.specs.Outcome.{refused, done}
 use Rattle.graph_file.specs.File.{readCells}
 use Rattle.text_field.specs.Answer.{answer, leaves}
-use Rattle.graph_file.specs.Decode.{rulesOf, graphOf, opensOf, queriesOf, lettersOf}
-use Rattle.graph_table.specs.Sections.{tableForm}
-use Rattle.follow.specs.Text.{headLine, seekColumns, rowsLine, foundText, rowText}
-use Rattle.resolution.specs.Listing.{awaitsText, listingFor}
+use Rattle.graph_file.specs.Decode.{rulesOf, graphOf, opensOf, queriesOf}
+use Rattle.resolution.specs.Listing.{awaitsText, shownText, listingFor}
 use Rattle.board.specs.Queries.{queryAt}
 
 module _ (cells : List ℕ) where
   abbrev L : Language
   L = language (rulesOf cells)
-
-  -- a listing's text, for what it is to show of a query
-  unfoldable pub shownText : Query (language (rulesOf cells)) → Found → Option (OpenPair (language (rulesOf cells))) → List (PathRow (language (rulesOf cells))) → List ℕ
-  shownText q f o rows =
-      headLine (tableForm cells)
-      ++ (numberText (q .start)
-      ++ (32 ∷ (seekColumns (tableForm cells) (q .name)
-      ++ (32 ∷ (foundText f
-      ++ (32 ∷ (awaitsText cells o
-      ++ (10 ∷ (rowsLine ++ flatMap (λ r. rowText (lettersOf cells) (r .mark) (r .path .start) (r .path .hops)) rows)))))))))
 
   -- A listing is right: its rows are exactly the entries, each once and in order; `found` is by
   -- their declarations (02, K2); `awaits` is the first decisive pair, and `-` is printed exactly if
@@ -45,7 +32,7 @@ module _ (cells : List ℕ) where
     pub rows : List (PathRow L)
     pub found : Found
     pub awaited : Option (OpenPair L)
-    pub printed : text ≡ shownText q found awaited rows
+    pub printed : text ≡ shownText cells q found awaited rows
     pub entries : (r : PathRow L) → (r ∈ rows) ↔ Entry L (graphOf cells) q r
     pub in-order : Pairwise (RowBefore L) rows
     -- no row is there twice; nor is a line of the text, since by `in-order` two rows differ in a

@@ -7,9 +7,9 @@ use mathlib.Core.Logic.{_↔_}
 use mathlib.Core.Option.{Option, some, none}
 use mathlib.Core.List.{List, [], _∷_, _++_, map}
 use lib.ListN.{length}
-use Rattle.scope_graph.specs.Language.{_∈_, End, stop, by, Language}
+use Rattle.scope_graph.specs.Language.{_∈_, End, stop, by}
 use Rattle.scope_graph.specs.Graph.{Query, OpenPair}
-use Rattle.scope_graph.specs.Path.{Hop, Path, PathRow, Reached, Shadowed, MarkDeclared, Entry}
+use Rattle.scope_graph.specs.Path.{PathRow, Reached, Shadowed, MarkDeclared, Entry}
 use Rattle.scope_graph.specs.Completion.{Settled, Awaits}
 use Rattle.scope_graph.specs.Rows.{Rules, language}
 use Rattle.scope_graph.specs.Computed.{Found, found-one, found-several}

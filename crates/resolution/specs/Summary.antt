@@ -1,7 +1,10 @@
--- The text of the summary (01, "The listing"; the share as 02, K1 has it), for its figures. Assumes
--- nothing: these are definitions.
+-- The text of the summary (01, "The listing"; the share as 02, K1 has it): for its figures, and for
+-- what each query is found. Assumes nothing: these are definitions.
 use Prim.Native.Nat.{ℕ, zero, suc}
+use mathlib.Core.Bool.{Bool, true, false}
 use mathlib.Core.List.{List, [], _∷_, _++_}
+use lib.ListN.{length}
+use Rattle.scope_graph.specs.Computed.{Found, found-none, found-one, found-several}
 use Rattle.text_field.specs.Number.{numberText}
 use Rattle.share.specs.Share.{share}
 
@@ -23,3 +26,25 @@ summaryText n one several none =
     ++ (32 ∷ (numberText several
     ++ (32 ∷ (numberText none
     ++ (32 ∷ (shareText n one ++ (10 ∷ []))))))))))
+
+-- is it the same of the three?
+unfoldable pub sameFound : Found → Found → Bool
+sameFound found-none found-none = true
+sameFound found-none found-one = false
+sameFound found-none found-several = false
+sameFound found-one found-none = false
+sameFound found-one found-one = true
+sameFound found-one found-several = false
+sameFound found-several found-none = false
+sameFound found-several found-one = false
+sameFound found-several found-several = true
+
+-- how many of the list are f
+unfoldable pub countFound : Found → List Found → ℕ
+countFound f [] = 0
+countFound f (x ∷ xs) = elim (sameFound f x) [ true ↦ suc (countFound f xs) | false ↦ countFound f xs ]
+
+-- the summary's text, where the list has one `found` for each query
+unfoldable pub summaryBy : List Found → List ℕ
+summaryBy founds =
+    summaryText (length founds) (countFound found-one founds) (countFound found-several founds) (countFound found-none founds)

@@ -1,18 +1,17 @@
 -- The summary over the text (01, "The listing"): its figures are counts of what the rules say of
 -- the queries. This is the statement; the value is in proofs/Totals.antt. Assumes nothing.
-use Prim.Native.Nat.{ℕ, _+_}
+use Prim.Native.Nat.{ℕ}
 use mathlib.Core.Path.{_≡_}
 use mathlib.Core.List.{List, [], _∷_}
-use lib.ListN.{length}
 use Rattle.scope_graph.specs.Graph.{Query}
 use Rattle.scope_graph.specs.Rows.{language}
-use Rattle.scope_graph.specs.Computed.{Found, found-none, found-one, found-several}
+use Rattle.scope_graph.specs.Computed.{Found}
 use Rattle.scope_graph.specs.Listing.{FoundIs}
 use Rattle.text_field.specs.Outcome.{done}
 use Rattle.graph_file.specs.File.{readCells}
 use Rattle.graph_file.specs.Decode.{rulesOf, graphOf, queriesOf}
-use Rattle.resolution.specs.Summary.{summaryText}
-use Rattle.resolution.specs.Listing.{isFound, summaryFor}
+use Rattle.resolution.specs.Summary.{summaryBy}
+use Rattle.resolution.specs.Listing.{summaryFor}
 
 module _ (cells : List ℕ) where
   -- one for each query, in their sequence, and each is by the declarations of the query's entries
@@ -22,19 +21,13 @@ module _ (cells : List ℕ) where
   FoundsAre (q ∷ qs) [] = ⊥
   FoundsAre (q ∷ qs) (f ∷ fs) = FoundIs (language (rulesOf cells)) (graphOf cells) q f × FoundsAre qs fs
 
-  -- how many of them are this one
-  unfoldable pub countIn : Found → List Found → ℕ
-  countIn f [] = 0
-  countIn f (x ∷ xs) = isFound cells f x + countIn f xs
-
--- What is printed is the number of queries and how many of them are found so. The share follows
--- from the first two of these, by `shareText` in specs/Summary; what number it is says
--- `ShareNearest` in share/specs/Share.
+-- What is printed is the number of queries, how many of them are found `one`, `several` and `none`,
+-- and the share (`summaryBy` in specs/Summary). The share follows from the first two of these, by
+-- `shareText` there; what number it is says `ShareNearest` in share/specs/Share.
 pub record SummaryIs (text cells : List ℕ) : Type 0 where
   pub founds : List Found
   pub founds-are : FoundsAre cells (queriesOf cells) founds
-  pub printed : summaryFor text
-      ≡ done (summaryText (length (queriesOf cells)) (countIn cells found-one founds) (countIn cells found-several founds) (countIn cells found-none founds))
+  pub printed : summaryFor text ≡ done (summaryBy founds)
 
 -- every text that is read
 abbrev pub SummaryRight : Type 0

@@ -35,7 +35,8 @@ fn with_room(tables: [u64; TABLES]) -> [u64; ASKSIZE]
     ask
 }
 
-// The ask of a query of a table that was read.
+// The ask of a query of a table that was read. Left open is what its tables of places and distances
+// hold beyond a closed table: more places, or other distances, cost time and change no answer.
 pub fn ask_of(table: &[u64], block: &[u64], q: QueryRow) -> [u64; ASKSIZE]
     requires made { ⌜ Made (now table) (now block) ⌝ }
     requires asked { ⌜ Asked (now table) (queryOn (now table) q) ⌝ }

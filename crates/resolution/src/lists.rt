@@ -20,17 +20,14 @@ use graph_table::form_of;
 use text_field::Answer;
 use text_field::put_bytes;
 ghost use mathlib.Core.Path.{_≡_};
-ghost use mathlib.Core.Bool.{false};
-ghost use Prim.Native.Nat.{_+_, _<_, _≤_};
 ghost use lib.ListN.{length};
 ghost use Rattle.text_field.specs.Buffer.{Buf, puts};
 ghost use Rattle.text_field.specs.Outcome.{done};
 ghost use Rattle.text_field.specs.Answer.{answer, leaves, answerOf};
-ghost use Rattle.graph_file.specs.Decode.{queriesOf, WasRead};
+ghost use Rattle.graph_file.specs.Decode.{WasRead};
 ghost use Rattle.graph_file.specs.Reader.{TextRoom};
 ghost use Rattle.board.specs.Made.{Made};
-ghost use Rattle.board.specs.Queries.{queryAt};
-ghost use Rattle.resolution.specs.Listing.{foundFor, listingText, listingOf, listingFor};
+ghost use Rattle.resolution.specs.Listing.{foundFor, foundAt, listingText, listingOf, listingFor};
 ghost use Rattle.resolution.specs.Asked.{Ready, queryIn, foundMeaning, queryHead};
 
 // Room for what stands above a listing's rows: two names lines and the query's line, at most 73
@@ -42,7 +39,7 @@ const HEAD: usize = 128;
 const KEPT: usize = 512;
 
 // What a listing answers, and the query's `found`, which is known of a listing that is too long
-// too. Where there is no such query it says nothing.
+// too. If there is no such query, it is `none`.
 pub struct Listed {
     pub answer: Answer,
     pub found: Found,
@@ -117,7 +114,7 @@ pub fn listing_on(table: &[u64], block: &[u64], i: usize, out: &mut [u8]) -> Lis
     requires made { ⌜ Made (now table) (now block) ⌝ }
     ensures answer { λ r. ⌜ answerOf (r .answer) ≡ answer (listingOf (now (table .entry)) i) (length (now (out .entry))) ⌝ }
     ensures memory { λ r. ⌜ now (out .exit) ≡ leaves (listingOf (now (table .entry)) i) (now (out .entry)) ⌝ }
-    ensures found { λ r. ⌜ (i < length (queriesOf (now (table .entry))) → foundMeaning (r .found) ≡ foundFor (now (table .entry)) (queryAt (now (table .entry)) i)) ⌝ }
+    ensures found { λ r. ⌜ foundMeaning (r .found) ≡ foundAt (now (table .entry)) i ⌝ }
 {
     if query_count(table, block) <= i {
         return Listed {

@@ -9,7 +9,6 @@ use text_field::put_bytes;
 use text_field::put_name;
 use text_field::put_number;
 ghost use mathlib.Core.Path.{_≡_};
-ghost use mathlib.Core.List.{List, [], _∷_};
 ghost use Prim.Native.Nat.{_<_};
 ghost use Rattle.scope_graph.specs.Order.{endOf};
 ghost use Rattle.text_field.specs.Buffer.{Buf, puts};

@@ -79,11 +79,11 @@ is-shadowed-with is-unreached m n e = absurd (let z : _≡_ {A = ℕ} 0 1 = cc i
 
 module _ (L : Language) where
   step-self : (h : Hop L) → sameStep L h h ≡ true
-  unfolding sameStep
+  unfolding sameStep sameHop
   step-self h = and-both _ _ (eq-eqb (L .label (h .step)) _ refl) (eq-eqb (h .to) _ refl)
 
   step-flip : (h k : Hop L) → sameStep L h k ≡ true → sameStep L k h ≡ true
-  unfolding sameStep
+  unfolding sameStep sameHop
   step-flip h k t =
       and-both _ _ (eq-eqb _ _ (sym (eqb-true (L .label (h .step)) (L .label (k .step)) (and-left _ _ t))))
       (eq-eqb _ _ (sym (eqb-true (h .to) (k .to) (and-right (eqb (L .label (h .step)) (L .label (k .step))) _ t))))
@@ -163,14 +163,14 @@ module _ (L : Language) (laws : Laws L) (g : Graph L) (range : InRange L g) wher
   module _ (one : OneStep L) (s : ℕ) (h k : Hop L) (m : record { from = s; step = h .step; to = h .to } ∈ g .edges)
       (n : record { from = s; step = k .step; to = k .to } ∈ g .edges) where
     step-is : sameStep L h k ≡ true → h ≡ k
-    unfolding sameStep
+    unfolding sameStep sameHop
     step-is t =
         let e = eqb-true (L .label (h .step)) (L .label (k .step)) (and-left _ _ t) in
         let f = eqb-true (h .to) (k .to) (and-right (eqb (L .label (h .step)) (L .label (k .step))) _ t) in
         let u = one (h .step) (k .step) (range .together _ _ m n refl f) e in
         λ i. record { step = u i; to = f i }
 
-    pub step-whole : sameStep L h k ≡ sameHop L h k
+    pub step-whole : sameStep L h k ≡ sameHop (L .same-step) h k
     step-whole =
         ⊎-elim (λ t. t ∙ sym ((same-hop L laws h k) .1 (step-is t)))
         (λ f. f ∙ sym (not-true _ (λ t. true-false (subst (λ (z : Hop L). sameStep L h z ≡ true) ((same-hop L laws h k) .0 t) (step-self L h)) f)))

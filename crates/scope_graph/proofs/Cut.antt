@@ -21,7 +21,7 @@ module _ (L : Language) (laws : Laws L) where
   preferred-to [] (k ∷ p) e = (λ t. t, λ t. t)
   preferred-to (h ∷ r) (k ∷ p) e = (
     λ t.
-        ⊎-elim inl (λ z. inr ((same-hop L laws h k) .0 (and-left _ _ z), (preferred-to r p e) .0 (and-right (sameHop L h k) _ z)))
+        ⊎-elim inl (λ z. inr ((same-hop L laws h k) .0 (and-left _ _ z), (preferred-to r p e) .0 (and-right (sameHop (L .same-step) h k) _ z)))
         (or-cases (L .prefers (by (h .step)) (by (k .step))) _ t),
     ⊎-elim (λ z. or-left _ _ z)
         (λ z.

@@ -329,8 +329,8 @@ earlier-shadowed : judged (language gym) two-imports (query gym (0, hours)) (tur
 unfolding computed
 earlier-shadowed = refl
 
--- Yet an open pair is not made harmless by a row of the same label: what comes may be later still.
--- Behind the earlier import nothing matters.
+-- Yet an import row does not settle an open place for imports at its scope: one that comes may have
+-- a higher turn still. After the earlier import nothing matters.
 later-still : ShowsTurned gym two-imports ((0, by I) ∷ []) (0, hours) ((5, 0, (I, 7, 1) ∷ []) ∷ []) found-one (some (0, by I))
 unfolding computed
 later-still = (refl, refl, refl)

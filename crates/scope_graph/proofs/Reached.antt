@@ -31,7 +31,7 @@ module _ (L : Language) where
 
 module _ (L : Language) (laws : Laws L) where
   -- the tests on hops are their equality
-  pub same-hop : (h k : Hop L) → (sameHop L h k ≡ true) ↔ (h ≡ k)
+  pub same-hop : (h k : Hop L) → (sameHop (L .same-step) h k ≡ true) ↔ (h ≡ k)
   unfolding sameHop
   same-hop h k = (
     λ t.
@@ -46,7 +46,7 @@ module _ (L : Language) (laws : Laws L) where
   same-hops [] (k ∷ p) = (λ t. absurd (false≢true t), λ e. cc)
   same-hops (h ∷ r) [] = (λ t. absurd (false≢true t), λ e. cc)
   same-hops (h ∷ r) (k ∷ p) = (
-    λ t. cc ((same-hop h k) .0 (and-left _ _ t), (same-hops r p) .0 (and-right (sameHop L h k) _ t)),
+    λ t. cc ((same-hop h k) .0 (and-left _ _ t), (same-hops r p) .0 (and-right (sameHop (L .same-step) h k) _ t)),
     λ e. and-both _ _ ((same-hop h k) .1 (cc)) ((same-hops r p) .1 (cc)),
   )
 
@@ -132,7 +132,7 @@ module _ (L : Language) (laws : Laws L) where
       path-node : (hops : List (Hop L)) → Reached L g q (record { start = q .start; hops = hops })
           → (n : Node L) × (n ∈ reachedNodes L g q) × (n .hops ≡ hops)
       path-node hops r = (
-        record { hops = hops; at = lastFrom L (q .start) hops; state = r .lawful .final },
+        record { hops = hops; at = lastFrom (q .start) hops; state = r .lawful .final },
         node-reached (nodes-complete L g q starts range _ (record { path = r .path; comes = refl; leads = r .lawful .leads }))
             (r .lawful .accepted) (r .declared),
         refl,

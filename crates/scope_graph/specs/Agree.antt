@@ -1,8 +1,8 @@
 -- How far two paths agree, and where a shadowed path was caught (02, K7); and what is proved of
 -- both, whose values are in proofs/Agree.antt. Assumes nothing: these are definitions.
-use Prim.Native.Nat.{ℕ, zero, suc, _≤_}
+use Prim.Native.Nat.{ℕ, suc, _≤_}
 use mathlib.Core.Path.{_≡_}
-use mathlib.Core.Bool.{Bool, true, false, _&&_}
+use mathlib.Core.Bool.{Bool, true, false}
 use mathlib.Core.Logic.{_↔_}
 use mathlib.Core.List.{List, [], _∷_, map}
 use lib.Dec.{eqb, ltb}
@@ -36,9 +36,10 @@ module _ (L : Language) where
   -- "Paths"). Of steps along edges that leave one scope this is all of it, turns included: so says
   -- `one-step` below.
   unfoldable pub sameStep : Hop L → Hop L → Bool
-  sameStep h k = eqb (L .label (h .step)) (L .label (k .step)) && eqb (h .to) (k .to)
+  sameStep h k = sameHop (λ a b. eqb (L .label a) (L .label b)) h k
 
-  -- the number of equal steps before the first difference
+  -- how many steps from the front on are the same in both: the count ends where two steps differ or
+  -- one path is over
   unfoldable pub agreeHops : List (Hop L) → List (Hop L) → ℕ
   agreeHops [] p = 0
   agreeHops (h ∷ r) [] = 0
@@ -83,7 +84,7 @@ module _ (L : Language) where
   pub record CaughtIs (g : Graph L) (q : Query L) : Type 0 where
     -- along edges that leave one scope, one label and one scope are the same step, turns included
     pub one-step : (s : ℕ) (h k : Hop L) → record { from = s; step = h .step; to = h .to } ∈ g .edges
-        → record { from = s; step = k .step; to = k .to } ∈ g .edges → sameStep h k ≡ sameHop L h k
+        → record { from = s; step = k .step; to = k .to } ∈ g .edges → sameStep h k ≡ sameHop (L .same-step) h k
     -- a shadowed path is so with one number, the computed one
     pub shadowed-with : (p : Path L) (n : ℕ) → ShadowedWith g q p n ↔ (Shadowed L g q p × (caught g q p ≡ n))
     -- exactly one judgement holds of each path row, and it is the computed one

@@ -43,6 +43,10 @@ pub record NodeOf (A : Type 0) : Type 0 where
 abbrev pub Node : Language → Type 0
 Node L = NodeOf (L .Step)
 
+-- Do two hops come to the same scope by the same step? `same` tells whether two steps are the same.
+unfoldable pub sameHop : {A : Type 0} → (A → A → Bool) → HopOf A → HopOf A → Bool
+sameHop same h k = same (h .step) (k .step) && eqb (h .to) (k .to)
+
 module _ (L : Language) where
   -- the hops along the edges that leave a scope, in row sequence
   unfoldable pub hopsAt : List (Edge L) → ℕ → List (Hop L)
@@ -96,21 +100,18 @@ module _ (L : Language) where
   usable q stop = L .accepts q
   usable q (by t) = elim (L .next q (L .label t)) [ none ↦ false | some r ↦ leadsOn (L .states) r ]
 
-  unfoldable pub sameHop : Hop L → Hop L → Bool
-  sameHop h k = L .same-step (h .step) (k .step) && eqb (h .to) (k .to)
-
   unfoldable pub sameHops : List (Hop L) → List (Hop L) → Bool
   sameHops [] [] = true
   sameHops [] (k ∷ p) = false
   sameHops (h ∷ r) [] = false
-  sameHops (h ∷ r) (k ∷ p) = sameHop h k && sameHops r p
+  sameHops (h ∷ r) (k ∷ p) = sameHop (L .same-step) h k && sameHops r p
 
   -- the hops r are preferred to whatever goes along p and then on by e
   unfoldable pub preferredTo : List (Hop L) → List (Hop L) → End (L .Step) → Bool
   preferredTo [] [] e = L .prefers stop e
   preferredTo (h ∷ r) [] e = L .prefers (by (h .step)) e
   preferredTo [] (k ∷ p) e = L .prefers stop (by (k .step))
-  preferredTo (h ∷ r) (k ∷ p) e = L .prefers (by (h .step)) (by (k .step)) || sameHop h k && preferredTo r p e
+  preferredTo (h ∷ r) (k ∷ p) e = L .prefers (by (h .step)) (by (k .step)) || sameHop (L .same-step) h k && preferredTo r p e
 
   -- 01's *more specific*: the first path is, than the second
   unfoldable pub moreSpecific : Path L → Path L → Bool
@@ -151,7 +152,7 @@ module _ (L : Language) where
     -- its end)
     unfoldable pub judged : PathRow L → Standing
     judged r =
-        elim (anyOf (eqb (r .mark)) (marksAt (g .declarations) (lastFrom L (r .path .start) (r .path .hops)) (q .name)))
+        elim (anyOf (eqb (r .mark)) (marksAt (g .declarations) (lastFrom (r .path .start) (r .path .hops)) (q .name)))
         [ false ↦ is-unreached | true ↦ standing (r .path) ]
 
     -- the end that stands for all that may come at an open place

@@ -1,5 +1,6 @@
-// Two ends that are held against each other: an order pair's, or how two paths go on. The rules
-// themselves stand in specs/.
+// How the code holds an end (the end mark, or a label) and two ends of which the first may be
+// preferred to the second. What these values mean stands in specs/Order.antt, and the rules
+// themselves in the other files there: this crate has no functions.
 
 // The turn of a step: a step that is no edge row has none.
 pub enum Turn {

@@ -1,11 +1,12 @@
 -- Which hops are worth entering, and the next of them. Assumes nothing.
-use mathlib.Core.Path.{_≡_, refl, sym, _∙_}
+use mathlib.Core.Path.{_≡_}
 use mathlib.Core.Logic.{_⊎_, inl, inr, ⊎-elim}
 use mathlib.Core.Bool.{true, false, and-false}
-use mathlib.Core.List.{List, [], _∷_, List·Memᴰ·cases-cons, List·Memᴰ·not-nil}
+use mathlib.Core.List.{List, [], _∷_, _++_}
 use Prim.Native.Nat.{ℕ, suc, _+_, _≤_, _<_}
 use native.Mathlib.Omega.{arith}
-use native.Mathlib.Numerals.{add-one}
+use borrow.Author.Tests.{lt-ltb, le-ltb, ltb-true, ltb-false}
+use lib.Dec.{ltb}
 use Rattle.scope_graph.specs.Language.{_∈_}
 use Rattle.scope_graph.specs.Path.{HopOf}
 use Rattle.scope_graph.specs.Turns.{Turned}
@@ -14,9 +15,10 @@ use Rattle.block.specs.Sets.{hasScope, hasLabel, ALL_LABELS}
 use Rattle.block.specs.Block.{nextCell, firstEdge, edgeCell, hopOf, hopsOn}
 use Rattle.block.proofs.SetLaws.{label-lacked}
 use Rattle.block.proofs.BlockLaws.{next-no-label, on-none, on-more}
+use Rattle.block.proofs.EdgeLaws.{first-edge, edge-past, edge-here, edge-more}
 use Rattle.search.specs.declared.Node.{Node}
 use Rattle.search.specs.Tables.{placeFlag}
-use Rattle.search.specs.Steps.{worthState, NextHop}
+use Rattle.search.specs.Steps.{worthState, nextHop}
 use Rattle.search.proofs.Cells.{place-state, place-no-state}
 
 -- a hop worth entering, or none
@@ -81,40 +83,46 @@ module _ (block : List ℕ) (q : ℕ) (h : HopOf Turned) (lacked : hasLabel ALL_
   pub all-dead : (table : List ℕ) → placeFlag table (h .to) (nextCell block q (h .step .label)) ≡ false
   all-dead table = place-no-state table (h .to) (nextCell block q (h .step .label)) all-stuck
 
+-- Of the edges of the node's scope from number p on, r is the first whose hop is worth entering, or
+-- a number where none is left. The hops that stand before it are worth nothing.
+pub record NextHop (block table : List ℕ) (n : Node) (labels p r : ℕ) : Type 0 where
+  pub on : p ≤ r
+  pub skipped : List (HopOf Turned)
+  pub split : hopsOn block (n .scope) p ≡ skipped ++ hopsOn block (n .scope) r
+  pub idle : (h : HopOf Turned) → h ∈ skipped → 16 ≤ worthState block table (n .free) (n .state) labels h
+  pub found : r < firstEdge block (suc (n .scope))
+      → hopsOn block (n .scope) r ≡ hopOf (edgeCell block r) ∷ hopsOn block (n .scope) (suc r)
+  pub worth : r < firstEdge block (suc (n .scope)) → worthState block table (n .free) (n .state) labels (hopOf (edgeCell block r)) < 16
+  pub none : firstEdge block (suc (n .scope)) ≤ r → hopsOn block (n .scope) r ≡ []
+
+-- the next hop is that
+pub next-told : (block table : List ℕ) (n : Node) (labels p r : ℕ) → r ≡ nextHop block table n labels p → NextHop block table n labels p r
+unfolding nextHop
+next-told block table n labels p r e =
+    let first = first-edge block (λ h. ltb (worthState block table (n .free) (n .state) labels h) 16) (n .scope) p r e in
+    record {
+      on = first .on;
+      skipped = first .skipped;
+      split = first .split;
+      idle = λ h m. ltb-false (worthState block table (n .free) (n .state) labels h) 16 (first .failed h m);
+      found = λ k. on-more block (n .scope) r k;
+      worth = λ k. ltb-true (worthState block table (n .free) (n .state) labels (hopOf (edgeCell block r))) 16 (first .passes k);
+      none = λ k. on-none block (n .scope) r k;
+    }
+
 -- the next hop, edge by edge
 module _ (block table : List ℕ) (n : Node) (labels i : ℕ) where
   abbrev at-edge : ℕ
   at-edge = worthState block table (n .free) (n .state) labels (hopOf (edgeCell block i))
 
-  pub next-more : i < firstEdge block (suc (n .scope)) → 16 ≤ at-edge → (r : ℕ) → NextHop block table n labels (i + 1) r → NextHop block table n labels i r
-  next-more inside dead r k = record {
-    on = omega (arith, k .on);
-    skipped = hopOf (edgeCell block i) ∷ k .skipped;
-    split = on-more block (n .scope) i inside ∙ rw (sym (add-one i), k .split);
-    idle = λ h m. ⊎-elim (λ e. rw e dead) (k .idle h) (List·Memᴰ·cases-cons m);
-    found = k .found;
-    worth = k .worth;
-    none = k .none;
-  }
+  pub next-more : i < firstEdge block (suc (n .scope)) → 16 ≤ at-edge → nextHop block table n labels i ≡ nextHop block table n labels (i + 1)
+  unfolding nextHop
+  next-more inside dead = edge-more block _ (n .scope) i inside (le-ltb at-edge 16 dead)
 
-  pub next-here : i < firstEdge block (suc (n .scope)) → at-edge < 16 → NextHop block table n labels i i
-  next-here inside good = record {
-    on = omega arith;
-    skipped = [];
-    split = refl;
-    idle = λ h m. absurd (List·Memᴰ·not-nil m);
-    found = λ k. on-more block (n .scope) i inside;
-    worth = λ k. good;
-    none = λ k. absurd (omega arith);
-  }
+  pub next-here : i < firstEdge block (suc (n .scope)) → at-edge < 16 → i ≡ nextHop block table n labels i
+  unfolding nextHop
+  next-here inside good = edge-here block _ (n .scope) i inside (lt-ltb at-edge 16 good)
 
-  pub next-end : firstEdge block (suc (n .scope)) ≤ i → NextHop block table n labels i i
-  next-end past = record {
-    on = omega arith;
-    skipped = [];
-    split = refl;
-    idle = λ h m. absurd (List·Memᴰ·not-nil m);
-    found = λ k. absurd (omega arith);
-    worth = λ k. absurd (omega arith);
-    none = λ k. on-none block (n .scope) i past;
-  }
+  pub next-end : firstEdge block (suc (n .scope)) ≤ i → i ≡ nextHop block table n labels i
+  unfolding nextHop
+  next-end past = edge-past block _ (n .scope) i past

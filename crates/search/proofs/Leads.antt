@@ -22,9 +22,9 @@ use Rattle.search.specs.Board.{without, leadsTo, existsFrom, hopLeads}
 use Rattle.search.specs.Live.{Closed, any-way}
 use Rattle.search.specs.Tables.{placeFlag, tableBoard}
 use Rattle.search.specs.Conditions.{Inside, LiveAt, WorthAt, wayOf}
-use Rattle.search.specs.Steps.{worthState, NextHop, Entered, leadsBy}
+use Rattle.search.specs.Steps.{worthState, Entered, leadsBy}
 use Rattle.search.proofs.Cells.{place-state}
-use Rattle.search.proofs.HopLaws.{worthy, idle, hop-yes, all-stuck}
+use Rattle.search.proofs.HopLaws.{NextHop, worthy, idle, hop-yes, all-stuck}
 use Rattle.search.proofs.RulesLists.{anyOf-cons, anyOf-same, anyOf-no, anyOf-append}
 use Rattle.search.proofs.Closed.{closed-less, closed-exists, without-within}
 

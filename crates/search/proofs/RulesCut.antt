@@ -26,7 +26,7 @@ module _ (L : Language) (g : Graph L) (x : L .Name) where
   -- r goes by the hop h and is preferred below to what goes along p and then on by e
   unfoldable through : Hop L → List (Hop L) → End (L .Step) → List (Hop L) → Bool
   through h p e [] = false
-  through h p e (k ∷ r) = sameHop L k h && preferredTo L r p e
+  through h p e (k ∷ r) = sameHop (L .same-step) k h && preferredTo L r p e
 
   preferred-split : (h : Hop L) (p : List (Hop L)) (e : End (L .Step)) (r : List (Hop L))
       → preferredTo L r (h ∷ p) e ≡ (preferredTo L r [] (by (h .step)) || through h p e r)
@@ -87,7 +87,7 @@ module _ (L : Language) (laws : Laws L) (g : Graph L) (x : L .Name) (range : InR
         ∙ anyOf-same _ _ N (λ n k. ap (λ (c : Bool). sought L g x n && (c && preferredTo L (n .hops) p e)) ((same-hop L laws h h) .1 refl))
         ∙ sym (anyOf-keep (λ n. preferredTo L (n .hops) p e) (sought L g x) N))
 
-    by-other : (k : Hop L) → k ∈ hopsAt L (g .edges) s → sameHop L k h ≡ false → anyOf passes (beyond L g fuel seen q k) ≡ false
+    by-other : (k : Hop L) → k ∈ hopsAt L (g .edges) s → sameHop (L .same-step) k h ≡ false → anyOf passes (beyond L g fuel seen q k) ≡ false
     unfolding through behind anyOf
     by-other k m t = ⊎-elim shut goes (hop-view L g x range free seen a s q k m)
       where
@@ -100,20 +100,20 @@ module _ (L : Language) (laws : Laws L) (g : Graph L) (x : L .Name) (range : InR
             rw (w .on (entered L g fuel seen))
             (anyOf-map passes (behind L k) N ∙ anyOf-no _ N (λ n y. rw t (and-false (sought L g x n))))
 
-    by-hop : (k : Hop L) → k ∈ hopsAt L (g .edges) s → anyOf passes (beyond L g fuel seen q k) ≡ (sameHop L k h && below)
-    by-hop k m = ⊎-elim same other (Two (sameHop L k h))
+    by-hop : (k : Hop L) → k ∈ hopsAt L (g .edges) s → anyOf passes (beyond L g fuel seen q k) ≡ (sameHop (L .same-step) k h && below)
+    by-hop k m = ⊎-elim same other (Two (sameHop (L .same-step) k h))
       where
-        same : sameHop L k h ≡ true → anyOf passes (beyond L g fuel seen q k) ≡ (sameHop L k h && below)
+        same : sameHop (L .same-step) k h ≡ true → anyOf passes (beyond L g fuel seen q k) ≡ (sameHop (L .same-step) k h && below)
         same t = rw (t, (same-hop L laws k h) .0 t) by-it
 
-        other : sameHop L k h ≡ false → anyOf passes (beyond L g fuel seen q k) ≡ (sameHop L k h && below)
+        other : sameHop (L .same-step) k h ≡ false → anyOf passes (beyond L g fuel seen q k) ≡ (sameHop (L .same-step) k h && below)
         other t = rw t (by-other k m t)
 
     by-hops : h ∈ hopsAt L (g .edges) s → anyOf (λ k. anyOf passes (beyond L g fuel seen q k)) (hopsAt L (g .edges) s) ≡ below
     by-hops m =
-        anyOf-same _ _ (hopsAt L (g .edges) s) (λ k n. by-hop k n ∙ and-comm (sameHop L k h) below)
-        ∙ anyOf-and below (λ k. sameHop L k h) (hopsAt L (g .edges) s)
-        ∙ ap (λ (c : Bool). below && c) (anyOf-intro (λ k. sameHop L k h) m ((same-hop L laws h h) .1 refl)) ∙ and-true below
+        anyOf-same _ _ (hopsAt L (g .edges) s) (λ k n. by-hop k n ∙ and-comm (sameHop (L .same-step) k h) below)
+        ∙ anyOf-and below (λ k. sameHop (L .same-step) k h) (hopsAt L (g .edges) s)
+        ∙ ap (λ (c : Bool). below && c) (anyOf-intro (λ k. sameHop (L .same-step) k h) m ((same-hop L laws h h) .1 refl)) ∙ and-true below
 
     pub cut-on : h ∈ hopsAt L (g .edges) s → cutFrom L g x (suc fuel) seen s q (h ∷ p) e
         ≡ (cutHere (boardOf L g x) (L .prefers) fuel free s q (by (h .step)) || cutFrom L g x fuel (h .to ∷ seen) (h .to) (v .state) p e)

@@ -29,7 +29,7 @@ module _ (L : Language) (laws : Laws L) (g : Graph L) (x : L .Name) (range : InR
   b = boardOf L g x
 
   reached-step : (free : ℕ → Bool) (s q : ℕ) (h : Hop L) (hs : List (Hop L)) → reachedBy b free s q (h ∷ hs)
-      ≡ (anyOf (λ k. sameHop L k h) (hopsAt L (g .edges) s) && leadsTo b (λ t r. reachedBy b (without free t) t r hs) free q h)
+      ≡ (anyOf (λ k. sameHop (L .same-step) k h) (hopsAt L (g .edges) s) && leadsTo b (λ t r. reachedBy b (without free t) t r hs) free q h)
   unfolding reachedBy among boardOf sameHop
   reached-step free s q h hs = split (among b h (b .hops s)) (leadsTo b (λ t r. reachedBy b (without free t) t r hs) free q h)
     where
@@ -55,7 +55,7 @@ module _ (L : Language) (laws : Laws L) (g : Graph L) (x : L .Name) (range : InR
       further f ih =
           rw (f .is)
           (reached-step free s q (f .hop) (f .rest .hops)
-          ∙ and-both _ _ (anyOf-intro (λ k. sameHop L k (f .hop)) (f .leaves) ((same-hop L laws (f .hop) (f .hop)) .1 refl))
+          ∙ and-both _ _ (anyOf-intro (λ k. sameHop (L .same-step) k (f .hop)) (f .leaves) ((same-hop L laws (f .hop) (f .hop)) .1 refl))
           (f .opens .leads _ ∙ ih (rw (f .is) at t)))
 
   -- and back: the place that the hops come to
@@ -72,15 +72,15 @@ module _ (L : Language) (laws : Laws L) (g : Graph L) (x : L .Name) (range : InR
   reached-node (suc fuel) free seen a s q [] l t = record { node = record { hops = []; at = s; state = q }; listed = here; along = refl; ends = t }
   reached-node (suc fuel) free seen a s q (h ∷ hs) l t =
       let c = reached-step free s q h hs in
-      let m = leaves (and-left (anyOf (λ k. sameHop L k h) (hopsAt L (g .edges) s)) _ (sym c ∙ t)) in
-      let w = and-right (anyOf (λ k. sameHop L k h) (hopsAt L (g .edges) s)) _ (sym c ∙ t) in
+      let m = leaves (and-left (anyOf (λ k. sameHop (L .same-step) k h) (hopsAt L (g .edges) s)) _ (sym c ∙ t)) in
+      let w = and-right (anyOf (λ k. sameHop (L .same-step) k h) (hopsAt L (g .edges) s)) _ (sym c ∙ t) in
       ⊎-elim (λ v. absurd (true-false w (v .leads _)))
       (λ v. further m v (reached-node fuel _ _ (agree-on (g .scopes) free seen a (h .to)) (h .to) (v .state) hs (omega arith) (sym (v .leads _) ∙ w)))
       (hop-view L g x range free seen a s q h m)
     where
-      leaves : anyOf (λ k. sameHop L k h) (hopsAt L (g .edges) s) ≡ true → h ∈ hopsAt L (g .edges) s
+      leaves : anyOf (λ k. sameHop (L .same-step) k h) (hopsAt L (g .edges) s) ≡ true → h ∈ hopsAt L (g .edges) s
       leaves k =
-          let r = anyOf-elim (λ k. sameHop L k h) (hopsAt L (g .edges) s) k in
+          let r = anyOf-elim (λ k. sameHop (L .same-step) k h) (hopsAt L (g .edges) s) k in
           Memᴰ·cast (sym ((same-hop L laws (r .0) h) .0 (r .2))) (r .1)
 
       further : h ∈ hopsAt L (g .edges) s → (v : Open L g x free seen q h) → PlaceOf fuel (h .to ∷ seen) (h .to) (v .state) hs

@@ -10,7 +10,7 @@ use Rattle.scope_graph.specs.Language.{End, stop, by, Language}
 use Rattle.scope_graph.specs.Graph.{Graph}
 use Rattle.scope_graph.specs.Path.{HopOf}
 use Rattle.scope_graph.specs.Rows.{anyOf}
-use Rattle.scope_graph.specs.Computed.{NodeOf, hopsAt, declaresAny}
+use Rattle.scope_graph.specs.Computed.{NodeOf, sameHop, hopsAt, declaresAny}
 
 -- A is what a step carries: a label, with a turn since 02's K12.
 pub record Board (A : Type 0) : Type 0 where
@@ -69,7 +69,7 @@ module _ {A : Type 0} (b : Board A) where
 
   -- is the hop one of the list?
   unfoldable pub among : HopOf A → List (HopOf A) → Bool
-  among h hs = anyOf (λ k. b .same (k .step) (h .step) && eqb (k .to) (h .to)) hs
+  among h hs = anyOf (λ k. sameHop (b .same) k h) hs
 
   -- do these hops lead from the scope and state, along edges and by free scopes, to what is sought?
   unfoldable pub reachedBy : (ℕ → Bool) → ℕ → ℕ → List (HopOf A) → Bool

@@ -3,14 +3,14 @@
 use Prim.Native.Nat.{ℕ, suc, _≤_, _<_}
 use mathlib.Core.Path.{_≡_}
 use mathlib.Core.Bool.{Bool, true, false, not, _&&_}
-use mathlib.Core.List.{List, [], _∷_, _++_}
-use lib.Dec.{eqb}
+use mathlib.Core.List.{List}
+use lib.Dec.{eqb, ltb}
 use Rattle.scope_graph.specs.Language.{_∈_, by}
 use Rattle.scope_graph.specs.Path.{HopOf}
 use Rattle.scope_graph.specs.Turns.{Turned, laterStep}
 use Rattle.scope_graph.specs.Rows.{anyOf}
 use Rattle.block.specs.Sets.{hasScope, hasState, hasLabel, placesOf}
-use Rattle.block.specs.Block.{nextCell, firstEdge, edgeCell, hopOf, hopsOn, blockHops}
+use Rattle.block.specs.Block.{nextCell, edgeCell, hopOf, blockHops, edgeOn}
 use Rattle.search.specs.Board.{Board, hopLeads}
 use Rattle.search.specs.Tables.{placeFlag}
 use Rattle.search.specs.declared.Node.{Node}
@@ -51,17 +51,10 @@ worthState block table free q labels h =
       | false ↦ 16
     ]
 
--- Of the edges of the node's scope from number p on, r is the first whose hop is worth entering, or
--- a number where none is left. The hops that stand before it are worth nothing.
-pub record NextHop (block table : List ℕ) (n : Node) (labels p r : ℕ) : Type 0 where
-  pub on : p ≤ r
-  pub skipped : List (HopOf Turned)
-  pub split : hopsOn block (n .scope) p ≡ skipped ++ hopsOn block (n .scope) r
-  pub idle : (h : HopOf Turned) → h ∈ skipped → 16 ≤ worthState block table (n .free) (n .state) labels h
-  pub found : r < firstEdge block (suc (n .scope))
-      → hopsOn block (n .scope) r ≡ hopOf (edgeCell block r) ∷ hopsOn block (n .scope) (suc r)
-  pub worth : r < firstEdge block (suc (n .scope)) → worthState block table (n .free) (n .state) labels (hopOf (edgeCell block r)) < 16
-  pub none : firstEdge block (suc (n .scope)) ≤ r → hopsOn block (n .scope) r ≡ []
+-- Of the edges of the node's scope from number p on, the first whose hop is worth entering. If none
+-- is, it is the number behind the scope's last edge; or p itself, if p is behind that already.
+unfoldable pub nextHop : List ℕ → List ℕ → Node → ℕ → ℕ → ℕ
+nextHop block table n labels p = edgeOn block (λ h. ltb (worthState block table (n .free) (n .state) labels h) 16) (n .scope) p
 
 -- edge number r leaves the node's scope, and its hop is worth entering
 pub record HopAt (block table : List ℕ) (n : Node) (labels r : ℕ) : Type 0 where

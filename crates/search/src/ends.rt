@@ -59,7 +59,8 @@ fn better(block: &[u64], c: u64) -> u64
 }
 
 // Is the end with number c cut at the node, by its label alone? Only ends that are preferred to it
-// are asked about, and each once for all questions at the node: what was learnt is handed on.
+// are asked about, and each once for all questions at the node: what was learnt is handed on. Of
+// which ends `known` tells more is left open: whatever it tells is so, and saves a later question.
 pub fn learn(block: &[u64], goal: u64, live: &[u64], n: Node, known: u64, c: u64) -> Learnt
     requires block { ⌜ IsBlock (now block) ⌝ }
     requires bounds { ⌜ Bounds (now block) ⌝ }

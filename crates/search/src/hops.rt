@@ -14,7 +14,7 @@ ghost use lib.ListN.{length};
 ghost use Rattle.block.specs.Layout.{IsBlock};
 ghost use Rattle.block.specs.Block.{hopOf};
 ghost use Rattle.search.specs.Conditions.{Inside};
-ghost use Rattle.search.specs.Steps.{worthState, NextHop, Entered};
+ghost use Rattle.search.specs.Steps.{worthState, nextHop, Entered};
 
 // The state after edge x's hop if its label is asked for and it is worth entering, else 16. Whether
 // the scope is free comes first, as the cheapest test.
@@ -36,13 +36,13 @@ pub fn worth(block: &[u64], table: &[u64], n: Node, labels: u64, x: u64) -> u64
     if place(table, to, r) { r } else { 16 }
 }
 
-// The next edge, from number p on, of the node's scope whose hop is asked for and worth entering;
-// past the scope's edges if there is none.
+// The next edge, from number p on, of the node's scope whose hop is asked for and worth entering. If
+// there is none, the number behind the scope's last edge, or p if that is behind it already.
 pub fn next_hop(block: &[u64], table: &[u64], n: Node, labels: u64, p: u64) -> u64
     requires block { ⌜ IsBlock (now block) ⌝ }
     requires table { ⌜ 64 ≤ length (now table) ⌝ }
     requires inside { ⌜ Inside n ⌝ }
-    ensures answer { λ r. ⌜ NextHop (now (block .entry)) (now (table .entry)) n labels p r ⌝ }
+    ensures answer { λ r. ⌜ r ≡ nextHop (now (block .entry)) (now (table .entry)) n labels p ⌝ }
 {
     let end = edges_end(block, n.scope);
     let mut i = p;

@@ -72,7 +72,8 @@ fn later_leads(block: &[u64], goal: u64, live: &[u64], n: Node, x: u64) -> bool
 }
 
 // Is edge x's step cut at the node? What was learnt of its ends is handed on, as `learn` does. An
-// edge whose turn no other is above, as all are in a file without turns, is cut as its label is.
+// edge whose turn no other is above, as all are in a file without turns, is cut as its label is. Of
+// which ends `known` tells more is left open: whatever it tells is so, and saves a later question.
 pub fn edge_cut(block: &[u64], goal: u64, live: &[u64], n: Node, known: u64, x: u64) -> Learnt
     requires block { ⌜ IsBlock (now block) ⌝ }
     requires bounds { ⌜ Bounds (now block) ⌝ }

@@ -3,8 +3,8 @@ ghost use mathlib.Core.Path.{_≡_};
 ghost use Prim.Native.Nat.{_<_};
 ghost use Rattle.share.specs.Share.{share};
 
-// To the nearest whole per cent, an exact half to the even one. Twice the rest is held against n:
-// no half is ever needed.
+// Rounds to the nearest per cent; of two that are equally near, to the even one (02, K1). It compares
+// twice the remainder with n, so no half is ever needed.
 pub fn share_of(one: u64, n: u64) -> u64
     requires few { ⌜ one < 1000 ⌝ }
     requires some { ⌜ 0 < n ⌝ }

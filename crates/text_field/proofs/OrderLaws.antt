@@ -9,9 +9,13 @@ use lib.Arith.{digits-lt, lt-of-le-ne}
 use lib.Dec.{ltb, eqb}
 use lib.ListN.{length, drop}
 use borrow.Author.Tests.{lt-ltb, le-ltb, ltb-true, ltb-false, ne-eqb, eq-eqb, eqb-true, eqb-false}
-use Rattle.text_field.specs.Name.{allNameBytes, isName, packed, packHigh, packLow, nameText, isNameCells, nameBefore, cellsBefore}
+use Rattle.text_field.specs.Name.{allNameBytes, isName, packed, packHigh, packLow, nameText, isNameCells, nameBefore}
 use Rattle.text_field.proofs.ByteLaws.{same-test, name-byte-bounds}
 use Rattle.text_field.proofs.NameLaws.{pow-some, all-tail, packed-below, name-form, cells-name}
+
+-- the order of two pairs of cells: by the high ones, and if these are equal by the low ones
+unfoldable pub cellsBefore : ℕ → ℕ → ℕ → ℕ → Bool
+cellsBefore high low high′ low′ = elim (eqb high high′) [ true ↦ ltb low low′ | false ↦ ltb high high′ ]
 
 module _ (P x a b : ℕ) where
   ltb-same : ltb (x * P + a) (x * P + b) ≡ ltb a b

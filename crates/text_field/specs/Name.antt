@@ -89,7 +89,3 @@ unfoldable pub nameBefore : List ℕ → List ℕ → Bool
 nameBefore s [] = false
 nameBefore [] (y ∷ t) = true
 nameBefore (x ∷ s) (y ∷ t) = elim (eqb x y) [ true ↦ nameBefore s t | false ↦ ltb x y ]
-
--- the order of two pairs of cells: by the high ones, and where these are equal by the low ones
-unfoldable pub cellsBefore : ℕ → ℕ → ℕ → ℕ → Bool
-cellsBefore high low high′ low′ = elim (eqb high high′) [ true ↦ ltb low low′ | false ↦ ltb high high′ ]

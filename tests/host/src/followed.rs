@@ -5,7 +5,7 @@ use crate::calls::{length, lent, number, Test};
 use crate::differ;
 
 extern "C" {
-    fn tewhoranu_listing(
+    fn tewhoranu_listing_counted(
         text: *const u8,
         text_length: usize,
         query: usize,
@@ -37,29 +37,29 @@ impl Test {
         let count = theirs.and_then(|n| plain::answers::beginnings(text, query).map(|count| (n, count)));
 
         let mut ours = memory.clone();
-        let answer = tewhoranu::listing(text, query, &mut ours).map_err(number);
+        let answer = tewhoranu::listing_counted(text, query, &mut ours).map_err(number);
         if answer != count || ours != out {
-            differ("listing", text, format!("{answer:?} and not {count:?} for query {query}, with {n} lent"));
+            differ("listing_counted", text, format!("{answer:?} and not {count:?} for query {query}, with {n} lent"));
         }
         let before = self.rng.below(5) as u64;
         let (mut ours, mut followed) = (memory, before);
         // SAFETY: the pointers and lengths are those of slices and of a number, apart from each other.
         let answer = unsafe {
-            tewhoranu_listing(text.as_ptr(), text.len(), query, ours.as_mut_ptr(), ours.len(), &mut followed)
+            tewhoranu_listing_counted(text.as_ptr(), text.len(), query, ours.as_mut_ptr(), ours.len(), &mut followed)
         };
         let due = match count {
             Ok((n, count)) => (64 + n as u64, count),
             Err(number) => (u64::from(number), before),
         };
         if (answer, followed) != due || ours != out {
-            differ("listing", text, format!("{answer} with {followed} and not {due:?} for query {query}"));
+            differ("listing_counted", text, format!("{answer} with {followed} and not {due:?} for query {query}"));
         }
         match count {
             Ok((_, count)) => {
-                self.tally.count("listing", "written".to_string());
+                self.tally.count("listing_counted", "written".to_string());
                 self.tally.count("followed", size(count).to_string());
             }
-            Err(number) => self.tally.count("listing", format!("refused {number}")),
+            Err(number) => self.tally.count("listing_counted", format!("refused {number}")),
         }
     }
 }

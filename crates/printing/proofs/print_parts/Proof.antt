@@ -10,8 +10,7 @@ use borrow.Author.Needs.{needs}
 use lib.ListN.{length, length-replicate}
 use Rattle.resolution.proofs.Counts.{queries-few, Counted, counted-none, counted-turn, counted-all, figures-few}
 use Rattle.printing.specs.Printed.{lent, tableText, Due}
-use Rattle.printing.specs.Parts.{partsText}
-use Rattle.printing.proofs.Laws.{size-start, size-turn, size-last, due-start, due-part, due-turn, due-last}
+use Rattle.printing.proofs.Laws.{partsText, size-start, size-turn, size-last, due-start, due-part, due-turn, due-last}
 use Rattle.printing.proofs.print_parts.Statement.{statement}
 use Rattle.printing.proofs.print_parts.Tie as tie
 

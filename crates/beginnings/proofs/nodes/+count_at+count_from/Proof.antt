@@ -9,7 +9,7 @@ use Rattle.block.specs.Block.{hopOf, firstEdge}
 use Rattle.block.specs.Ask.{askGoal}
 use Rattle.search.proofs.Measure.{over, over-edges, lexBy, lexBy-fst, lexBy-snd}
 use Rattle.search.proofs.CutEnds.{known-none}
-use Rattle.beginnings.specs.Count.{hopesIn}
+use Rattle.beginnings.specs.Tables.{hopesIn}
 use Rattle.beginnings.specs.Steps.{ALL_SCOPES, ownPlace}
 use Rattle.beginnings.proofs.Few.{few-less}
 use Rattle.beginnings.proofs.Tells.{own-small}

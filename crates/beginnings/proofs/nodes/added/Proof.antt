@@ -2,7 +2,7 @@
 use Prim.Native.Nat.{_+_, _≤_}
 use mathlib.Core.Path.{sym}
 use native.Mathlib.Omega.{arith}
-use Rattle.beginnings.specs.Count.{MOST}
+use Rattle.beginnings.specs.Beginnings.{MOST}
 use Rattle.beginnings.proofs.Tells.{capped-few, capped-many}
 use borrow.Author.Needs.{needs}
 use Rattle.beginnings.proofs.nodes.added.Statement.{statement}

@@ -1,7 +1,7 @@
 -- `count_all` meets its contract. Assumes nothing.
 use mathlib.Core.Path.{ap, _∙_}
 use native.Mathlib.Omega.{arith}
-use Rattle.beginnings.specs.Count.{capped}
+use Rattle.beginnings.specs.Beginnings.{capped}
 use Rattle.beginnings.proofs.Tells.{capped-most}
 use Rattle.beginnings.proofs.Start.{at-start}
 use borrow.Author.Needs.{needs}

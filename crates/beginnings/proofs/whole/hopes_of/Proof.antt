@@ -3,7 +3,7 @@ use mathlib.Core.Path.{sym, ap₂, _∙_}
 use native.Mathlib.Omega.{arith}
 use lib.Seq.{length-take-le}
 use Rattle.board.specs.Tables.{hopefulSet}
-use Rattle.beginnings.specs.Count.{hopesIn}
+use Rattle.beginnings.specs.Tables.{hopesIn}
 use Rattle.beginnings.proofs.Start.{next-first}
 use borrow.Author.Needs.{needs}
 use Rattle.beginnings.proofs.whole.hopes_of.Statement.{statement}

@@ -1,18 +1,16 @@
--- `edge_to` meets its contract: the edges passed go elsewhere, so what is looked up from edge p on
--- is what is looked up from all. Assumes nothing.
-use Prim.Native.Nat.{_-_, _≤_}
-use mathlib.Core.Path.{_≡_, _∙_}
+-- `edge_to` meets its contract: the edges passed go elsewhere, so the first from edge p on is the
+-- first of all. Assumes nothing.
+use Prim.Native.Nat.{_-_}
+use mathlib.Core.Path.{_≡_, sym, ap, _∙_}
 use native.Mathlib.Omega.{arith}
 use borrow.Author.Needs.{needs}
-use Rattle.scope_graph.specs.Turns.{turnBy}
-use Rattle.block.specs.Block.{firstEdge, hopsOn, blockHops}
-use Rattle.block.proofs.BlockLaws.{blockHops-in}
-use Rattle.block.proofs.EdgeLaws.{look-more, edge-found, edge-none}
+use Rattle.block.specs.Block.{goes, edgeOn, edgeTo}
+use Rattle.block.proofs.EdgeLaws.{edge-past, edge-here, edge-more}
 use Rattle.block.proofs.edges.edge_to.Statement.{statement}
 use Rattle.block.proofs.edges.edge_to.Tie as tie
 
 abbrev Inv-loop : tie.InvT-loop
-Inv-loop block s label to end p₀ p = (firstEdge block s ≤ p) × (turnBy (blockHops block s) label to ≡ turnBy (hopsOn block s p) label to)
+Inv-loop block s label to end p₀ p = edgeTo block s label to ≡ edgeOn block (goes label to) s p
 
 abbrev μ-loop : tie.MeasureT-loop
 μ-loop block s label to end p₀ p = end - p
@@ -24,9 +22,8 @@ edges-from-requires : tie.Need-edges-from-requires Inv-loop μ-loop
 edges-from-requires c κs = search needs
 
 loop-holds : tie.Need-loop-holds Inv-loop μ-loop
-loop-holds c =
-    let s = c .before .before .before in
-    (omega (arith, c .edges-from .ensures), rw (c .edges-from .ensures, blockHops-in (s .args .block .now) (s .args .s) (s .pre .1)))
+unfolding edgeTo
+loop-holds c = rw (c .edges-from .ensures)
 
 edge-at-requires : tie.Need-edge-at-requires Inv-loop μ-loop
 edge-at-requires c κs = search needs
@@ -38,7 +35,7 @@ returns : tie.Need-returns Inv-loop μ-loop
 returns c =
     let s = c .before .before .before .before .before .before .before .before in
     let l = c .before .before .before .before .loop in
-    edge-found (s .args .block .now) (s .args .s) (s .args .label) (s .args .to) (l .p) (l .inv .1) (s .pre .1) (l .inv .0) (omega (arith, c .before .before .before .before .before .before .edges-end .ensures)) (rw (c .before .is-edge .ensures, c .before .before .edge-at .ensures) at (c .if1 .taken))
+    edge-here (s .args .block .now) _ (s .args .s) (l .p) (omega (arith, c .before .before .before .before .before .before .edges-end .ensures)) (rw (c .before .is-edge .ensures, c .before .before .edge-at .ensures) at (c .if1 .taken)) ∙ sym (l .inv)
 
 add-p : tie.Need-add-p Inv-loop μ-loop
 add-p c = omega arith
@@ -49,15 +46,13 @@ loop-less c = omega arith
 loop-again : tie.Need-loop-again Inv-loop μ-loop
 loop-again c =
     let s = c .before .before .before .before .before .before .before .before in
-    let l = c .before .before .before .before .loop in (
-      omega (arith, l .inv .0),
-      l .inv .1 ∙ look-more (s .args .block .now) (s .args .s) (s .args .label) (s .args .to) (l .p) (omega (arith, c .before .before .before .before .before .before .edges-end .ensures)) (rw (c .before .is-edge .ensures, c .before .before .edge-at .ensures) at (c .if1 .left)),
-    )
+    let l = c .before .before .before .before .loop in
+    l .inv ∙ edge-more (s .args .block .now) _ (s .args .s) (l .p) (omega (arith, c .before .before .before .before .before .before .edges-end .ensures)) (rw (c .before .is-edge .ensures, c .before .before .edge-at .ensures) at (c .if1 .left))
 
 returns-2 : tie.Need-returns-2 Inv-loop μ-loop
 returns-2 c =
     let s = c .before .before .before .before .before in
-    edge-none (s .args .block .now) (s .args .s) (s .args .label) (s .args .to) (c .before .loop .p) (c .before .loop .inv .1) (c .before .before .before .edges-end .result) (c .before .before .before .edges-end .ensures) (omega arith)
+    edge-past (s .args .block .now) _ (s .args .s) (c .before .loop .p) (omega (arith, c .before .before .before .edges-end .ensures)) ∙ sym (c .before .loop .inv)
 
 pub edge-to-spec : {M : Type 1} → statement M
 edge-to-spec =

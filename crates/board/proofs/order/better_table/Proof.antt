@@ -1,10 +1,12 @@
 use Prim.Native.Nat.{_-_}
-use mathlib.Core.Path.{_≡_, sym, ap}
+use mathlib.Core.Path.{_≡_, ap, _∙_}
 use mathlib.Core.Logic.{inl, inr}
 use lib.ListN.{length, getD}
-use Rattle.graph_table.specs.declared.rows.PairRow.{PairRow}
-use Rattle.board.proofs.Passes.{Better, better-none, better-past, better-noted, better-all}
+use Rattle.scope_graph.specs.declared.Pair.{Pair}
+use Rattle.board.specs.Tables.{endPlace}
+use Rattle.board.proofs.Passes.{Better, end-past, end-cell, better-none, better-past, better-noted, better-all}
 use native.Mathlib.Omega.{arith}
+use borrow.Author.Needs.{needs}
 use Rattle.board.proofs.order.better_table.Statement.{statement}
 use Rattle.board.proofs.order.better_table.Tie as tie
 
@@ -23,6 +25,12 @@ sub-loop c = c .loop .inv .within
 pair-row-requires : tie.Need-pair-row-requires Inv-loop μ-loop
 pair-row-requires c κs = omega arith
 
+end-place-requires : tie.Need-end-place-requires Inv-loop μ-loop
+end-place-requires c κs = search needs
+
+end-place-requires-2 : tie.Need-end-place-requires-2 Inv-loop μ-loop
+end-place-requires-2 c κs = search needs
+
 add-p : tie.Need-add-p Inv-loop μ-loop
 add-p c = omega arith
 
@@ -30,13 +38,21 @@ loop-less : tie.Need-loop-less Inv-loop μ-loop
 loop-less c = omega arith
 
 loop-again : tie.Need-loop-again Inv-loop μ-loop
-loop-again c = let so = c .before .before .before .loop in let row = c .before .pair-row .ensures in let less = ap (λ (r : PairRow). r .less) row in let most = c .if1 .taken in better-past (c .before .before .before .before .before .args .rows .now) (so .p) (so .t) (so .inv) (c .before .before .loop-test .taken) (inl (omega arith))
+loop-again c =
+    let so = c .before .before .before .before .before .loop in
+    let a = c .before .before .before .before .before .before .before .args in
+    better-past (a .rows .now) (so .p) (so .t) (so .inv) (c .before .before .before .before .loop-test .taken)
+    (inl (end-past _ _ (c .before .before .end-place .ensures ∙ ap (λ (r : Pair). endPlace (r .less)) (c .before .before .before .pair-row .ensures)) (c .if1 .taken)))
 
 loop-less-2 : tie.Need-loop-less-2 Inv-loop μ-loop
 loop-less-2 c = omega arith
 
 loop-again-2 : tie.Need-loop-again-2 Inv-loop μ-loop
-loop-again-2 c = let so = c .before .before .before .before .loop in let row = c .before .before .pair-row .ensures in let more = ap (λ (r : PairRow). r .more) row in let most = c .if2 .taken in better-past (c .before .before .before .before .before .before .args .rows .now) (so .p) (so .t) (so .inv) (c .before .before .before .loop-test .taken) (inr (omega arith))
+loop-again-2 c =
+    let so = c .before .before .before .before .before .before .loop in
+    let a = c .before .before .before .before .before .before .before .before .args in
+    better-past (a .rows .now) (so .p) (so .t) (so .inv) (c .before .before .before .before .before .loop-test .taken)
+    (inr (end-past _ _ (c .before .before .end-place2 .ensures ∙ ap (λ (r : Pair). endPlace (r .more)) (c .before .before .before .before .pair-row .ensures)) (c .if2 .taken)))
 
 mul-t : tie.Need-mul-t Inv-loop μ-loop
 mul-t c = omega arith
@@ -57,7 +73,12 @@ loop-less-3 : tie.Need-loop-less-3 Inv-loop μ-loop
 loop-less-3 c = omega arith
 
 loop-again-3 : tie.Need-loop-again-3 Inv-loop μ-loop
-loop-again-3 c = let so = c .before .before .before .before .loop in let row = c .before .before .pair-row .ensures in let less = ap (λ (r : PairRow). r .less) row in let more = ap (λ (r : PairRow). r .more) row in rw (less, more) (better-noted (c .before .before .before .before .before .before .args .rows .now) (so .p) (so .t) (so .inv) (c .before .before .before .loop-test .taken) (omega arith) (omega arith))
+loop-again-3 c =
+    let so = c .before .before .before .before .before .before .loop in
+    let a = c .before .before .before .before .before .before .before .before .args in
+    let less = end-cell _ _ (c .before .before .before .end-place .ensures ∙ ap (λ (r : Pair). endPlace (r .less)) (c .before .before .before .before .pair-row .ensures)) (omega arith) in
+    let more = end-cell _ _ (c .before .before .end-place2 .ensures ∙ ap (λ (r : Pair). endPlace (r .more)) (c .before .before .before .before .pair-row .ensures)) (omega arith) in
+    rw (less, more) (better-noted (a .rows .now) (so .p) (so .t) (so .inv) (c .before .before .before .before .before .loop-test .taken) (omega arith) (omega arith))
 
 returns : tie.Need-returns Inv-loop μ-loop
 returns c = better-all (c .before .before .before .args .rows .now) (c .before .loop .p) (c .before .loop .t) (c .before .loop .inv) (c .loop-test .left)
@@ -71,6 +92,8 @@ better-table-spec =
     loop-holds
     sub-loop
     pair-row-requires
+    end-place-requires
+    end-place-requires-2
     add-p
     loop-less
     loop-again

@@ -1,7 +1,7 @@
 use Prim.Native.Nat.{ℕ, _-_}
 use mathlib.Core.Path.{_≡_, _∙_}
 use lib.ListN.{length-replicate}
-use Rattle.graph_table.specs.Sections.{startCell}
+use Rattle.graph_table.specs.Sections.{startOf}
 use Rattle.board.proofs.Fill.{Filled, filled-none, filled-next, filled-all}
 use Rattle.graph_table.proofs.Leading.{Looking, looking-starts, looking-place, looking-next}
 use native.Mathlib.Omega.{arith}
@@ -10,7 +10,7 @@ use Rattle.board.proofs.sections.starts.Statement.{statement}
 use Rattle.board.proofs.sections.starts.Tie as tie
 
 abbrev Inv-loop : tie.InvT-loop
-Inv-loop table t₀ p₀ k₀ t p k = Filled (startCell table) 10 k t × Looking 0 table (startCell table) k p
+Inv-loop table t₀ p₀ k₀ t p k = Filled (λ j. startOf j table) 10 k t × Looking 0 table (λ j. startOf j table) k p
 
 abbrev μ-loop : tie.MeasureT-loop
 μ-loop table t₀ p₀ k₀ t p k = 10 - k

@@ -6,6 +6,7 @@ use native.Mathlib.Omega.{arith}
 use Rattle.block.specs.Block.{firstEdge}
 use Rattle.block.specs.Ask.{askGoal}
 use Rattle.search.specs.Conditions.{Known}
+use Rattle.search.proofs.HopLaws.{next-told}
 use Rattle.follow.specs.Steps.{Skipped}
 use Rattle.follow.proofs.StepLaws.{skip-none, skip-idle, skip-cut, next-is, step-cut}
 use Rattle.follow.proofs.next.next_turned.Statement.{statement}
@@ -35,7 +36,7 @@ returns c = let a = c .before .before .before .before .before .before .before .b
     let none = c .if1 .taken in (
       so .inv .0,
       next-is (a .block .now) (a .ask .now) (a .onward .now) (a .n) (a .p) (so .i) (hop .result)
-          (skip-idle (a .block .now) (a .ask .now) (a .onward .now) (a .n) (a .p) (so .i) (hop .result) (so .inv .1) (hop .ensures)) (hop .ensures)
+          (skip-idle (a .block .now) (a .ask .now) (a .onward .now) (a .n) (a .p) (so .i) (hop .result) (so .inv .1) (next-told _ _ _ _ _ _ (hop .ensures))) (next-told _ _ _ _ _ _ (hop .ensures))
           (λ y. absurd (omega (arith, y, none, c .before .before .before .before .edges-end .ensures))),
     )
 
@@ -51,7 +52,7 @@ returns-2 c = let s = c .before .before .before .before .before .before .before 
     let told = c .before .before .edge-cut in let x = c .before .before .before .edge-at in let goal = c .before .before .before .before .before .before .before .ask-goal in (
       rw (goal .ensures) at (told .ensures .0),
       next-is (a .block .now) (a .ask .now) (a .onward .now) (a .n) (a .p) (so .i) (hop .result)
-          (skip-idle (a .block .now) (a .ask .now) (a .onward .now) (a .n) (a .p) (so .i) (hop .result) (so .inv .1) (hop .ensures)) (hop .ensures)
+          (skip-idle (a .block .now) (a .ask .now) (a .onward .now) (a .n) (a .p) (so .i) (hop .result) (so .inv .1) (next-told _ _ _ _ _ _ (hop .ensures))) (next-told _ _ _ _ _ _ (hop .ensures))
           (λ y. step-cut (a .block .now) (a .ask .now) (a .n) (hop .result) (x .result) (goal .result) (told .result .cut) (x .ensures) (goal .ensures) (told .ensures .1)
           ∙ not-true (told .result .cut) (c .if2 .taken)),
     )
@@ -60,14 +61,14 @@ add-i : tie.Need-add-i Inv-loop μ-loop
 add-i c = omega arith
 
 loop-less : tie.Need-loop-less Inv-loop μ-loop
-loop-less c = omega (arith, c .before .before .before .before .before .next-hop .ensures .on, c .before .before .before .before .before .before .before .before .edges-end .ensures)
+loop-less c = omega (arith, next-told _ _ _ _ _ _ (c .before .before .before .before .before .next-hop .ensures) .on, c .before .before .before .before .before .before .before .before .edges-end .ensures)
 
 loop-again : tie.Need-loop-again Inv-loop μ-loop
 loop-again c = let s = c .before .before .before .before .before .before .before .before .before .before .before .before in let a = s .args in let so = c .before .before .before .before .before .before .loop in let hop = c .before .before .before .before .before .next-hop in
     let told = c .before .before .edge-cut in let x = c .before .before .before .edge-at in let goal = c .before .before .before .before .before .before .before .ask-goal in (
       rw (goal .ensures) at (told .ensures .0),
       skip-cut (a .block .now) (a .ask .now) (a .onward .now) (a .n) (a .p) (so .i) (hop .result)
-          (skip-idle (a .block .now) (a .ask .now) (a .onward .now) (a .n) (a .p) (so .i) (hop .result) (so .inv .1) (hop .ensures)) (hop .ensures)
+          (skip-idle (a .block .now) (a .ask .now) (a .onward .now) (a .n) (a .p) (so .i) (hop .result) (so .inv .1) (next-told _ _ _ _ _ _ (hop .ensures))) (next-told _ _ _ _ _ _ (hop .ensures))
           (omega (arith, c .before .before .before .before .if1 .left, c .before .before .before .before .before .before .before .before .edges-end .ensures))
           (step-cut (a .block .now) (a .ask .now) (a .n) (hop .result) (x .result) (goal .result) (told .result .cut) (x .ensures) (goal .ensures) (told .ensures .1)
           ∙ not-false (told .result .cut) (c .if2 .left)),

@@ -3,7 +3,7 @@ use mathlib.Core.Path.{sym, ap, _∙_}
 use Rattle.graph_file.specs.Format.{sectionAt}
 use Rattle.graph_file.specs.Admission.{rowOf}
 use Rattle.graph_file.specs.Table.{lettersAt, rowsBack, sequenceMeaning}
-use Rattle.graph_file.proofs.AdmissionLaws.{follows-ascending, follows-edge, follows-once, follows-free}
+use Rattle.graph_file.proofs.AdmissionLaws.{sorted-edges, follows-ascending, follows-edge, follows-once, follows-free}
 use borrow.Author.Needs.{needs}
 use Rattle.graph_file.proofs.admission.row_follows.Statement.{statement}
 use Rattle.graph_file.proofs.admission.row_follows.Tie as tie
@@ -21,7 +21,8 @@ enum-told-2 : tie.Need-enum-told-2
 enum-told-2 c = search needs
 
 stands-apart-requires : tie.Need-stands-apart-requires
-stands-apart-requires c κs = search needs
+unfolding sequenceMeaning
+stands-apart-requires c κs = let a = c .before .before .before .before .before .args in let q = c .before .before .before .before .before .pre .1 in (q .0, sorted-edges (a .k) (rowsBack (a .rows) (a .p) (a .table .now)) (q .1) (sym (ap sequenceMeaning (c .enum-told2 .given .1)) ∙ c .before .before .sequence-of .ensures))
 
 enum-told-3 : tie.Need-enum-told-3
 enum-told-3 c = search needs

@@ -1,5 +1,5 @@
 use borrow.Author.Tests.{lt-ltb, le-ltb}
-use Rattle.graph_file.specs.Admission.{repeats}
+use Rattle.graph_file.specs.LookBack.{quickRepeats}
 use borrow.Author.Needs.{needs}
 use Rattle.graph_file.proofs.apart.repeats.Statement.{statement}
 use Rattle.graph_file.proofs.apart.repeats.Tie as tie
@@ -15,11 +15,11 @@ stands-above-requires : tie.Need-stands-above-requires
 stands-above-requires c κs = search needs
 
 returns : tie.Need-returns
-unfolding repeats
+unfolding quickRepeats
 returns c = rw (← c .before .before .value-at .ensures, lt-ltb _ _ (c .before .if1 .taken)) (c .stands-above .ensures)
 
 returns-2 : tie.Need-returns-2
-unfolding repeats
+unfolding quickRepeats
 returns-2 c = rw (← c .before .value-at .ensures, le-ltb _ _ (c .if1 .left))
 
 pub repeats-spec : {M : Type 1} → statement M

@@ -4,7 +4,8 @@ use native.Mathlib.Omega.{arith}
 use borrow.Author.Tests.{not-true, not-false}
 use borrow.Author.Needs.{needs}
 use lib.ListN.{drop}
-use Rattle.graph_file.specs.Admission.{rowOf, standsAbove}
+use Rattle.graph_file.specs.Admission.{rowOf}
+use Rattle.graph_file.specs.LookBack.{foundLookingBack}
 use Rattle.graph_file.specs.Table.{rowsBack}
 use Rattle.graph_file.proofs.AdmissionLaws.{above-none, above-other, above-hit, above-on}
 use Rattle.graph_file.proofs.apart.stands_above.Statement.{statement}
@@ -16,7 +17,7 @@ use Rattle.graph_file.proofs.rows.row_before.Reads as row-before-reads
 use Rattle.graph_file.proofs.rows.value_at.Reads as value-at-reads
 
 abbrev Inv-loop : tie.InvT-loop
-Inv-loop table p rows q₀ left₀ q left = (q ≤ p) × (standsAbove (rowsBack left q table) (rowOf (drop p table)) ≡ standsAbove (rowsBack rows p table) (rowOf (drop p table)))
+Inv-loop table p rows q₀ left₀ q left = (q ≤ p) × (foundLookingBack (rowsBack left q table) (rowOf (drop p table)) ≡ foundLookingBack (rowsBack rows p table) (rowOf (drop p table)))
 
 abbrev μ-loop : tie.MeasureT-loop
 μ-loop table p rows q₀ left₀ q left = left

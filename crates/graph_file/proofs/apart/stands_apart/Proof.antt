@@ -1,3 +1,5 @@
+use mathlib.Core.Path.{sym, _∙_}
+use Rattle.graph_file.proofs.LookBackLaws.{repeats-quick}
 use borrow.Author.Needs.{needs}
 use Rattle.graph_file.proofs.apart.stands_apart.Statement.{statement}
 use Rattle.graph_file.proofs.apart.stands_apart.Tie as tie
@@ -13,7 +15,7 @@ repeats-requires : tie.Need-repeats-requires
 repeats-requires c κs = search needs
 
 returns : tie.Need-returns
-returns c = rw (← c .before .before .edge-ascends .ensures, c .before .if1 .taken, ← c .repeats .ensures)
+returns c = let ascends = sym (c .before .before .edge-ascends .ensures) ∙ c .before .if1 .taken in rw (ascends, ← repeats-quick _ _ (c .before .before .before .before .pre .1) ascends, ← c .repeats .ensures)
 
 returns-2 : tie.Need-returns-2
 returns-2 c = rw (← c .before .edge-ascends .ensures, c .if1 .left)

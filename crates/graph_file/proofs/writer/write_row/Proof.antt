@@ -69,7 +69,7 @@ same-length c = search needs
 
 returns-4 : tie.Need-returns-4
 unfolding partWritten refusedOrPoured
-returns-4 c = let a = c .before .before .before .before .before .before .before .before .before .before .before .before .before .before .before .before .args in let f : c .counts-after .result ≡ countsAfter (a .s .section) (a .c) (value (rowOf (drop (a .p) (a .table .now))) 0) = c .counts-after .ensures ∙ ap (λ (row : Row). countsAfter (a .s .section) (a .c) (value row 0)) (c .before .before .before .before .before .before .before .before .before .before .before .row-at .ensures) in (rw f (row-taken (a .s .form) (a .s .section) (a .table .now) (a .p) (a .c) (a .out .now, a .n) (sym (row-long (a .s .form) (a .s .section) (a .table .now) (a .p) (c .before .before .before .before .before .before .before .before .before .before .before .before .if1 .left) _ (c .before .before .before .before .before .before .before .before .before .is-formed .ensures ∙ ap (formed (shapeAt (a .s .form) (a .s .section) .row)) (c .before .before .before .before .before .before .before .before .before .before .before .row-at .ensures))) ∙ not-false _ (c .before .before .before .before .before .before .before .before .if2 .left)) (c .before .before .before .before .before .before .before .admitted .result) (c .before .before .before .before .before .before .before .admitted .ensures) (c .before .before .before .before .before .before .before .before .before .before .before .before .before .before .before .before .pre .1 .1) (c .before .before .before .before .before .before .if3 .left) _ _ (c .before .before .before .put-line .ensures ∙ rw (layout-line (a .s) (c .before .before .before .before .before .before .before .before .before .before .before .before .before .before .before .before .pre .1 .2), c .before .before .before .before .before .before .before .before .before .before .before .row-at .ensures))), λ z. rw f (record { room = room-of (a .s .form) (a .s .section) (a .table .now) (a .p) (a .c) (sym (c .before .before .before .before .before .before .before .admitted .ensures) ∙ c .before .before .before .before .before .before .if3 .left); longer = refl; more = rows-after (a .s .section) (a .c) _; placed = placed-after (a .s .section) (a .p) (a .c) (value (rowOf (drop (a .p) (a .table .now))) 0) (c .before .before .before .before .before .before .before .before .before .before .before .before .before .before .before .before .pre .1 .1) }))
+returns-4 c = let a = c .before .before .before .before .before .before .before .before .before .before .before .before .before .before .before .before .args in let f : c .counts-after .result ≡ countsAfter (a .s .section) (a .c) (value (rowOf (drop (a .p) (a .table .now))) 0) = c .counts-after .ensures ∙ ap (λ (row : Row). countsAfter (a .s .section) (a .c) (value row 0)) (c .before .before .before .before .before .before .before .before .before .before .before .row-at .ensures) in (rw f (row-taken (a .s .form) (a .s .section) (a .table .now) (a .p) (a .c) (a .out .now, a .n) (sym (row-long (a .s .form) (a .s .section) (a .table .now) (a .p) (c .before .before .before .before .before .before .before .before .before .before .before .before .if1 .left) _ (c .before .before .before .before .before .before .before .before .before .is-formed .ensures ∙ ap (formed (shapeAt (a .s .form) (a .s .section) .row)) (c .before .before .before .before .before .before .before .before .before .before .before .row-at .ensures))) ∙ not-false _ (c .before .before .before .before .before .before .before .before .if2 .left)) (c .before .before .before .before .before .before .before .admitted .result) (c .before .before .before .before .before .before .before .admitted .ensures) (c .before .before .before .before .before .before .before .before .before .before .before .before .before .before .before .before .pre .1 .0 .1) (c .before .before .before .before .before .before .if3 .left) _ _ (c .before .before .before .put-line .ensures ∙ rw (layout-line (a .s) (c .before .before .before .before .before .before .before .before .before .before .before .before .before .before .before .before .pre .1 .0 .2), c .before .before .before .before .before .before .before .before .before .before .before .row-at .ensures))), λ z. rw f (record { room = room-of (a .s .form) (a .s .section) (a .table .now) (a .p) (a .c) (sym (c .before .before .before .before .before .before .before .admitted .ensures) ∙ c .before .before .before .before .before .before .if3 .left); longer = refl; more = rows-after (a .s .section) (a .c) _; placed = placed-after (a .s .section) (a .p) (a .c) (value (rowOf (drop (a .p) (a .table .now))) 0) (c .before .before .before .before .before .before .before .before .before .before .before .before .before .before .before .before .pre .1 .0 .1) }))
 
 pub write-row-spec : {M : Type 1} → statement M
 write-row-spec =

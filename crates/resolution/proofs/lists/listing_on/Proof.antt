@@ -2,6 +2,7 @@
 use mathlib.Core.Path.{_∙_}
 use native.Mathlib.Omega.{arith}
 use Rattle.text_field.specs.Answer.{answerOf}
+use Rattle.resolution.specs.Asked.{foundMeaning}
 use Rattle.resolution.proofs.Heads.{no-query, query-listed}
 use borrow.Author.Needs.{needs}
 use Rattle.resolution.proofs.lists.listing_on.Statement.{statement}
@@ -11,8 +12,8 @@ query-count-requires : tie.Need-query-count-requires
 query-count-requires c κs = search needs
 
 returns : tie.Need-returns
-unfolding answerOf
-returns c = let a = c .before .before .before .before .before .args in let p = c .before .before .before .before .before .pre in let n = c .before .query-count .ensures in let x = no-query (a .table .now) (a .i) (omega arith) (a .out .now) in (x .0, (x .1, λ h. absurd (omega arith)))
+unfolding answerOf foundMeaning
+returns c = let a = c .before .before .before .before .before .args in let p = c .before .before .before .before .before .pre in let n = c .before .query-count .ensures in no-query (a .table .now) (a .i) (omega arith) (a .out .now)
 
 query-at-requires : tie.Need-query-at-requires
 query-at-requires c κs = let a = c .before .before .before .before .before .args in let p = c .before .before .before .before .before .pre in let n = c .before .query-count .ensures in (p .0, (p .1, omega arith))

@@ -8,6 +8,7 @@ use borrow.Fn.Kinds.{In}
 use borrow.Fn.PlainCycle.{Measures, is, falls, and}
 use Rattle.block.specs.Block.{firstEdge}
 use Rattle.search.proofs.Measure.{over, over-edges, lexBy, lexBy-fst, lexBy-snd}
+use Rattle.search.proofs.HopLaws.{next-told}
 use Rattle.search.proofs.Leads.{Behind, behind-node, way-none, exists-here, exists-on, leads-over, enter-inside, enter-live, next-skip, next-none, next-found, next-on}
 use Rattle.search.proofs.exists.exists_at.Reads as exists-at
 use Rattle.search.proofs.exists.exists_at.Kinds as exists-at-kinds
@@ -88,7 +89,7 @@ exists-from-next-hop-requires t c κs = search needs
 exists-from-returns-2 : (t : ℕ) → exists-from-lts.Need-returns-2 (exists-from-calls t) (exists-from-at t) exists-from.Post
 exists-from-returns-2 t c =
     let s = c .before .before .before .before .before .before .before in
-    sym (next-none (s .args .block .now) (s .args .goal) (s .args .n) (s .args .labels) (s .args .live .now) (s .pre .1 .1 .1 .1 .1) (s .args .p) (c .before .next-hop .result) (c .before .next-hop .ensures) (omega (arith, c .before .before .edges-end .ensures)))
+    sym (next-none (s .args .block .now) (s .args .goal) (s .args .n) (s .args .labels) (s .args .live .now) (s .pre .1 .1 .1 .1 .1) (s .args .p) (c .before .next-hop .result) ((next-told _ _ _ _ _ _ (c .before .next-hop .ensures))) (omega (arith, c .before .before .edges-end .ensures)))
 
 exists-from-edge-at-requires : (t : ℕ) → exists-from-lts.Need-edge-at-requires (exists-from-calls t) (exists-from-at t) exists-from.Post
 exists-from-edge-at-requires t c κs = search needs
@@ -108,17 +109,17 @@ before t e = omega (arith, e .before .before .before .before .before .edges-end 
 
 behind : (t : ℕ) (e : Made t)
     → Behind (e .before .before .before .before .before .before .before .before .before .before .args .block .now) (e .before .before .before .before .before .before .before .before .before .before .args .live .now) (e .before .before .before .before .before .before .before .before .before .before .args .n) (e .before .before .before .before .before .before .before .before .before .before .args .labels) (e .before .before .before .before .next-hop .result) (e .entered .result)
-behind t e = behind-node (e .before .before .before .before .next-hop .ensures .worth (before t e)) (e .before .before .edge-at .ensures) (e .before .worth .ensures) (e .entered .ensures)
+behind t e = behind-node ((next-told _ _ _ _ _ _ (e .before .before .before .before .next-hop .ensures)) .worth (before t e)) (e .before .before .edge-at .ensures) (e .before .worth .ensures) (e .entered .ensures)
 
 exists-from-exists-at-requires : (t : ℕ) → exists-from-lts.Need-exists-at-requires (exists-from-calls t) (exists-from-at t) exists-from.Post
 exists-from-exists-at-requires t c κs =
     let s = c .before .before .before .before .before .before .before .before .before .before in (
-      rw (c .entered .ensures .left) (lexBy-snd (over (s .args .block .now)) (s .args .n .left) (firstEdge (s .args .block .now) (suc (s .args .n .scope)) - s .args .p) (s .pre .0) 0 (omega (arith, c .before .before .before .before .next-hop .ensures .on, before t c))),
+      rw (c .entered .ensures .left) (lexBy-snd (over (s .args .block .now)) (s .args .n .left) (firstEdge (s .args .block .now) (suc (s .args .n .scope)) - s .args .p) (s .pre .0) 0 (omega (arith, (next-told _ _ _ _ _ _ (c .before .before .before .before .next-hop .ensures)) .on, before t c))),
       (s .pre .1 .0, (s .pre .1 .1 .0, (s .pre .1 .1 .1 .0, (enter-inside (s .args .block .now) (s .args .goal) (s .args .n) (s .args .labels) (s .args .live .now) (c .before .before .before .before .next-hop .result) (c .entered .result) (behind t (c)), enter-live (s .args .block .now) (s .args .goal) (s .args .n) (s .args .labels) (s .args .live .now) (c .before .before .before .before .next-hop .result) (c .entered .result) (behind t (c)) (s .pre .1 .1 .1 .1 .1))))),
     )
 
 exists-from-returns-3 : (t : ℕ) → exists-from-lts.Need-returns-3 (exists-from-calls t) (exists-from-at t) exists-from.Post
-exists-from-returns-3 t c = let s = c .before .before .before .before .before .before .before .before .before .before .before .before in sym (next-found (s .args .block .now) (s .args .goal) (s .args .n) (s .args .labels) (s .args .live .now) (s .pre .1 .1 .1 .1 .1) (s .args .p) (c .before .before .before .before .before .before .next-hop .result) (c .before .before .before .before .before .before .next-hop .ensures) (before t (c .before .before)) (c .before .before .entered .result) (behind t (c .before .before)) (sym (c .before .exists-at .ensures) ∙ c .if3 .taken))
+exists-from-returns-3 t c = let s = c .before .before .before .before .before .before .before .before .before .before .before .before in sym (next-found (s .args .block .now) (s .args .goal) (s .args .n) (s .args .labels) (s .args .live .now) (s .pre .1 .1 .1 .1 .1) (s .args .p) (c .before .before .before .before .before .before .next-hop .result) ((next-told _ _ _ _ _ _ (c .before .before .before .before .before .before .next-hop .ensures))) (before t (c .before .before)) (c .before .before .entered .result) (behind t (c .before .before)) (sym (c .before .exists-at .ensures) ∙ c .if3 .taken))
 
 exists-from-enum-told : (t : ℕ) → exists-from-lts.Need-enum-told (exists-from-calls t) (exists-from-at t) exists-from.Post
 exists-from-enum-told t c = search needs
@@ -130,14 +131,14 @@ exists-from-exists-from-requires : (t : ℕ) → exists-from-lts.Need-exists-fro
 exists-from-exists-from-requires t c κs =
     let s = c .before .before .before .before .before .before .before .before .before .before .before .before .before .before in (
       lexBy-snd (over (s .args .block .now)) (s .args .n .left) (firstEdge (s .args .block .now) (suc (s .args .n .scope)) - s .args .p) (s .pre .0) (firstEdge (s .args .block .now) (suc (s .args .n .scope)) - (c .before .before .before .before .before .before .before .before .next-hop .result + 1))
-          (omega (arith, c .before .before .before .before .before .before .before .before .next-hop .ensures .on, before t (c .before .before .before .before))),
+          (omega (arith, (next-told _ _ _ _ _ _ (c .before .before .before .before .before .before .before .before .next-hop .ensures)) .on, before t (c .before .before .before .before))),
       s .pre .1,
     )
 
 exists-from-returns-4 : (t : ℕ) → exists-from-lts.Need-returns-4 (exists-from-calls t) (exists-from-at t) exists-from.Post
 exists-from-returns-4 t c =
     let s = c .before .before .before .before .before .before .before .before .before .before .before .before .before .before .before in
-    c .exists-from .ensures ∙ sym (next-on (s .args .block .now) (s .args .goal) (s .args .n) (s .args .labels) (s .args .live .now) (s .pre .1 .1 .1 .1 .1) (s .args .p) (c .before .before .before .before .before .before .before .before .before .next-hop .result) (c .before .before .before .before .before .before .before .before .before .next-hop .ensures) (before t (c .before .before .before .before .before)) (c .before .before .before .before .before .entered .result) (behind t (c .before .before .before .before .before)) (sym (c .before .before .before .before .exists-at .ensures) ∙ c .before .before .before .if3 .left))
+    c .exists-from .ensures ∙ sym (next-on (s .args .block .now) (s .args .goal) (s .args .n) (s .args .labels) (s .args .live .now) (s .pre .1 .1 .1 .1 .1) (s .args .p) (c .before .before .before .before .before .before .before .before .before .next-hop .result) ((next-told _ _ _ _ _ _ (c .before .before .before .before .before .before .before .before .before .next-hop .ensures))) (before t (c .before .before .before .before .before)) (c .before .before .before .before .before .entered .result) (behind t (c .before .before .before .before .before)) (sym (c .before .before .before .before .exists-at .ensures) ∙ c .before .before .before .if3 .left))
 
 exists-from-enum-told-2 : (t : ℕ) → exists-from-lts.Need-enum-told-2 (exists-from-calls t) (exists-from-at t) exists-from.Post
 exists-from-enum-told-2 t c = search needs
@@ -151,8 +152,8 @@ exists-from-next-hop-requires-2 t c κs = let s = c .before .before .before .bef
 exists-from-returns-5 : (t : ℕ) → exists-from-lts.Need-returns-5 (exists-from-calls t) (exists-from-at t) exists-from.Post
 exists-from-returns-5 t c =
     let s = c .before .before .before .before .before .before .before .before .before .before .before .before .before .before .before .before in
-    sym ((next-on (s .args .block .now) (s .args .goal) (s .args .n) (s .args .labels) (s .args .live .now) (s .pre .1 .1 .1 .1 .1) (s .args .p) (c .before .before .before .before .before .before .before .before .before .before .next-hop .result) (c .before .before .before .before .before .before .before .before .before .before .next-hop .ensures) (before t (c .before .before .before .before .before .before)) (c .before .before .before .before .before .before .entered .result) (behind t (c .before .before .before .before .before .before)) (sym (c .before .before .before .before .before .exists-at .ensures) ∙ c .before .before .before .before .if3 .left))
-    ∙ next-none (s .args .block .now) (s .args .goal) (s .args .n) (s .args .labels) (s .args .live .now) (s .pre .1 .1 .1 .1 .1) (c .before .before .before .before .before .before .before .before .before .before .next-hop .result + 1) (c .before .next-hop2 .result) (c .before .next-hop2 .ensures) (omega (arith, c .before .before .before .before .before .before .before .before .before .before .before .edges-end .ensures)))
+    sym ((next-on (s .args .block .now) (s .args .goal) (s .args .n) (s .args .labels) (s .args .live .now) (s .pre .1 .1 .1 .1 .1) (s .args .p) (c .before .before .before .before .before .before .before .before .before .before .next-hop .result) ((next-told _ _ _ _ _ _ (c .before .before .before .before .before .before .before .before .before .before .next-hop .ensures))) (before t (c .before .before .before .before .before .before)) (c .before .before .before .before .before .before .entered .result) (behind t (c .before .before .before .before .before .before)) (sym (c .before .before .before .before .before .exists-at .ensures) ∙ c .before .before .before .before .if3 .left))
+    ∙ next-none (s .args .block .now) (s .args .goal) (s .args .n) (s .args .labels) (s .args .live .now) (s .pre .1 .1 .1 .1 .1) (c .before .before .before .before .before .before .before .before .before .before .next-hop .result + 1) (c .before .next-hop2 .result) ((next-told _ _ _ _ _ _ (c .before .next-hop2 .ensures))) (omega (arith, c .before .before .before .before .before .before .before .before .before .before .before .edges-end .ensures)))
 
 exists-from-accept-set-requires : (t : ℕ) → exists-from-lts.Need-accept-set-requires (exists-from-calls t) (exists-from-at t) exists-from.Post
 exists-from-accept-set-requires t c κs = c .before .before .before .before .before .before .before .before .before .before .before .before .before .before .before .before .pre .1 .0
@@ -187,7 +188,7 @@ exists-from-exists-from-requires-2 : (t : ℕ) → exists-from-lts.Need-exists-f
 exists-from-exists-from-requires-2 t c κs =
     let s = c .before .before .before .before .before .before .before .before .before .before .before .before .before .before .before .before .before .before .before in (
       lexBy-snd (over (s .args .block .now)) (s .args .n .left) (firstEdge (s .args .block .now) (suc (s .args .n .scope)) - s .args .p) (s .pre .0) (firstEdge (s .args .block .now) (suc (s .args .n .scope)) - c .before .before .before .before .next-hop2 .result)
-          (omega (arith, c .before .before .before .before .before .before .before .before .before .before .before .before .before .next-hop .ensures .on, before t (c .before .before .before .before .before .before .before .before .before), c .before .before .before .before .next-hop2 .ensures .on, c .before .before .before .if4 .left, c .before .before .before .before .before .before .before .before .before .before .before .before .before .before .edges-end .ensures)),
+          (omega (arith, (next-told _ _ _ _ _ _ (c .before .before .before .before .before .before .before .before .before .before .before .before .before .next-hop .ensures)) .on, before t (c .before .before .before .before .before .before .before .before .before), (next-told _ _ _ _ _ _ (c .before .before .before .before .next-hop2 .ensures)) .on, c .before .before .before .if4 .left, c .before .before .before .before .before .before .before .before .before .before .before .before .before .before .edges-end .ensures)),
       (s .pre .1 .0, (s .pre .1 .1 .0, (omega arith, (s .pre .1 .1 .1 .1 .0, rw (c .before .before .accept-set .ensures, way-none (s .args .block .now) (s .args .goal)) at (c .before .live-table .ensures (s .args .goal)))))),
     )
 
@@ -195,8 +196,8 @@ exists-from-returns-6 : (t : ℕ) → exists-from-lts.Need-returns-6 (exists-fro
 exists-from-returns-6 t c =
     let s = c .before .before .before .before .before .before .before .before .before .before .before .before .before .before .before .before .before .before .before .before in
     c .exists-from2 .ensures
-    ∙ sym ((next-on (s .args .block .now) (s .args .goal) (s .args .n) (s .args .labels) (s .args .live .now) (s .pre .1 .1 .1 .1 .1) (s .args .p) (c .before .before .before .before .before .before .before .before .before .before .before .before .before .before .next-hop .result) (c .before .before .before .before .before .before .before .before .before .before .before .before .before .before .next-hop .ensures) (before t (c .before .before .before .before .before .before .before .before .before .before)) (c .before .before .before .before .before .before .before .before .before .before .entered .result) (behind t (c .before .before .before .before .before .before .before .before .before .before)) (sym (c .before .before .before .before .before .before .before .before .before .exists-at .ensures) ∙ c .before .before .before .before .before .before .before .before .if3 .left))
-    ∙ next-skip (s .args .block .now) (s .args .goal) (s .args .n) (s .args .labels) (s .args .live .now) (s .pre .1 .1 .1 .1 .1) (c .before .before .before .before .before .before .before .before .before .before .before .before .before .before .next-hop .result + 1) (c .before .before .before .before .before .next-hop2 .result) (c .before .before .before .before .before .next-hop2 .ensures))
+    ∙ sym ((next-on (s .args .block .now) (s .args .goal) (s .args .n) (s .args .labels) (s .args .live .now) (s .pre .1 .1 .1 .1 .1) (s .args .p) (c .before .before .before .before .before .before .before .before .before .before .before .before .before .before .next-hop .result) ((next-told _ _ _ _ _ _ (c .before .before .before .before .before .before .before .before .before .before .before .before .before .before .next-hop .ensures))) (before t (c .before .before .before .before .before .before .before .before .before .before)) (c .before .before .before .before .before .before .before .before .before .before .entered .result) (behind t (c .before .before .before .before .before .before .before .before .before .before)) (sym (c .before .before .before .before .before .before .before .before .before .exists-at .ensures) ∙ c .before .before .before .before .before .before .before .before .if3 .left))
+    ∙ next-skip (s .args .block .now) (s .args .goal) (s .args .n) (s .args .labels) (s .args .live .now) (s .pre .1 .1 .1 .1 .1) (c .before .before .before .before .before .before .before .before .before .before .before .before .before .before .next-hop .result + 1) (c .before .before .before .before .before .next-hop2 .result) ((next-told _ _ _ _ _ _ (c .before .before .before .before .before .next-hop2 .ensures))))
 
 pub +exists-at+exists-from-spec : {M : Type 1} → statement M
 +exists-at+exists-from-spec = close μ-exists-at μ-exists-from (λ t. exists-at-lts.spec (exists-at-calls t) (exists-at-at t)
