@@ -11,8 +11,8 @@ use std::fs;
 use std::path::Path;
 use std::thread;
 
-/// Stack for a program, in bytes.
-const STACK: usize = 64 * 1024 * 1024;
+/// Stack for a program, in bytes: what serves every call, and more for the program's own memory.
+const STACK: usize = 4 * tewhoranu::STACK;
 
 /// Runs a program on its input, if it has one, and compares what it prints, line by line.
 fn prints_what_is_due(name: &str, program: fn()) {

@@ -16,8 +16,9 @@ mod os;
 use std::process::ExitCode;
 use std::thread;
 
-/// Stack for the program, in bytes, also where a main thread has less. Every call of the library has enough with half.
-const STACK: usize = 8 * 1024 * 1024;
+/// Stack for the program, in bytes, also where a main thread has less: what serves every call, and as much for the
+/// program's own memory.
+const STACK: usize = 2 * tewhoranu::STACK;
 
 fn main() -> ExitCode {
     let program = thread::Builder::new().stack_size(STACK).spawn(gym::main);
