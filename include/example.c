@@ -36,7 +36,7 @@ int main(int argc, char **argv)
     }
 
     for (query = 0;; query++) {
-        answer = tewhoranu_listing_plain(text, length, query, out, sizeof out);
+        answer = tewhoranu_listing(text, length, query, out, sizeof out);
         if (answer == TEWHORANU_NO_QUERY)
             break;
         print_answer(answer);

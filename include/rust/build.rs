@@ -1,4 +1,4 @@
-//! Links the archive that `rt staticlib host` writes: TEWHORANU_LIB names its folder where it is not this repository's
+//! Links the archive that `rt staticlib tewhoranu` writes: TEWHORANU_LIB names its folder where it is not this repository's
 //! target/staticlib. With the feature `source` nothing is linked: portable/make writes the proved source as Rust.
 
 use std::env;
@@ -11,9 +11,9 @@ fn link(root: &Path) {
         None => root.join("target/staticlib"),
     };
     println!("cargo:rerun-if-env-changed=TEWHORANU_LIB");
-    println!("cargo:rerun-if-changed={}", folder.join("libhost.a").display());
+    println!("cargo:rerun-if-changed={}", folder.join("libtewhoranu.a").display());
     println!("cargo:rustc-link-search=native={}", folder.display());
-    println!("cargo:rustc-link-lib=static=host");
+    println!("cargo:rustc-link-lib=static=tewhoranu");
 }
 
 fn make(root: &Path) {

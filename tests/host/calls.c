@@ -90,18 +90,18 @@ static int follows(size_t length, const char *listing)
     size_t query, written = strlen(listing);
     uint64_t followed = 77;
 
-    if (tewhoranu_listing(text, length, 1, out, written - 1, &followed) != TEWHORANU_NO_ROOM || followed != 77)
+    if (tewhoranu_listing_counted(text, length, 1, out, written - 1, &followed) != TEWHORANU_NO_ROOM || followed != 77)
         return 0;
-    if (tewhoranu_listing(text, length, 3, out, sizeof out, &followed) != TEWHORANU_NO_QUERY || followed != 77)
+    if (tewhoranu_listing_counted(text, length, 3, out, sizeof out, &followed) != TEWHORANU_NO_QUERY || followed != 77)
         return 0;
-    if (tewhoranu_listing(text, length - 1, 1, out, sizeof out, &followed) != TEWHORANU_MALFORMED || followed != 77)
+    if (tewhoranu_listing_counted(text, length - 1, 1, out, sizeof out, &followed) != TEWHORANU_MALFORMED || followed != 77)
         return 0;
     for (query = 0; query < 3; query++) {
         followed = 77;
-        if (tewhoranu_refused(tewhoranu_listing(text, length, query, out, sizeof out, &followed)) || followed != due[query])
+        if (tewhoranu_refused(tewhoranu_listing_counted(text, length, query, out, sizeof out, &followed)) || followed != due[query])
             return 0;
     }
-    return tewhoranu_listing(text, length, 1, out, written, &followed) == TEWHORANU_DONE + written
+    return tewhoranu_listing_counted(text, length, 1, out, written, &followed) == TEWHORANU_DONE + written
         && memcmp(out, listing, written) == 0;
 }
 
@@ -191,11 +191,11 @@ int main(int argc, char **argv)
     EXPECT(tewhoranu_name_sought(text, length, 2, &place) == 5 && memcmp(text + place, "hours", 5) == 0);
     EXPECT(place == length - 6);
 
-    answer = tewhoranu_listing_plain(text, length, 1, out, sizeof out);
+    answer = tewhoranu_listing(text, length, 1, out, sizeof out);
     EXPECT(answer == TEWHORANU_DONE + strlen(listing) && memcmp(out, listing, strlen(listing)) == 0);
-    EXPECT(tewhoranu_listing_plain(text, length, 1, out, strlen(listing)) == answer);
-    EXPECT(tewhoranu_listing_plain(text, length, 1, out, strlen(listing) - 1) == TEWHORANU_NO_ROOM);
-    EXPECT(tewhoranu_listing_plain(text, length, 3, out, sizeof out) == TEWHORANU_NO_QUERY);
+    EXPECT(tewhoranu_listing(text, length, 1, out, strlen(listing)) == answer);
+    EXPECT(tewhoranu_listing(text, length, 1, out, strlen(listing) - 1) == TEWHORANU_NO_ROOM);
+    EXPECT(tewhoranu_listing(text, length, 3, out, sizeof out) == TEWHORANU_NO_QUERY);
     EXPECT(follows(length, listing));
 
     answer = tewhoranu_summary(text, length, out, TEWHORANU_SUMMARY);
@@ -255,8 +255,8 @@ int main(int argc, char **argv)
     EXPECT(out[0] == 'x');
 
     /* the number beside a listing: a file with turns, and one with more beginnings than are told */
-    EXPECT(!tewhoranu_refused(tewhoranu_listing(bytes(turns), strlen(turns), 0, out, sizeof out, &place)) && place == 2);
-    EXPECT(!tewhoranu_refused(tewhoranu_listing(bytes(two_routes()), strlen(two_routes()), 0, out, sizeof out, &place)));
+    EXPECT(!tewhoranu_refused(tewhoranu_listing_counted(bytes(turns), strlen(turns), 0, out, sizeof out, &place)) && place == 2);
+    EXPECT(!tewhoranu_refused(tewhoranu_listing_counted(bytes(two_routes()), strlen(two_routes()), 0, out, sizeof out, &place)));
     EXPECT(place == TEWHORANU_FOLLOWED);
 
     /* a file with kinds: its cells, its text, its listing, its name sought */
@@ -273,7 +273,7 @@ int main(int argc, char **argv)
     EXPECT(!tewhoranu_refused(tewhoranu_write(table, cells, out, sizeof out)));
     table[0] = TEWHORANU_WITH_TURNS + 1;
     EXPECT(tewhoranu_write(table, cells, out, sizeof out) == TEWHORANU_MALFORMED);
-    answer = tewhoranu_listing_plain(bytes(kinds), length, 1, out, sizeof out);
+    answer = tewhoranu_listing(bytes(kinds), length, 1, out, sizeof out);
     EXPECT(answer == TEWHORANU_DONE + strlen(limit) && memcmp(out, limit, strlen(limit)) == 0);
     EXPECT(tewhoranu_name_sought(bytes(kinds), length, 1, &place) == 1 && place == length - 2);
     answer = tewhoranu_judge(bytes(kinds), length, 1, bytes("2 0"), 3, steps, 0);
@@ -297,7 +297,7 @@ int main(int argc, char **argv)
     table[34] = 1;
     table[0] = TEWHORANU_WITH_KINDS;
     EXPECT(tewhoranu_write(table, cells, out, sizeof out) == TEWHORANU_MALFORMED);
-    answer = tewhoranu_listing_plain(bytes(turns), strlen(turns), 0, out, sizeof out);
+    answer = tewhoranu_listing(bytes(turns), strlen(turns), 0, out, sizeof out);
     EXPECT(answer == TEWHORANU_DONE + strlen(later) && memcmp(out, later, strlen(later)) == 0);
     answer = tewhoranu_judge(bytes(turns), strlen(turns), 0, bytes("1 0I1"), 5, steps, 1);
     EXPECT(is_case(answer, TEWHORANU_VISIBLE, 0));

@@ -1,5 +1,5 @@
 //! Calls one function of our library, or of the plain implementation, on a gym file, so many times over: bench/run counts the instructions of
-//! both. `library (ours|plain) (read|write|listing|listing_plain|summary) FILE TIMES`. Prints a sum over what was written, which must be the same on both sides.
+//! both. `library (ours|plain) (read|write|listing|listing_counted|summary) FILE TIMES`. Prints a sum over what was written, which must be the same on both sides.
 
 use std::{env, fs};
 
@@ -24,18 +24,18 @@ fn write(ours: bool, table: &[u64], out: &mut [u8]) -> usize {
     }
 }
 
-fn listing_plain(ours: bool, text: &[u8], query: usize, out: &mut [u8]) -> Option<usize> {
+fn listing(ours: bool, text: &[u8], query: usize, out: &mut [u8]) -> Option<usize> {
     if ours {
-        tewhoranu::listing_plain(text, query, out).ok()
+        tewhoranu::listing(text, query, out).ok()
     } else {
         plain::answers::listing(text, query, out).ok()
     }
 }
 
 /// A listing and its number of lawful beginnings.
-fn listing(ours: bool, text: &[u8], query: usize, out: &mut [u8]) -> Option<(usize, u64)> {
+fn listing_counted(ours: bool, text: &[u8], query: usize, out: &mut [u8]) -> Option<(usize, u64)> {
     if ours {
-        tewhoranu::listing(text, query, out).ok()
+        tewhoranu::listing_counted(text, query, out).ok()
     } else {
         let n = plain::answers::listing(text, query, out).ok()?;
         Some((n, plain::answers::beginnings(text, query).ok()?))
@@ -74,12 +74,12 @@ fn main() {
                 let n = write(ours, &table[..cells], &mut out);
                 sum(out[..n].iter().map(|&b| b.into()))
             }
-            "listing_plain" => (0..queries).fold(0, |s: u64, q| {
-                let n = listing_plain(ours, &text, q, &mut out).unwrap_or(0);
+            "listing" => (0..queries).fold(0, |s: u64, q| {
+                let n = listing(ours, &text, q, &mut out).unwrap_or(0);
                 s.wrapping_add(sum(out[..n].iter().map(|&b| b.into())))
             }),
-            "listing" => (0..queries).fold(0, |s: u64, q| {
-                let (n, followed) = listing(ours, &text, q, &mut out).unwrap_or((0, 0));
+            "listing_counted" => (0..queries).fold(0, |s: u64, q| {
+                let (n, followed) = listing_counted(ours, &text, q, &mut out).unwrap_or((0, 0));
                 s.wrapping_add(sum(out[..n].iter().map(|&b| b.into()).chain([followed])))
             }),
             "summary" => {

@@ -1,7 +1,7 @@
--- What a comparison leaves in the two lent step tables. Assumes nothing.
+-- What a comparison hands out for the two lent step tables. Assumes nothing.
 use mathlib.Core.Path.{_≡_, refl, sym, ap, _∙_}
 use mathlib.Core.Bool.{Bool, true, false}
-use mathlib.Core.List.{List}
+use mathlib.Core.List.{List, []}
 use Prim.Native.Nat.{ℕ, _≤_}
 use native.Mathlib.Omega.{arith}
 use borrow.Author.Tests.{ltb-false}
@@ -10,34 +10,39 @@ use lib.ListN.{length}
 use Rattle.text_field.specs.Outcome.{Outcome, refused, done, andThen, refuseIf}
 use Rattle.graph_file.specs.File.{readCells}
 use Rattle.path_row.specs.declared.form.Step.{Step}
-use Rattle.path_row.specs.Form.{PathRow, rowHere, stepsIn}
-use Rattle.path_row.specs.Lent.{stepsLeft, filled, stepsDue}
-use Rattle.path_row.proofs.LentLaws.{Fills, fills-none, fills-all}
+use Rattle.path_row.specs.declared.taken.Steps.{Steps}
+use Rattle.path_row.specs.Form.{PathRow, rowHere, stepsIn, stepsTaken, stepsHeld}
+use Rattle.path_row.specs.Numbering.{pathOf}
+use Rattle.path_row.specs.Lent.{stepsLent}
+use Rattle.path_row.proofs.RowReads.{RowIs}
+use Rattle.path_row.proofs.TakenLaws.{taken-held}
+use Rattle.path_row.proofs.LentLaws.{lent-all}
 use Rattle.comparison.specs.declared.rows.Compared.{Compared}
-use Rattle.comparison.specs.declared.rows.Compared.the-variants.{First, Second, Neither, Refused}
-use Rattle.comparison.specs.Compare.{first, second, neither, Told, asTold, meaning, told, compareRows, compareAnswer}
+use Rattle.comparison.specs.declared.rows.Compared.the-variants.{Refused}
+use Rattle.comparison.specs.declared.rows.ComparedRows.{ComparedRows}
+use Rattle.comparison.specs.Compare.{Told, meaning, rowBefore, comparison, agreement, told, toldOf, compareRows, compareAnswer, HandsOut}
 
--- how many steps are due
-pub due-none : (answer : Compared) (k : ℕ) (ss : List Step) → answer ≡ Refused k → 0 ≡ stepsDue (meaning answer) ss
-unfolding meaning stepsDue
-due-none answer k ss e = rw e
+-- a refusal hands out no steps
+pub hands-none : (o : Outcome Told) (a b : List ℕ) (k : ℕ) (r : ComparedRows) → (r .answer ≡ Refused k) × ((r .first ≡ stepsHeld []) × (r .second ≡ stepsHeld [])) → refused k ≡ o → HandsOut o a b r
+unfolding meaning stepsLent
+hands-none o a b k r (e, (f, g)) h = rw (← h) (record { answer = ap meaning e; first = f; second = g })
 
-due-all : (answer : Compared) (x : Told) (ss : List Step) (r : ℕ) → meaning answer ≡ done x → r ≡ length ss → r ≡ stepsDue (meaning answer) ss
-unfolding stepsDue
-due-all answer x ss r e f = f ∙ rw e
+-- what is told of two rows is told by their starts and steps
+same-told : (cells : List ℕ) (s t : ℕ) (ts us : List Step) (p q : PathRow) → p .start ≡ s → q .start ≡ t → p .steps ≡ ts → q .steps ≡ us → toldOf cells s t ts us ≡ told cells p q
+unfolding toldOf told comparison agreement rowBefore pathOf
+same-told cells s t ts us p q e f g h = rw (← e, ← f, ← g, ← h) refl
 
-module _ (answer : Compared) (n : ℕ) (ss : List Step) (r : ℕ) (f : r ≡ length ss) where
-  pub due-first : answer ≡ First n → r ≡ stepsDue (meaning answer) ss
-  unfolding meaning
-  due-first e = due-all answer (asTold first n) ss r (ap meaning e) f
-
-  pub due-second : answer ≡ Second n → r ≡ stepsDue (meaning answer) ss
-  unfolding meaning
-  due-second e = due-all answer (asTold second n) ss r (ap meaning e) f
-
-  pub due-neither : answer ≡ Neither n → r ≡ stepsDue (meaning answer) ss
-  unfolding meaning
-  due-neither e = due-all answer (asTold neither n) ss r (ap meaning e) f
+-- rows that were read and fit: each hands out its steps
+pub hands-all : (cells a b : List ℕ) (o : Outcome Told) (mark start count : ℕ) (p : RowIs a mark start count) (mark′ other more : ℕ) (q : RowIs b mark′ other more) → o ≡ done (told cells (p .row) (q .row)) → (ts us : Steps) → ts ≡ stepsHeld (stepsIn a)
+    → us ≡ stepsHeld (stepsIn b) → (r : Compared) → meaning r ≡ done (toldOf cells start other (stepsTaken ts) (stepsTaken us)) → HandsOut o a b (record { answer = r; first = ts; second = us })
+hands-all cells a b o mark start count p mark′ other more q w ts us e f r h =
+    let x : stepsTaken ts ≡ p .row .steps = ap stepsTaken e ∙ taken-held (stepsIn a) ∙ sym (p .steps) in
+    let y : stepsTaken us ≡ q .row .steps = ap stepsTaken f ∙ taken-held (stepsIn b) ∙ sym (q .steps) in
+    record {
+      answer = h ∙ ap {B = Outcome Told} (λ (z : Told). done z) (same-told cells start other (stepsTaken ts) (stepsTaken us) (p .row) (q .row) (p .starts) (q .starts) (sym x) (sym y)) ∙ sym w;
+      first = e ∙ ap stepsHeld (sym (ap (λ (z : Outcome Told). stepsLent z a) w ∙ lent-all _ a (p .row) (p .read) ∙ p .steps));
+      second = f ∙ ap stepsHeld (sym (ap (λ (z : Outcome Told). stepsLent z b) w ∙ lent-all _ b (q .row) (q .read) ∙ q .steps));
+    }
 
 -- a comparison that was not refused: both rows are rows, and their steps fit
 record Passed (a b : List ℕ) (n m : ℕ) : Type 0 where
@@ -72,22 +77,16 @@ module _ (text a b : List ℕ) (n m : ℕ) where
   by-cells c (refused k) e = absurd (let z : _≡_ {A = ℕ} 0 1 = cc in omega arith)
   by-cells c (done cells) e = passed cells a b n m c (sym e)
 
-  both-fill : (o : Outcome Told) → o ≡ compareAnswer text a b n m → Fills o a n × Fills o b m
-  unfolding compareAnswer
-  both-fill (refused k) e = (fills-none Told k a n, fills-none Told k b m)
-  both-fill (done c) e =
-      let r = by-cells c (readCells text) e
-      in (fills-all c a n (r .p) (r .reads-a) (r .fits-a), fills-all c b m (r .q) (r .reads-b) (r .fits-b))
+  -- what is handed out fits the tables
+  lent-fit : (o : Outcome Told) → o ≡ compareAnswer text a b n m → (length (stepsLent o a) ≤ n) × (length (stepsLent o b) ≤ m)
+  unfolding compareAnswer stepsLent
+  lent-fit (refused k) e = (omega arith, omega arith)
+  lent-fit (done c) e =
+      let r = by-cells c (readCells text) e in
+      (rw (lent-all c a (r .p) (r .reads-a)) (r .fits-a), rw (lent-all c b (r .q) (r .reads-b)) (r .fits-b))
 
-  module _ (o : Outcome Told) (e : o ≡ compareAnswer text a b n m) where
-    pub due-a : stepsDue o (stepsIn a) ≤ n
-    due-a = both-fill o e .0 .0
+  pub first-fits : length (stepsLent (compareAnswer text a b n m) a) ≤ n
+  first-fits = lent-fit (compareAnswer text a b n m) refl .0
 
-    pub due-b : stepsDue o (stepsIn b) ≤ m
-    due-b = both-fill o e .1 .0
-
-    pub left-a : (lent : List Step) → length lent ≡ n → filled (stepsIn a) (stepsDue o (stepsIn a)) lent ≡ stepsLeft o a lent
-    left-a = both-fill o e .0 .1
-
-    pub left-b : (lent : List Step) → length lent ≡ m → filled (stepsIn b) (stepsDue o (stepsIn b)) lent ≡ stepsLeft o b lent
-    left-b = both-fill o e .1 .1
+  pub second-fits : length (stepsLent (compareAnswer text a b n m) b) ≤ m
+  second-fits = lent-fit (compareAnswer text a b n m) refl .1

@@ -27,7 +27,7 @@ use Rattle.path_row.proofs.TurnLaws.{same-hop}
 use Rattle.path_row.proofs.RowReads.{RowIs}
 use Rattle.comparison.specs.declared.rows.Compared.{Compared}
 use Rattle.comparison.specs.declared.rows.Compared.the-variants.{First, Second, Neither, Refused}
-use Rattle.comparison.specs.Compare.{Comparison, first, second, neither, Told, asTold, whichOf, meaning, rowBefore, comparison, agreement, told, compareRows}
+use Rattle.comparison.specs.Compare.{Comparison, first, second, neither, Told, asTold, whichOf, meaning, rowBefore, comparison, agreement, told, toldOf, compareRows}
 use Rattle.comparison.specs.Promises.{agreeSteps}
 use Rattle.comparison.specs.Steps.{stepAt, sameStep, stepsPreferred, stepsCompared}
 use Rattle.comparison.specs.Letters.{blockLetters}
@@ -116,13 +116,13 @@ module _ (cells a b : List ℕ) (n m : ℕ) where
   abbrev whole : Outcome Told
   whole = compareRows cells a b n m
 
-  pub first-bad : rowHere a ≡ refused 8 → meaning (Refused 8) ≡ whole
-  unfolding meaning compareRows andThen
+  pub first-bad : rowHere a ≡ refused 8 → refused 8 ≡ whole
+  unfolding compareRows andThen
   first-bad e = rw e
 
   module _ (mark start count : ℕ) (p : RowIs a mark start count) where
-    pub second-bad : rowHere b ≡ refused 8 → meaning (Refused 8) ≡ whole
-    unfolding meaning compareRows andThen
+    pub second-bad : rowHere b ≡ refused 8 → refused 8 ≡ whole
+    unfolding compareRows andThen
     second-bad e = rw (p .read, e)
 
     module _ (mark′ other more : ℕ) (q : RowIs b mark′ other more) where
@@ -130,30 +130,28 @@ module _ (cells a b : List ℕ) (n m : ℕ) where
       unfolding compareRows andThen
       opened = rw (p .read, q .read, p .counts, q .counts)
 
-      pub first-over : n < count → meaning (Refused 9) ≡ whole
-      unfolding meaning refuseIf
+      pub first-over : n < count → refused 9 ≡ whole
+      unfolding refuseIf
       first-over h = sym (opened ∙ rw (lt-ltb n count h))
 
       module _ (h : count ≤ n) where
-        pub second-over : m < more → meaning (Refused 9) ≡ whole
-        unfolding meaning refuseIf
+        pub second-over : m < more → refused 9 ≡ whole
+        unfolding refuseIf
         second-over k = sym (opened ∙ rw (le-ltb n count h, lt-ltb m more k))
 
         module _ (k : more ≤ m) where
-          fits : whole ≡ done (told cells (p .row) (q .row))
+          pub fits : whole ≡ done (told cells (p .row) (q .row))
           unfolding refuseIf
           fits = opened ∙ rw (le-ltb n count h, le-ltb m more k)
 
-          pub starts-apart : (start ≡ other → ⊥) → meaning (Neither 0) ≡ whole
-          unfolding meaning told
-          starts-apart z =
-              let apart : p .row .start ≡ q .row .start → ⊥ = λ e. z (sym (p .starts) ∙ e ∙ q .starts) in
-              sym (fits ∙ rw (compared-apart cells (p .row) (q .row) apart, agreement-apart cells (p .row) (q .row) apart))
+-- by the starts and the steps of the rows
+module _ (cells : List ℕ) (s t : ℕ) (ts us : List Step) where
+  pub starts-apart : (s ≡ t → ⊥) → meaning (Neither 0) ≡ done (toldOf cells s t ts us)
+  unfolding meaning told toldOf
+  starts-apart z = sym (rw (compared-apart cells (record { mark = 0; start = s; steps = ts }) (record { mark = 0; start = t; steps = us }) z, agreement-apart cells (record { mark = 0; start = s; steps = ts }) (record { mark = 0; start = t; steps = us }) z))
 
-          pub starts-same : WasRead cells → start ≡ other → (block : List ℕ) → Made cells block → (ts us : List Step) → ts ≡ stepsIn a → us ≡ stepsIn b → (k : ℕ) → k ≡ agreeSteps ts us → (r : Compared)
-              → meaning r ≡ done (asTold (stepsCompared block start ts us) k) → meaning r ≡ whole
-          unfolding told
-          starts-same was z block made ts us ta ub k f r e =
-              let one : p .row .start ≡ q .row .start = p .starts ∙ z ∙ sym (q .starts) in
-              e ∙ rw (f, ta, ub, ← p .steps, ← q .steps, ← p .starts)
-              (sym (fits ∙ rw (compared-same cells block was made (p .row) (q .row) one, agreement-same cells (p .row) (q .row) one)))
+  pub starts-same : WasRead cells → s ≡ t → (block : List ℕ) → Made cells block → (k : ℕ) → k ≡ agreeSteps ts us → (r : Compared)
+      → meaning r ≡ done (asTold (stepsCompared block s ts us) k) → meaning r ≡ done (toldOf cells s t ts us)
+  unfolding told toldOf
+  starts-same was z block made k f r e =
+      e ∙ rw f (sym (rw (compared-same cells block was made (record { mark = 0; start = s; steps = ts }) (record { mark = 0; start = t; steps = us }) z, agreement-same cells (record { mark = 0; start = s; steps = ts }) (record { mark = 0; start = t; steps = us }) z)))

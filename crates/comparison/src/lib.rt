@@ -1,6 +1,5 @@
 // Two path rows compared by the order of a gym file, over its board.
 mod agree;
-mod lent;
 mod letters;
 mod order;
 mod rows;
@@ -8,9 +7,8 @@ mod steps;
 mod text;
 mod turns;
 
-pub use lent::compare;
-pub use lent::steps_due;
 pub use letters::label_number;
 pub use rows::Compared;
+pub use rows::ComparedRows;
 pub use rows::compare_rows;
-pub use text::decide;
+pub use text::compare_text;

@@ -3,7 +3,7 @@ use crate::words::Reply;
 use beginnings::Counted;
 use beginnings::count;
 use comparison::Compared;
-use comparison::decide;
+use comparison::compare_text;
 use conversion::to_new;
 use conversion::to_old;
 use judge::Judged;
@@ -110,16 +110,16 @@ fn put_count_line(out: &mut [u8], c: Counted) -> usize
 fn put_judged<'s, 'o>(text: &'s [u8], query: usize, row: &'s [u8], out: &'o mut [u8]) -> usize
     ensures written { λ r. ⌜ Replied (now (out .entry)) (now (out .exit)) r (inPlace replyRoom (judgeLine (now (text .entry)) query (now (row .entry)))) ⌝ }
 {
-    let j = judge_text(text, query, row, MOST_STEPS);
-    put_standing(out, j)
+    let told = judge_text(text, query, row, MOST_STEPS);
+    put_standing(out, told.answer)
 }
 
 // Which of two rows is more specific.
 fn put_compared<'s, 'o>(text: &'s [u8], a: &'s [u8], b: &'s [u8], out: &'o mut [u8]) -> usize
     ensures written { λ r. ⌜ Replied (now (out .entry)) (now (out .exit)) r (inPlace replyRoom (compareLine (now (text .entry)) (now (a .entry)) (now (b .entry)))) ⌝ }
 {
-    let c = decide(text, a, b, MOST_STEPS, MOST_STEPS);
-    put_comparison(out, c)
+    let told = compare_text(text, a, b, MOST_STEPS, MOST_STEPS);
+    put_comparison(out, told.answer)
 }
 
 // The file with the path rules of an expression, or its refusal.

@@ -19,17 +19,20 @@ use Rattle.graph_table.specs.Sections.{partOf, rowsOf}
 use Rattle.path_row.specs.declared.form.Step.{Step}
 use Rattle.path_row.specs.declared.form.RowRead.{RowRead}
 use Rattle.path_row.specs.declared.form.RowRead.the-variants.{Row}
-use Rattle.path_row.specs.Form.{PathRow, rowHere, rowMeaning, rowInLarge, stepsIn}
+use Rattle.path_row.specs.declared.taken.Steps.{Steps}
+use Rattle.path_row.specs.Form.{PathRow, rowHere, rowMeaning, rowInLarge, stepsIn, stepsTaken, stepsHeld}
 use Rattle.path_row.proofs.RowReads.{row-is}
+use Rattle.path_row.proofs.TakenLaws.{taken-held}
 use Rattle.graph_table.specs.declared.rows.QueryRow.{QueryRow}
 use Rattle.graph_table.specs.Values.{queryRow}
 use Rattle.board.specs.Queries.{queryAt}
 use Rattle.board.proofs.Queries.{count-is, query-is}
 use Rattle.graph_file.proofs.TableLaws.{ReadInto}
 use Rattle.judge.specs.declared.standing.Judged.{Judged}
-use Rattle.judge.specs.declared.standing.Judged.the-variants.{Refused as No}
-use Rattle.judge.specs.Judge.{meaning, ruled, judgeOf, judgeAnswer}
+use Rattle.judge.specs.declared.text.JudgedRow.{JudgedRow}
+use Rattle.judge.specs.Judge.{meaning, asRulesRow, judgeOf, judgeAnswer, HandsOut}
 use Rattle.judge.specs.Steps.{queryFault, roomFault, firstFault, judgedRow}
+use Rattle.judge.proofs.LentLaws.{hands-all}
 
 -- a row that was read: all of it but its steps stands in the reader's answer, and its steps in its
 -- text
@@ -77,49 +80,52 @@ sooner-told (suc n) later h = refl
 -- query i of a table that was read
 module _ (cells : List ℕ) (was : WasRead cells) (queries : List ℕ) (i n : ℕ) (part : queries ≡ partOf querySection cells) (counted : n ≡ length (rowsOf queries))
     (row : List ℕ) (room : ℕ) where
-  no-query : n ≤ i → meaning (No 7) ≡ judgeOf cells i row room
-  unfolding meaning judgeOf refuseIf
+  no-query : n ≤ i → refused 7 ≡ judgeOf cells i row room
+  unfolding judgeOf refuseIf
   no-query h = rw (le-leb (length (queriesOf cells)) i (let c = count-is cells was queries part i n counted in omega arith))
 
   module _ (h : i < n) where
     asked : judgeOf cells i row room
-        ≡ andThen (rowHere row) (λ p. refuseIf (ltb room (length (p .steps))) 9 (done (judgement (language (rulesOf cells)) (graphOf cells) (queryAt cells i) (ruled cells p))))
+        ≡ andThen (rowHere row) (λ p. refuseIf (ltb room (length (p .steps))) 9 (done (judgement (language (rulesOf cells)) (graphOf cells) (queryAt cells i) (asRulesRow cells p))))
     unfolding judgeOf refuseIf
     asked = rw (lt-leb (length (queriesOf cells)) i (let c = count-is cells was queries part i n counted in omega arith))
 
-    bare-row : rowHere row ≡ refused 8 → meaning (No 8) ≡ judgeOf cells i row room
-    unfolding meaning andThen
+    bare-row : rowHere row ≡ refused 8 → refused 8 ≡ judgeOf cells i row room
+    unfolding andThen
     bare-row e = sym (asked ∙ rw e)
 
     module _ (mark from count : ℕ) (p : RowRead-is row mark from count) where
       abbrev theRow : PathRow
       theRow = record { mark = mark; start = from; steps = stepsIn row }
 
-      opened : judgeOf cells i row room ≡ refuseIf (ltb room count) 9 (done (judgement (language (rulesOf cells)) (graphOf cells) (queryAt cells i) (ruled cells theRow)))
+      opened : judgeOf cells i row room ≡ refuseIf (ltb room count) 9 (done (judgement (language (rulesOf cells)) (graphOf cells) (queryAt cells i) (asRulesRow cells theRow)))
       unfolding andThen
       opened = asked ∙ rw (p .read, p .counts)
 
-      no-room : room < count → meaning (No 9) ≡ judgeOf cells i row room
-      unfolding meaning refuseIf
+      no-room : room < count → refused 9 ≡ judgeOf cells i row room
+      unfolding refuseIf
       no-room k = sym (opened ∙ rw (lt-ltb room count k))
 
-      pub judges : count ≤ room → (q : QueryRow) (at : ℕ) → at ≡ 6 * i → q ≡ queryRow queries at → (r : Judged)
-          → meaning r ≡ done (judgedRow cells q mark from row) → meaning r ≡ judgeOf cells i row room
+      pub judges : count ≤ room → (q : QueryRow) (at : ℕ) → at ≡ 6 * i → q ≡ queryRow queries at → (t : Steps) → t ≡ stepsHeld (stepsIn row) → (r : Judged)
+          → meaning r ≡ done (judgedRow cells q mark from (stepsTaken t)) → HandsOut (judgeOf cells i row room) row (record { answer = r; steps = t })
       unfolding refuseIf
-      judges k q at placed is r e =
-          e
+      judges k q at placed is t held r e =
+          let fits : judgeOf cells i row room ≡ done (judgement (language (rulesOf cells)) (graphOf cells) (queryAt cells i) (asRulesRow cells theRow)) = opened ∙ rw (le-ltb room count k) in
+          hands-all row theRow (p .read) (judgeOf cells i row room) _ fits t held r
+          (e
+          ∙ ap {B = Outcome Judgement} (λ (z : List Step). done (judgedRow cells q mark from z)) (ap stepsTaken held ∙ taken-held (stepsIn row))
           ∙ ap {B = Outcome Judgement}
-          (λ (z : Query (language (rulesOf cells))). done (judgement (language (rulesOf cells)) (graphOf cells) z (ruled cells theRow)))
+          (λ (z : Query (language (rulesOf cells))). done (judgement (language (rulesOf cells)) (graphOf cells) z (asRulesRow cells theRow)))
           (query-is cells was queries part i n counted h q at placed is)
-          ∙ sym (opened ∙ rw (le-ltb room count k))
+          ∙ sym fits)
 
   -- 7 is told before 8, and before 9
   module _ (u : ℕ) (asks : u ≡ queryFault n i) where
-    pub no-row : (f : ℕ) → f ≡ firstFault u 8 → rowHere row ≡ refused 8 → meaning (No f) ≡ judgeOf cells i row room
+    pub no-row : (f : ℕ) → f ≡ firstFault u 8 → rowHere row ≡ refused 8 → refused f ≡ judgeOf cells i row room
     unfolding firstFault
     no-row f e bare = by (leb n i) refl
       where
-        by : (t : Bool) → leb n i ≡ t → meaning (No f) ≡ judgeOf cells i row room
+        by : (t : Bool) → leb n i ≡ t → refused f ≡ judgeOf cells i row room
         by true t = rw (e, asks, seven n i (leb-true n i t)) (no-query (leb-true n i t))
         by false t = rw (e, asks, no-seven n i (leb-false n i t)) (bare-row (leb-false n i t) bare)
 
@@ -140,25 +146,25 @@ module _ (cells : List ℕ) (was : WasRead cells) (queries : List ℕ) (i n : �
           by true t = absurd (let y : f ≡ 9 = e ∙ rw (asks, no-seven n i (is-asked z), fits, nine room count (ltb-true room count t)) in omega arith)
           by false t = ltb-false room count t
 
-      pub faulty : (f ≡ 0 → ⊥) → meaning (No f) ≡ judgeOf cells i row room
+      pub faulty : (f ≡ 0 → ⊥) → refused f ≡ judgeOf cells i row room
       unfolding firstFault
       faulty z = by (leb n i) refl
         where
-          by-room : i < n → (t : Bool) → ltb room count ≡ t → meaning (No f) ≡ judgeOf cells i row room
+          by-room : i < n → (t : Bool) → ltb room count ≡ t → refused f ≡ judgeOf cells i row room
           by-room h true t = rw (e, asks, no-seven n i h, fits, nine room count (ltb-true room count t)) (no-room h mark from count p (ltb-true room count t))
           by-room h false t = absurd (z (e ∙ rw (asks, no-seven n i h, fits, no-nine room count (ltb-false room count t))))
 
-          by : (t : Bool) → leb n i ≡ t → meaning (No f) ≡ judgeOf cells i row room
+          by : (t : Bool) → leb n i ≡ t → refused f ≡ judgeOf cells i row room
           by true t = rw (e, asks, seven n i (leb-true n i t)) (no-query (leb-true n i t))
           by false t = by-room (leb-false n i t) (ltb room count) refl
 
 -- a text that is refused, and one that is read
 module _ (text : List ℕ) (i : ℕ) (row : List ℕ) (records : ℕ) where
-  pub text-refused : (n : ℕ) → readCells text ≡ refused n → meaning (No n) ≡ judgeAnswer text i row records
-  unfolding meaning judgeAnswer andThen
+  pub text-refused : (n : ℕ) → readCells text ≡ refused n → refused n ≡ judgeAnswer text i row records
+  unfolding judgeAnswer andThen
   text-refused n e = rw e
 
-  pub text-judged : (n : ℕ) (t : List ℕ) → ReadInto text n t → (r : Judged) → meaning r ≡ judgeOf (take n t) i row records
-      → meaning r ≡ judgeAnswer text i row records
+  pub text-judged : (n : ℕ) (t : List ℕ) → ReadInto text n t → (r : JudgedRow) → HandsOut (judgeOf (take n t) i row records) row r
+      → HandsOut (judgeAnswer text i row records) row r
   unfolding judgeAnswer andThen
-  text-judged n t m r e = e ∙ rw (m .made)
+  text-judged n t m r h = rw (m .made) h

@@ -37,7 +37,7 @@ use Rattle.follow.specs.Text.{rowText as listedText}
 use Rattle.board.specs.Queries.{queryAt}
 use Rattle.board.proofs.Queries.{getD-in}
 use Rattle.board.proofs.Capitals.{capitals}
-use Rattle.judge.specs.Judge.{ruled, judgeAnswer}
+use Rattle.judge.specs.Judge.{asRulesRow, judgeAnswer}
 use Rattle.judge.specs.Listed.{ListedVisible}
 use Rattle.judge.proofs.Right.{judged-right}
 
@@ -148,14 +148,14 @@ module _ (text cells : List ℕ) (read : readCells text ≡ done cells) where
         (and-both (leb (p .start) mostScope) _ (le-leb (p .start) mostScope (omega arith))
         (and-both (leb (length (p .steps)) mostSteps) _ (le-leb (length (p .steps)) mostSteps few) (steps-good range (r .path .start) (r .path .hops) (w .along))))
 
-    ruled-is : ruled cells p ≡ r
-    unfolding ruled pathOf
-    ruled-is = rw (hops-back range (r .path .start) (r .path .hops) (entry .visible .reached .path .along))
+    rules-row-is : asRulesRow cells p ≡ r
+    unfolding asRulesRow pathOf
+    rules-row-is = rw (hops-back range (r .path .start) (r .path .hops) (entry .visible .reached .path .along))
 
     pub judged-visible : judgeAnswer text i (rowText p) 63 ≡ done as-visible
     judged-visible =
         judged-right text cells read i inside (rowText p) p (written-then-read p is-row) 63 few .answered as-visible .1
-        (subst (Entry L g (queryAt cells i)) (sym ruled-is) entry)
+        (subst (Entry L g (queryAt cells i)) (sym rules-row-is) entry)
 
 pub listed-visible : ListedVisible
 unfolding listedText

@@ -19,7 +19,7 @@ use Rattle.path_row.specs.Numbering.{numberFrom, labelNumber, hopOf, hopsOf, pa
 use Rattle.board.specs.Queries.{queryAt}
 use Rattle.board.specs.Example.{exampleText}
 use Rattle.board.proofs.Example.{exampleCells, example-read}
-use Rattle.judge.specs.Judge.{ruled, judgeOf, judgeAnswer}
+use Rattle.judge.specs.Judge.{asRulesRow, judgeOf, judgeAnswer}
 use Rattle.judge.specs.Marked.{M10}
 
 -- the text is read, so the table's judgement is the text's
@@ -33,7 +33,7 @@ unfolding flatMap sameTurn sameTurned later laterStep turnBy sameEnd sameName an
 answers = tt
 
 pub m10 : M10
-unfolding answers within isDigit isCapital growing digitsFrom numberHere numberPlaced numberMeaning andThen refuseIf isEmpty startsWith atMost numberUpTo stepBy stepHere stepsOf afterSteps startBy spaceBy markBy headHere rowBy rowHere numberFrom labelNumber hopOf hopsOf pathOf judgement ruled judgeOf
+unfolding answers within isDigit isCapital growing digitsFrom numberHere numberPlaced numberMeaning andThen refuseIf isEmpty startsWith atMost numberUpTo stepBy stepHere stepsOf afterSteps startBy spaceBy markBy headHere rowBy rowHere numberFrom labelNumber hopOf hopsOf pathOf judgement asRulesRow judgeOf
 m10 = record {
   shadowed = of-table (49 ∷ 48 ∷ 32 ∷ 50 ∷ 80 ∷ 49 ∷ []) (as-shadowed 0) refl;
   visible = of-table (50 ∷ 49 ∷ 32 ∷ 50 ∷ []) as-visible refl;

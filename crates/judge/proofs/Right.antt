@@ -17,7 +17,7 @@ use Rattle.graph_file.specs.Decode.{rulesOf, graphOf, opensOf, queriesOf, scope
 use Rattle.path_row.specs.Form.{PathRow, rowHere}
 use Rattle.board.specs.Queries.{queryAt}
 use Rattle.board.proofs.Queries.{getD-in, accepted}
-use Rattle.judge.specs.Judge.{ruled, judgeOf, judgeAnswer}
+use Rattle.judge.specs.Judge.{asRulesRow, judgeOf, judgeAnswer}
 use Rattle.judge.specs.Standing.{Stands, JudgedRight}
 
 done-same : {A : Type 0} (a b : A) → _≡_ {A = Outcome A} (done a) (done b) → a ≡ b
@@ -35,7 +35,7 @@ module _ (text cells : List ℕ) (read : readCells text ≡ done cells) (i : ℕ
   q = queryAt cells i
 
   abbrev found : Judgement
-  found = judgement L g q (ruled cells p)
+  found = judgement L g q (asRulesRow cells p)
 
   starts : queryAt cells i .start < scopesOf cells
   unfolding queryAt
@@ -49,9 +49,9 @@ module _ (text cells : List ℕ) (read : readCells text ≡ done cells) (i : ℕ
   answer-is = rw (read, lt-leb (length (queriesOf cells)) i inside, row-is, le-ltb room (length (p .steps)) fits)
 
   by-rules : (s : Judgement) → (found ≡ s) ↔ Stands cells i p s
-  by-rules as-visible = kept .visible (ruled cells p)
-  by-rules (as-shadowed n) = kept .shadowed (ruled cells p) n
-  by-rules as-unreached = kept .unreached (ruled cells p)
+  by-rules as-visible = kept .visible (asRulesRow cells p)
+  by-rules (as-shadowed n) = kept .shadowed (asRulesRow cells p) n
+  by-rules as-unreached = kept .unreached (asRulesRow cells p)
 
   pub answers : (s : Judgement) → (judgeAnswer text i row room ≡ done s) ↔ Stands cells i p s
   answers s = (λ e. by-rules s .0 (done-same found s (sym answer-is ∙ e)), λ k. answer-is ∙ ap {B = Outcome Judgement} (λ (z : Judgement). done z) (by-rules s .1 k))
@@ -66,7 +66,7 @@ module _ (text cells : List ℕ) (read : readCells text ≡ done cells) (i : ℕ
 pub judged-right : JudgedRight
 judged-right text cells read i inside row p row-is room fits = record {
   answered = answers text cells read i inside row p row-is room fits;
-  standing = judgement (language (rulesOf cells)) (graphOf cells) (queryAt cells i) (ruled cells p);
+  standing = judgement (language (rulesOf cells)) (graphOf cells) (queryAt cells i) (asRulesRow cells p);
   stands = holds text cells read i inside row p row-is room fits;
   only = no-other text cells read i inside row p row-is room fits;
 }

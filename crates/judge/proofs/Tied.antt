@@ -40,11 +40,10 @@ use Rattle.board.specs.Queries.{queryOn, Asked}
 use Rattle.board.proofs.Queries.{accepted, sound, rows-are}
 use Rattle.board.proofs.Board.{scopes-are, board-is, order-is}
 use Rattle.path_row.specs.declared.form.Step.{Step}
-use Rattle.path_row.specs.Form.{stepsIn}
 use Rattle.path_row.specs.Numbering.{hopsOf, pathOf}
 use Rattle.comparison.proofs.RowLaws.{steps-here}
 use Rattle.judge.specs.declared.standing.Judged.the-variants.{Visible, Shadowed, Unreached}
-use Rattle.judge.specs.Judge.{meaning, ruled}
+use Rattle.judge.specs.Judge.{meaning, asRulesRow}
 use Rattle.judge.specs.declared.cut.Caught.{Caught}
 use Rattle.judge.specs.LastCut.{caughtAt, lastCut}
 use Rattle.judge.specs.Steps.{isMarked, hasMark, stepHops, Begins, lastOf, rowReached, rowLast, judgedRow}
@@ -87,7 +86,7 @@ abbrev byTests : Bool → Bool → Bool → Standing
 byTests same reached cut =
     elim (same && reached) as (λ _. Standing) [ false ↦ is-unreached | true ↦ elim cut as (λ _. Standing) [ true ↦ is-shadowed | false ↦ is-visible ] ]
 
-module _ (cells : List ℕ) (x : QueryRow) (mark from : ℕ) (row : List ℕ) (a : Asked cells (queryOn cells x)) where
+module _ (cells : List ℕ) (x : QueryRow) (mark from : ℕ) (ss : List Step) (a : Asked cells (queryOn cells x)) where
   abbrev L : Language
   L = language (rulesOf cells)
 
@@ -98,10 +97,10 @@ module _ (cells : List ℕ) (x : QueryRow) (mark from : ℕ) (row : List ℕ) (a
   q = queryOn cells x
 
   abbrev theRow : RulesRow L
-  theRow = ruled cells (record { mark = mark; start = from; steps = stepsIn row })
+  theRow = asRulesRow cells (record { mark = mark; start = from; steps = ss })
 
   abbrev hs : List (HopOf Turned)
-  hs = hopsOf (hopsAt L (g .edges)) (lettersOf cells) from (stepsIn row)
+  hs = hopsOf (hopsAt L (g .edges)) (lettersOf cells) from ss
 
   abbrev laws : Laws L
   laws = accepted cells (a .read) .accepted q (a .starts) .laws
@@ -125,59 +124,59 @@ module _ (cells : List ℕ) (x : QueryRow) (mark from : ℕ) (row : List ℕ) (a
   start-below block made = let e = scopes-cell block made in let s = a .starts in omega arith
 
   row-is : theRow ≡ record { mark = mark; path = record { start = from; hops = hs } }
-  unfolding ruled pathOf
+  unfolding asRulesRow pathOf
   row-is = refl
 
-  abbrev ruledReached : Bool
-  ruledReached = reachedBy (boardOf L g (q .name)) (freeAt (x .start)) (x .start) 0 hs
+  abbrev rulesReached : Bool
+  rulesReached = reachedBy (boardOf L g (q .name)) (freeAt (x .start)) (x .start) 0 hs
 
-  abbrev ruledCut : Bool
-  ruledCut = cutAlong (boardOf L g (q .name)) (L .prefers) (scopesOf cells) (freeAt (x .start)) (x .start) 0 hs stop
+  abbrev rulesCut : Bool
+  rulesCut = cutAlong (boardOf L g (q .name)) (L .prefers) (scopesOf cells) (freeAt (x .start)) (x .start) 0 hs stop
 
-  abbrev ruledLast : Option ℕ
-  ruledLast = lastCut (boardOf L g (q .name)) (L .prefers) (scopesOf cells) (freeAt (x .start)) (x .start) 0 hs stop
+  abbrev rulesLast : Option ℕ
+  rulesLast = lastCut (boardOf L g (q .name)) (L .prefers) (scopesOf cells) (freeAt (x .start)) (x .start) 0 hs stop
 
-  abbrev ruledMark : Bool
-  ruledMark = anyOf (eqb mark) (marksAt L (g .declarations) (lastFrom L from hs) (q .name))
+  abbrev rulesMark : Bool
+  rulesMark = anyOf (eqb mark) (marksAt L (g .declarations) (lastFrom L from hs) (q .name))
 
   -- the standing, if the mark is that of a declaration
   abbrev withMark : Bool → Standing → Standing
   withMark m z = elim m as (λ _. Standing) [ false ↦ is-unreached | true ↦ z ]
 
-  stands : standing L g q (record { start = from; hops = hs }) ≡ byTests (eqb from (x .start)) ruledReached ruledCut
+  stands : standing L g q (record { start = from; hops = hs }) ≡ byTests (eqb from (x .start)) rulesReached rulesCut
   unfolding graphOf freeAt
   stands = standing-is L laws g q range (a .starts) (λ t. ltb t 64) all-free (record { start = from; hops = hs })
 
-  judged-is : judged L g q theRow ≡ withMark ruledMark (byTests (eqb from (x .start)) ruledReached ruledCut)
+  judged-is : judged L g q theRow ≡ withMark rulesMark (byTests (eqb from (x .start)) rulesReached rulesCut)
   unfolding judged
-  judged-is = rw row-is (ap (λ (z : Standing). withMark ruledMark z) stands)
+  judged-is = rw row-is (ap (λ (z : Standing). withMark rulesMark z) stands)
 
   -- what is told of a standing
   abbrev told : Standing → Outcome Judgement
   told z = done (withSteps z (caught L g q (theRow .path)))
 
-  tells : (z : Standing) → judged L g q theRow ≡ z → told z ≡ done (judgedRow cells x mark from row)
+  tells : (z : Standing) → judged L g q theRow ≡ z → told z ≡ done (judgedRow cells x mark from ss)
   unfolding judgement
   tells z e = ap told (sym e)
 
   -- a reached path: the last place whose end is cut tells its number
-  row-reached : from ≡ x .start → ruledReached ≡ true → isReached L g q (theRow .path) ≡ true
+  row-reached : from ≡ x .start → rulesReached ≡ true → isReached L g q (theRow .path) ≡ true
   unfolding graphOf freeAt
   row-reached same t =
       rw row-is (path-reached L laws g q range (a .starts) (λ t. ltb t 64) all-free (record { start = from; hops = hs })
       ∙ and-both _ _ (eq-eqb from (x .start) same) t)
 
-  steps-are : isReached L g q (theRow .path) ≡ true → (n : ℕ) → ruledLast ≡ some n → caught L g q (theRow .path) ≡ n
+  steps-are : isReached L g q (theRow .path) ≡ true → (n : ℕ) → rulesLast ≡ some n → caught L g q (theRow .path) ≡ n
   unfolding graphOf freeAt
   steps-are t n e =
       rw row-is (caught-is L laws g q range (agree-promises .language (rulesOf cells)) (λ t. ltb t 64) all-free (record { start = from; hops = hs }) (rw row-is at t) n e)
 
   -- a row that starts elsewhere
-  pub starts-apart : (from ≡ x .start → ⊥) → meaning Unreached ≡ done (judgedRow cells x mark from row)
+  pub starts-apart : (from ≡ x .start → ⊥) → meaning Unreached ≡ done (judgedRow cells x mark from ss)
   unfolding meaning withSteps
   starts-apart h =
-      tells is-unreached (judged-is ∙ ap (λ (z : Bool). withMark ruledMark (byTests z ruledReached ruledCut)) (ne-eqb from (x .start) h)
-      ∙ at ruledMark)
+      tells is-unreached (judged-is ∙ ap (λ (z : Bool). withMark rulesMark (byTests z rulesReached rulesCut)) (ne-eqb from (x .start) h)
+      ∙ at rulesMark)
     where
       at : (u : Bool) → withMark u is-unreached ≡ is-unreached
       at true = refl
@@ -186,7 +185,7 @@ module _ (cells : List ℕ) (x : QueryRow) (mark from : ℕ) (row : List ℕ) (a
   module _ (same : from ≡ x .start) (block : List ℕ) (made : Made cells block) (decls : List ℕ)
       (decls-is : decls ≡ partOf declarationSection cells) (goal : ℕ)
       (goal-is : DeclaringIs decls (packed (x .name)) goal)
-      (n : Node) (begins : Begins block (x .start) n) (ts : List Step) (ts-is : ts ≡ stepsIn row) where
+      (n : Node) (begins : Begins block (x .start) n) (ts : List Step) (ts-is : ts ≡ ss) where
     free-start : hasScope (n .free) ≡ freeAt (x .start)
     free-start = fun-ext (begins .free)
 
@@ -197,21 +196,21 @@ module _ (cells : List ℕ) (x : QueryRow) (mark from : ℕ) (row : List ℕ) (a
 
     -- the row's hops by the block's letters and edges are those by the file's
     hops-here : stepHops block ts (n .scope) ≡ hs
-    hops-here = rw (ts-is, begins .scope, ← same) (sym (steps-here cells block (a .read) made from (stepsIn row)))
+    hops-here = rw (ts-is, begins .scope, ← same) (sym (steps-here cells block (a .read) made from ss))
 
-    marked-is : hasMark x mark (lastOf (x .start) hs) (rowsOf decls) ≡ ruledMark
+    marked-is : hasMark x mark (lastOf (x .start) hs) (rowsOf decls) ≡ rulesMark
     unfolding graphOf
     marked-is =
         ap (λ (s : ℕ). hasMark x mark (lastOf s hs) (rowsOf decls)) (sym same)
         ∙ rw (decls-is, rows-are cells (a .read) declarationSection, last-is (rulesOf cells) from hs)
         (marked (rulesOf cells) x mark (lastFrom L from hs) (rowsIn declarationSection cells))
 
-    reached-is : rowReached block decls goal x mark n (stepHops block ts (n .scope)) ≡ (ruledReached && ruledMark)
+    reached-is : rowReached block decls goal x mark n (stepHops block ts (n .scope)) ≡ (rulesReached && rulesMark)
     unfolding rowReached
     reached-is = rw (hops-here, board-here, free-start, begins .scope, begins .state, marked-is)
 
-    judged-same : judged L g q theRow ≡ withMark ruledMark (byTests true ruledReached ruledCut)
-    judged-same = judged-is ∙ ap (λ (z : Bool). withMark ruledMark (byTests z ruledReached ruledCut)) (eq-eqb from (x .start) same)
+    judged-same : judged L g q theRow ≡ withMark rulesMark (byTests true rulesReached rulesCut)
+    judged-same = judged-is ∙ ap (λ (z : Bool). withMark rulesMark (byTests z rulesReached rulesCut)) (eq-eqb from (x .start) same)
 
     both : (m r c : Bool) → withMark m (byTests true r c) ≡ byTests true (r && m) c
     both true true c = refl
@@ -220,16 +219,16 @@ module _ (cells : List ℕ) (x : QueryRow) (mark from : ℕ) (row : List ℕ) (a
     both false false c = refl
 
     module _ (u : Bool) (e : u ≡ rowReached block decls goal x mark n (stepHops block ts (n .scope))) where
-      by-reached : judged L g q theRow ≡ byTests true u ruledCut
+      by-reached : judged L g q theRow ≡ byTests true u rulesCut
       by-reached =
-          judged-same ∙ both ruledMark ruledReached ruledCut ∙ ap (λ (z : Bool). byTests true z ruledCut) (sym (e ∙ reached-is))
+          judged-same ∙ both rulesMark rulesReached rulesCut ∙ ap (λ (z : Bool). byTests true z rulesCut) (sym (e ∙ reached-is))
 
-      pub not-reached : u ≡ false → meaning Unreached ≡ done (judgedRow cells x mark from row)
+      pub not-reached : u ≡ false → meaning Unreached ≡ done (judgedRow cells x mark from ss)
       unfolding meaning withSteps
-      not-reached h = tells is-unreached (by-reached ∙ ap (λ (z : Bool). byTests true z ruledCut) h)
+      not-reached h = tells is-unreached (by-reached ∙ ap (λ (z : Bool). byTests true z rulesCut) h)
 
       module _ (h : u ≡ true) (w : Caught) (f : caughtAt w ≡ rowLast block goal n (stepHops block ts (n .scope))) where
-        place-is : caughtAt w ≡ ruledLast
+        place-is : caughtAt w ≡ rulesLast
         unfolding rowLast
         place-is =
             f
@@ -245,19 +244,19 @@ module _ (cells : List ℕ) (x : QueryRow) (mark from : ℕ) (row : List ℕ) (a
 
         by-cut : judged L g q theRow ≡ byTests true true (isPlace (caughtAt w))
         by-cut =
-            by-reached ∙ ap (λ (z : Bool). byTests true z ruledCut) h
+            by-reached ∙ ap (λ (z : Bool). byTests true z rulesCut) h
             ∙ ap (λ (z : Bool). byTests true true z)
             (cut-some L g (q .name) (scopesOf cells) (freeAt (x .start)) (x .start) 0 hs stop ∙ ap isPlace (sym place-is))
 
         reached-here : isReached L g q (theRow .path) ≡ true
-        reached-here = row-reached same (and-left ruledReached ruledMark (sym (e ∙ reached-is) ∙ h))
+        reached-here = row-reached same (and-left rulesReached rulesMark (sym (e ∙ reached-is) ∙ h))
 
-        pub is-cut : w .found ≡ true → meaning (Shadowed (w .place)) ≡ done (judgedRow cells x mark from row)
+        pub is-cut : w .found ≡ true → meaning (Shadowed (w .place)) ≡ done (judgedRow cells x mark from ss)
         unfolding meaning withSteps isPlace
         is-cut k =
             ap {B = Outcome Judgement} (λ (z : ℕ). done (as-shadowed z)) (sym (steps-are reached-here (w .place) (sym place-is ∙ found-at w k)))
             ∙ tells is-shadowed (by-cut ∙ ap (λ (z : Option ℕ). byTests true true (isPlace z)) (found-at w k))
 
-        pub not-cut : w .found ≡ false → meaning Visible ≡ done (judgedRow cells x mark from row)
+        pub not-cut : w .found ≡ false → meaning Visible ≡ done (judgedRow cells x mark from ss)
         unfolding meaning withSteps isPlace
         not-cut k = tells is-visible (by-cut ∙ ap (λ (z : Option ℕ). byTests true true (isPlace z)) (found-none w k))

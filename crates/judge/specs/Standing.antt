@@ -14,18 +14,18 @@ use Rattle.graph_file.specs.File.{readCells}
 use Rattle.graph_file.specs.Decode.{rulesOf, graphOf, queriesOf}
 use Rattle.path_row.specs.Form.{PathRow, rowHere}
 use Rattle.board.specs.Queries.{queryAt}
-use Rattle.judge.specs.Judge.{ruled, judgeAnswer}
+use Rattle.judge.specs.Judge.{asRulesRow, judgeAnswer}
 
 -- The row has this standing for query i: its path is visible, shadowed with so many steps (02, K7)
 -- or unreached, and one with a mark that no matching declaration has is unreached.
 abbrev pub Stands : (cells : List ℕ) → ℕ → PathRow → Judgement → Type 0
-Stands cells i p as-visible = Entry (language (rulesOf cells)) (graphOf cells) (queryAt cells i) (ruled cells p)
+Stands cells i p as-visible = Entry (language (rulesOf cells)) (graphOf cells) (queryAt cells i) (asRulesRow cells p)
 Stands cells i p (as-shadowed n) =
-    ShadowedWith (language (rulesOf cells)) (graphOf cells) (queryAt cells i) (ruled cells p .path) n
-    × MarkDeclared (language (rulesOf cells)) (graphOf cells) (queryAt cells i) (ruled cells p)
+    ShadowedWith (language (rulesOf cells)) (graphOf cells) (queryAt cells i) (asRulesRow cells p .path) n
+    × MarkDeclared (language (rulesOf cells)) (graphOf cells) (queryAt cells i) (asRulesRow cells p)
 Stands cells i p as-unreached =
-    ¬ (Reached (language (rulesOf cells)) (graphOf cells) (queryAt cells i) (ruled cells p .path)
-    × MarkDeclared (language (rulesOf cells)) (graphOf cells) (queryAt cells i) (ruled cells p))
+    ¬ (Reached (language (rulesOf cells)) (graphOf cells) (queryAt cells i) (asRulesRow cells p .path)
+    × MarkDeclared (language (rulesOf cells)) (graphOf cells) (queryAt cells i) (asRulesRow cells p))
 
 -- the answer is a standing, the row has it, and has no other
 pub record RightStanding (cells : List ℕ) (i : ℕ) (p : PathRow) (text row : List ℕ) (room : ℕ) : Type 0 where

@@ -28,10 +28,9 @@ use Rattle.graph_table.specs.Sections.{rowsOf}
 use Rattle.graph_table.specs.Values.{packed, rowDeclared, declares}
 use Rattle.board.specs.Queries.{queryOn}
 use Rattle.path_row.specs.declared.form.Step.{Step}
-use Rattle.path_row.specs.Form.{stepsIn}
 use Rattle.path_row.specs.Numbering.{hopsOf}
 use Rattle.comparison.specs.Letters.{blockLetters}
-use Rattle.judge.specs.Judge.{ruled}
+use Rattle.judge.specs.Judge.{asRulesRow}
 use Rattle.judge.specs.LastCut.{lastCut}
 
 -- The refusal of query number i where there are n queries, and of a table with room for fewer
@@ -124,8 +123,8 @@ unfoldable pub rowLast : List ℕ → ℕ → Node → List (HopOf Turned) → O
 rowLast block goal n hs =
     lastCut (tableBoard block goal) (tableOrder block) (suc (n .left)) (hasScope (n .free)) (n .scope) (n .state) hs stop
 
--- the standing of a row with this mark, this start and these steps in its text, for a query
-abbrev pub judgedRow : List ℕ → QueryRow → ℕ → ℕ → List ℕ → Judgement
-judgedRow cells x mark from row =
+-- the standing of a row with this mark, this start and these steps, for a query
+abbrev pub judgedRow : List ℕ → QueryRow → ℕ → ℕ → List Step → Judgement
+judgedRow cells x mark from steps =
     judgement (language (rulesOf cells)) (graphOf cells) (queryOn cells x)
-    (ruled cells (record { mark = mark; start = from; steps = stepsIn row }))
+    (asRulesRow cells (record { mark = mark; start = from; steps = steps }))

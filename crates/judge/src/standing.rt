@@ -7,7 +7,7 @@ use board::declaring;
 use board::part;
 use graph_table::DECLARATIONS;
 use graph_table::QueryRow;
-use path_row::taken::steps_of;
+use path_row::taken::Steps;
 use search::ALL;
 use search::Node;
 use search::goal_table;
@@ -18,6 +18,7 @@ ghost use Rattle.block.specs.Layout.{IsBlock};
 ghost use Rattle.block.specs.Block.{scopesCell};
 ghost use Rattle.board.specs.Made.{Made};
 ghost use Rattle.board.specs.Queries.{queryOn, Asked};
+ghost use Rattle.path_row.specs.Form.{stepsTaken};
 ghost use Rattle.judge.specs.Judge.{meaning};
 ghost use Rattle.judge.specs.Steps.{Begins, judgedRow};
 
@@ -46,18 +47,18 @@ fn begin(block: &[u64], start: u64) -> Node
     }
 }
 
-// The standing of a row with this mark and start for a query of the table.
+// The standing of a row with this mark, this start and these steps for a query of the table.
 pub fn standing(
     table: &[u64],
     block: &[u64],
     sought: QueryRow,
     mark: u64,
     from: u64,
-    row: &[u8],
+    steps: Steps,
 ) -> Judged
     requires asked { ⌜ Asked (now table) (queryOn (now table) sought) ⌝ }
     requires made { ⌜ Made (now table) (now block) ⌝ }
-    ensures answer { λ r. ⌜ meaning r ≡ done (judgedRow (now (table .entry)) sought mark from (now (row .entry))) ⌝ }
+    ensures answer { λ r. ⌜ meaning r ≡ done (judgedRow (now (table .entry)) sought mark from (stepsTaken steps)) ⌝ }
 {
     let start = sought.start;
     if from != start {
@@ -66,7 +67,6 @@ pub fn standing(
     let decls = part(table, block, DECLARATIONS);
     let goal = declaring(decls, sought.name);
     let n = begin(block, start);
-    let steps = steps_of(row);
     if !is_reached(block, decls, goal, sought, mark, n, steps) {
         return Judged::Unreached;
     }

@@ -21,8 +21,8 @@ use Rattle.graph_file.specs.File.{isEmpty}
 use Rattle.path_row.specs.declared.form.Step.{Step}
 use Rattle.path_row.specs.declared.form.StepRead.{StepRead}
 use Rattle.path_row.specs.declared.form.StepRead.the-variants.{Taken, NoStep}
-use Rattle.path_row.specs.Form.{PathRow, mostMark, mostScope, mostSteps, mostBytes, atMost, numberUpTo, stepBy, stepHere, stepsOf, afterSteps, stepsWidth, Front, front, startBy, spaceBy, markBy, headHere, rowBy, rowHere, frontText, stepText, stepsText, rowText, stepsMade, rowMade, areSteps, isRow, rowWritten}
-use Rattle.path_row.specs.Inverse.{ReadThenWritten, WrittenThenRead, PartsThenRead, lettersIn, scopesIn, ReadThenParts}
+use Rattle.path_row.specs.Form.{PathRow, mostMark, mostScope, mostSteps, mostBytes, atMost, numberUpTo, stepBy, stepHere, stepsOf, afterSteps, stepsWidth, Front, front, startBy, spaceBy, markBy, headHere, rowBy, rowHere, frontText, stepText, stepsText, rowText, stepsMade, rowMade, areSteps, isRow, rowWritten, lettersIn, scopesIn}
+use Rattle.path_row.specs.Inverse.{ReadThenWritten, WrittenThenRead, PartsThenRead, ReadThenParts}
 
 -- a number up to a limit
 pub most-in : (most v w : ℕ) → v ≤ most → atMost most (Number v w) ≡ Number v w

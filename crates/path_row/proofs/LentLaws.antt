@@ -8,12 +8,15 @@ use lib.Seq.{drop-cons, set-at, take-suc, take-all, append-snoc, length-take-le}
 use Rattle.text_field.specs.Outcome.{Outcome, refused, done}
 use Rattle.path_row.specs.declared.form.Step.{Step}
 use Rattle.path_row.specs.Form.{PathRow, rowHere, stepsIn, noStep}
-use Rattle.path_row.specs.Lent.{rowSteps, stepsLeft, filled, stepsDue}
-use Rattle.path_row.specs.Promises.{FilledIs}
+use Rattle.path_row.specs.Lent.{rowSteps, overlaid, stepsLeft, stepsLent}
 use Rattle.path_row.proofs.RowReads.{steps-shown}
 
--- k records are filled
-pub filled-part : FilledIs
+-- the first n records are the first n of the steps, as `fill` puts them one by one
+abbrev pub filled : List Step → ℕ → List Step → List Step
+filled steps zero lent = lent
+filled steps (suc n) lent = set (filled steps n lent) n (getD steps n noStep)
+
+filled-part : (ss lent : List Step) (n : ℕ) → n ≤ length ss → n ≤ length lent → filled ss n lent ≡ take n ss ++ drop n lent
 filled-part ss lent zero h g = refl
 filled-part ss lent (suc k) h g =
     ap (λ (l : List Step). set l k (getD ss k noStep)) (filled-part ss lent k (omega arith) (omega arith) ∙ ap (λ (l : List Step). take k ss ++ l) (drop-cons lent k noStep (omega arith)))
@@ -21,20 +24,18 @@ filled-part ss lent (suc k) h g =
     ∙ sym (append-snoc (take k ss) (getD ss k noStep) (drop (suc k) lent))
     ∙ ap (λ (l : List Step). l ++ drop (suc k) lent) (sym (take-suc ss k noStep (omega arith)))
 
-pub filled-all : (ss lent : List Step) → length ss ≤ length lent → filled ss (length ss) lent ≡ ss ++ drop (length ss) lent
-filled-all ss lent h = filled-part ss lent (length ss) (omega arith) h ∙ ap (λ (l : List Step). l ++ drop (length ss) lent) (take-all (length ss) ss (omega arith))
+-- with the last of them the table is the one that is due
+pub filled-all : (ss lent : List Step) (n : ℕ) → length ss ≡ n → n ≤ length lent → filled ss n lent ≡ overlaid ss lent
+unfolding overlaid
+filled-all ss lent n e h = filled-part ss lent n (omega (arith, e)) h ∙ rw (← e) (ap (λ (l : List Step). l ++ drop (length ss) lent) (take-all (length ss) ss (omega arith)))
 
--- what is due fits, and fills the table as it should
-abbrev pub Fills : {A : Type 0} → Outcome A → List ℕ → ℕ → Type 0
-Fills o row n = (stepsDue o (stepsIn row) ≤ n) × ((lent : List Step) → length lent ≡ n → filled (stepsIn row) (stepsDue o (stepsIn row)) lent ≡ stepsLeft o row lent)
+-- the steps that a call hands out leave the table as it should be
+pub left-lent : {A : Type 0} (o : Outcome A) (row : List ℕ) (lent : List Step) → overlaid (stepsLent o row) lent ≡ stepsLeft o row lent
+unfolding stepsLent stepsLeft overlaid
+left-lent (refused n) row lent = refl
+left-lent (done c) row lent = refl
 
-pub fills-none : (A : Type 0) (k : ℕ) (row : List ℕ) (n : ℕ) → Fills {A = A} (refused k) row n
-unfolding stepsDue stepsLeft
-fills-none A k row n = (omega arith, λ lent e. refl)
-
-pub fills-all : {A : Type 0} (c : A) (row : List ℕ) (n : ℕ) (p : PathRow) → rowHere row ≡ done p → length (p .steps) ≤ n → Fills (done c) row n
-unfolding stepsDue stepsLeft rowSteps
-fills-all c row n p e h =
-    let s : p .steps ≡ stepsIn row = steps-shown row p e
-    in let l : length (p .steps) ≡ length (stepsIn row) = ap length s
-    in (omega arith, λ lent f. filled-all (stepsIn row) lent (omega arith) ∙ rw (e, s))
+-- of a row that was read they are all that its text shows
+pub lent-all : {A : Type 0} (c : A) (row : List ℕ) (p : PathRow) → rowHere row ≡ done p → stepsLent (done c) row ≡ p .steps
+unfolding stepsLent rowSteps
+lent-all c row p e = rw e

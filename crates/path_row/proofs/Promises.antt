@@ -19,13 +19,12 @@ use Rattle.scope_graph.proofs.Lists.{not-true}
 use Rattle.scope_graph.proofs.Rows.{preferredBy-row}
 use Rattle.scope_graph.proofs.Nodes.{hopsAt-elim, hopsAt-intro}
 use Rattle.path_row.specs.declared.form.Step.{Step}
-use Rattle.path_row.specs.Form.{behindFront, firstStep}
-use Rattle.path_row.specs.Inverse.{lettersIn, scopesIn}
+use Rattle.path_row.specs.Form.{behindFront, firstStep, lettersIn, scopesIn}
 use Rattle.path_row.specs.Numbering.{labelNumber, hopOf, hopIn, pathOf}
-use Rattle.path_row.specs.Promises.{FirstSteps, Numbers, LettersNumbered, TurnsLookedUp, TurnOfRow, FilledIs}
+use Rattle.path_row.specs.Promises.{FirstSteps, Numbers, LettersNumbered, TurnsLookedUp, TurnOfRow, HeldAreTaken}
 use Rattle.path_row.proofs.FormLaws.{head-found}
 use Rattle.path_row.proofs.RowReads.{steps-first}
-use Rattle.path_row.proofs.LentLaws.{filled-part}
+use Rattle.path_row.proofs.TakenLaws.{taken-held}
 use Rattle.path_row.proofs.NumberingLaws.{number-tells, number-beyond, number-within}
 use Rattle.path_row.proofs.TurnLaws.{turn-none, turn-is, turn-found, never-later, never-earlier}
 
@@ -123,5 +122,5 @@ turns-looked-up cells p q start letters scopes = rw (start, steps-parted (p .ste
 pub turn-of-row : TurnOfRow
 turn-of-row text cells e = of-row cells (read-accepted text cells e)
 
-pub filled-is : FilledIs
-filled-is = filled-part
+pub held-are-taken : HeldAreTaken
+held-are-taken = taken-held

@@ -276,28 +276,6 @@ unfolding stepsOf stepsWidth
 going-full s at i zero g h = (omega (arith, g .counted), omega (arith, g .placed))
 going-full s at i (suc n) g h = absurd (omega arith)
 
--- looking for step k of those from place i on
-abbrev pub pick : ℕ → List ℕ → ℕ → Step
-pick left s k = getD (stepsOf left s) k noStep
-
-module _ (s : List ℕ) (i left k : ℕ) (a : StepRead) (e : stepMeaning a ≡ stepFrom i s) where
-  pub pick-none : a ≡ NoStep → pick left (drop i s) k ≡ noStep
-  pick-none f = rw (steps-none s i left a e f)
-
-  module _ (x v next : ℕ) (f : a ≡ Taken x v next) (h : 1 ≤ left) where
-    pub pick-here : k ≡ 0 → pick left (drop i s) k ≡ record { label = x; scope = v }
-    pick-here z = rw (steps-next s i left a e x v next f h, z)
-
-    pub pick-next : (k ≡ 0 → ⊥) → pick left (drop i s) k ≡ pick (left - 1) (drop next s) (k - 1)
-    pick-next z =
-        let n : k ≡ suc (k - 1) = omega arith
-        in rw (steps-next s i left a e x v next f h) (ap (λ (j : ℕ). getD (record { label = x; scope = v } ∷ stepsOf (left - 1) (drop next s)) j noStep) n)
-
-pub pick-full : (s : List ℕ) (left k : ℕ) → left ≤ 0 → pick left s k ≡ noStep
-unfolding stepsOf
-pick-full s zero k h = refl
-pick-full s (suc n) k h = absurd (omega arith)
-
 -- a row in the large
 module _ (s : List ℕ) where
   pub row-long : 256 < length s → rowMeaning NoRow ≡ rowInLarge s
@@ -328,12 +306,3 @@ module _ (s : List ℕ) where
       pub row-whole : length s ≤ i → rowMeaning (Row m v count) ≡ rowInLarge s
       unfolding rowMeaning rowInLarge andThen refuseIf isEmpty
       row-whole h = rw (judged false (rw (drop-of-length-le s {i = i} h)), g .0)
-
--- a row's steps
-pub shown-none : (s : List ℕ) (i : ℕ) (a : HeadRead) → headMeaning a ≡ headHere s → a ≡ NoHead → noStep ≡ getD (stepsIn s) i noStep
-unfolding stepsIn stepsAfter headMeaning
-shown-none s i a e f = rw (← e, f)
-
-pub shown : (s : List ℕ) (i : ℕ) (r : Step) (a : HeadRead) (m v w : ℕ) → headMeaning a ≡ headHere s → a ≡ Head m v w → r ≡ getD (stepsOf mostSteps (drop w s)) i noStep → r ≡ getD (stepsIn s) i noStep
-unfolding stepsIn stepsAfter headMeaning
-shown s i r a m v w e f g = g ∙ rw (← e, f)

@@ -1,11 +1,11 @@
 -- The form of a path row, read and written (document 01, "Paths", the row `mark path`). Assumes
 -- nothing: these are definitions.
-use Prim.Native.Nat.{ℕ, zero, suc, _+_}
-use mathlib.Core.List.{List, [], _∷_, _++_}
+use Prim.Native.Nat.{ℕ, zero, suc, _+_, _-_}
+use mathlib.Core.List.{List, [], _∷_, _++_, map}
 use mathlib.Core.Bool.{Bool, true, false, not, _&&_}
 use mathlib.Core.Option.{Option, some, none}
 use lib.Dec.{leb, ltb}
-use lib.ListN.{length, getD, drop}
+use lib.ListN.{length, getD, drop, replicate}
 use Rattle.text_field.specs.declared.NumberRead.{NumberRead}
 use Rattle.text_field.specs.declared.NumberRead.the-variants.{Number, NoNumber}
 use Rattle.text_field.specs.Bytes.{isCapital}
@@ -204,9 +204,25 @@ unfoldable pub stepsMade : ℕ → List ℕ → List ℕ → List Step
 stepsMade zero letters scopes = []
 stepsMade (suc count) letters scopes = record { label = getD letters 0 0; scope = getD scopes 0 0 } ∷ stepsMade count (drop 1 letters) (drop 1 scopes)
 
--- the steps that were taken from a row, before they are judged, compared or lent (01, "Paths")
+-- the letters and the scopes of steps
+abbrev pub lettersIn : List Step → List ℕ
+lettersIn steps = map (λ (s : Step). s .label) steps
+
+abbrev pub scopesIn : List Step → List ℕ
+scopesIn steps = map (λ (s : Step). s .scope) steps
+
+-- The steps that a value of the code's `Steps` holds: as many as it counts. A row is judged and
+-- compared by such a value, and the lent table gets its steps from the same one (01, "Paths").
 unfoldable pub stepsTaken : Steps → List Step
 stepsTaken t = stepsMade (t .count) (t .letters) (t .scopes)
+
+-- The one value that is made of steps, 63 at most: their letters and their scopes, zeros behind
+-- both, and their number.
+unfoldable pub padded : List ℕ → List ℕ
+padded numbers = numbers ++ replicate (mostSteps - length numbers) 0
+
+abbrev pub stepsHeld : List Step → Steps
+stepsHeld steps = record { letters = padded (lettersIn steps); scopes = padded (scopesIn steps); count = length steps }
 
 -- with a mark and a start
 unfoldable pub rowMade : ℕ → ℕ → ℕ → List ℕ → List ℕ → PathRow

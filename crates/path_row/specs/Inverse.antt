@@ -3,11 +3,10 @@
 use Prim.Native.Nat.{ℕ}
 use mathlib.Core.Path.{_≡_}
 use mathlib.Core.Bool.{true}
-use mathlib.Core.List.{List, map}
+use mathlib.Core.List.{List}
 use lib.ListN.{length}
 use Rattle.text_field.specs.Outcome.{done}
-use Rattle.path_row.specs.declared.form.Step.{Step}
-use Rattle.path_row.specs.Form.{PathRow, rowHere, rowText, rowMade, isRow, rowWritten}
+use Rattle.path_row.specs.Form.{PathRow, rowHere, rowText, lettersIn, scopesIn, rowMade, isRow, rowWritten}
 
 -- what was read is written back byte for byte, and it can be written
 abbrev pub ReadThenWritten : Type 0
@@ -20,13 +19,6 @@ WrittenThenRead = (r : PathRow) → isRow r ≡ true → rowHere (rowText r) ≡
 -- what is written from parts, as the writer takes them, is read back as the row that the parts make
 abbrev pub PartsThenRead : Type 0
 PartsThenRead = (mark start count : ℕ) (letters scopes text : List ℕ) → rowWritten mark start count letters scopes ≡ done text → rowHere text ≡ done (rowMade mark start count letters scopes)
-
--- the letters and the scopes of steps
-abbrev pub lettersIn : List Step → List ℕ
-lettersIn steps = map (λ (s : Step). s .label) steps
-
-abbrev pub scopesIn : List Step → List ℕ
-scopesIn steps = map (λ (s : Step). s .scope) steps
 
 -- and what was read is written back from its parts
 abbrev pub ReadThenParts : Type 0

@@ -1,13 +1,13 @@
--- What is proved of a row's first step, of labels' numbers, of turns and of a lent table (document
--- 01, "Paths"; 02, K12). These are the statements; their proofs are in proofs/Promises. Assumes
+-- What is proved of a row's first step, of the value that holds its steps, of labels' numbers and of
+-- turns (document 01, "Paths"; 02, K12). These are the statements; their proofs are in proofs/Promises. Assumes
 -- nothing: these are definitions.
 use Prim.Native.Nat.{ℕ, _+_, _≤_, _<_}
 use mathlib.Core.Path.{_≡_}
 use mathlib.Core.Bool.{false}
 use mathlib.Core.Logic.{_↔_}
 use mathlib.Core.Option.{some, none}
-use mathlib.Core.List.{List, _++_}
-use lib.ListN.{length, getD, take, drop}
+use mathlib.Core.List.{List}
+use lib.ListN.{length, getD, drop}
 use Rattle.text_field.specs.Number.{numberText}
 use Rattle.text_field.specs.Outcome.{refused, done}
 use Rattle.graph_file.specs.File.{readCells}
@@ -15,11 +15,9 @@ use Rattle.graph_file.specs.Decode.{lettersOf, rulesOf, graphOf}
 use Rattle.scope_graph.specs.Language.{_∈_, End, by}
 use Rattle.scope_graph.specs.Turns.{Turned}
 use Rattle.scope_graph.specs.Rows.{language}
-use Rattle.path_row.specs.Form.{PathRow, Front, mostSteps, stepsOf, headHere, firstStep, stepsIn}
-use Rattle.path_row.specs.Inverse.{lettersIn, scopesIn}
+use Rattle.path_row.specs.Form.{PathRow, Front, mostSteps, stepsOf, headHere, firstStep, stepsIn, lettersIn, scopesIn, stepsTaken, stepsHeld}
 use Rattle.path_row.specs.Numbering.{labelNumber, hopIn, pathIn}
 use Rattle.path_row.specs.declared.form.Step.{Step}
-use Rattle.path_row.specs.Lent.{filled}
 
 -- The place of the first step: behind the bytes of the mark, a space and the bytes of the start; at
 -- the end of a text that does not begin so.
@@ -63,7 +61,6 @@ TurnOfRow = (text cells : List ℕ) → readCells text ≡ done cells → (s : �
     → (hopIn cells s t .step .turn ≡ some n)
     ↔ (record { from = s; step = record { label = labelNumber (lettersOf cells) (t .label); turn = some n }; to = t .scope } ∈ graphOf cells .edges)
 
--- n records filled, where there are as many steps and as many records: the first n steps, and the
--- records behind them as they were
-abbrev pub FilledIs : Type 0
-FilledIs = (steps lent : List Step) (n : ℕ) → n ≤ length steps → n ≤ length lent → filled steps n lent ≡ take n steps ++ drop n lent
+-- what is held of steps is those steps again
+abbrev pub HeldAreTaken : Type 0
+HeldAreTaken = (steps : List Step) → stepsTaken (stepsHeld steps) ≡ steps

@@ -1,13 +1,13 @@
-// A path row taken apart: its mark, its start, and its steps one by one.
+// A path row read: its mark, its start, the step at a place, and how many steps there are.
 use text_field::NumberRead;
 use text_field::is_capital;
 use text_field::read_number;
 ghost use mathlib.Core.Path.{_≡_};
 ghost use Prim.Native.Nat.{ℕ, _+_};
-ghost use lib.ListN.{length, drop, getD};
+ghost use lib.ListN.{length, drop};
 ghost use Rattle.text_field.specs.Number.{numberPlaced};
 ghost use Rattle.path_row.specs.Form.{mostSteps, numberUpTo, stepMeaning, stepFrom, stepsOf, stepsWidth};
-ghost use Rattle.path_row.specs.Form.{headMeaning, headHere, firstStep, rowMeaning, rowInLarge, stepsIn, noStep};
+ghost use Rattle.path_row.specs.Form.{headMeaning, headHere, firstStep, rowMeaning, rowInLarge};
 
 // A file has 64 scopes at most, so none has a number past 63.
 pub const MOST_SCOPE: u64 = 63;
@@ -76,7 +76,7 @@ pub fn read_head(s: &[u8]) -> HeadRead
     HeadRead::Head(mark, start, at)
 }
 
-// The place of a row's first step: behind its mark, its space and its start. Of a text without
+// The place of a row's first step: after its mark, its space and its start. Of a text without
 // these, its end.
 pub fn first_step(s: &[u8]) -> usize
     ensures answer { λ r. ⌜ r ≡ firstStep (now (s .entry)) ⌝ }
@@ -134,14 +134,6 @@ pub fn walk(s: &[u8], at: usize) -> Walked
     }
 }
 
-// How many steps a text shows.
-pub fn step_count(s: &[u8]) -> usize
-    ensures answer { λ r. ⌜ r ≡ length (stepsIn (now (s .entry))) ⌝ }
-{
-    let end = walk(s, first_step(s));
-    end.count
-}
-
 // A path row in the large, or refusal 8.
 pub fn read_row(s: &[u8]) -> RowRead
     ensures answer { λ r. ⌜ rowMeaning r ≡ rowInLarge (now (s .entry)) ⌝ }
@@ -157,35 +149,4 @@ pub fn read_row(s: &[u8]) -> RowRead
         return RowRead::NoRow;
     }
     RowRead::Row(mark, start, end.count)
-}
-
-// Step i of those that start at a place.
-fn step_from(s: &[u8], at: usize, i: usize) -> Step
-    ensures answer { λ r. ⌜ r ≡ getD (stepsOf mostSteps (drop at (now (s .entry)))) i noStep ⌝ }
-{
-    let mut place = at;
-    let mut left: usize = MOST_STEPS;
-    let mut k = i;
-    while left > 0 {
-        let StepRead::Taken(label, scope, next) = next_step(s, place) else {
-            return Step { label: 0, scope: 0 };
-        };
-        if k == 0 {
-            return Step { label, scope };
-        }
-        place = next;
-        left -= 1;
-        k -= 1;
-    }
-    Step { label: 0, scope: 0 }
-}
-
-// Step i of a row.
-pub fn step_at(s: &[u8], i: usize) -> Step
-    ensures answer { λ r. ⌜ r ≡ getD (stepsIn (now (s .entry))) i noStep ⌝ }
-{
-    let HeadRead::Head(_, _, first) = read_head(s) else {
-        return Step { label: 0, scope: 0 };
-    };
-    step_from(s, first, i)
 }

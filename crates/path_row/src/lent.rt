@@ -1,20 +1,23 @@
 // A step table is the caller's memory. Proofs about such memory are long, so `fill` only copies.
 use crate::form::Step;
-use crate::form::step_at;
+use crate::taken::Steps;
+use crate::taken::step_of;
 ghost use mathlib.Core.Path.{_≡_};
 ghost use Prim.Native.Nat.{_≤_};
 ghost use lib.ListN.{length};
-ghost use Rattle.path_row.specs.Form.{stepsIn};
-ghost use Rattle.path_row.specs.Lent.{filled};
+ghost use Rattle.path_row.specs.Form.{stepsTaken};
+ghost use Rattle.path_row.specs.Lent.{overlaid};
 
-// The first n records become the first n steps of the row.
-pub fn fill<'o, 'a>(out: &'o mut [Step], row: &'a [u8], n: usize)
-    requires room { ⌜ n ≤ length (now out) ⌝ }
-    ensures memory { λ _. ⌜ now (out .exit) ≡ filled (stepsIn (now (row .entry))) n (now (out .entry)) ⌝ }
+// Puts the steps that were taken from a row into the first records of a table. The records behind
+// them stay as they were.
+pub fn fill<'o>(out: &'o mut [Step], steps: Steps)
+    requires room { ⌜ steps .count ≤ length (now out) ⌝ }
+    ensures memory { λ _. ⌜ now (out .exit) ≡ overlaid (stepsTaken steps) (now (out .entry)) ⌝ }
 {
+    let n = steps.count;
     let mut i = 0;
     while i < n {
-        out[i] = step_at(row, i);
+        out[i] = step_of(steps, i);
         i += 1;
     }
 }

@@ -1,5 +1,5 @@
-// A path row's steps, taken from its text once: then they are judged, compared, or put into a lent
-// table.
+// A path row's steps as one value. A call takes them from the row's text once; by that value the
+// row is judged or compared, and the same value fills the lent table.
 use crate::form::MOST_STEPS;
 use crate::form::Step;
 use crate::form::StepRead;
@@ -8,7 +8,8 @@ use crate::form::next_step;
 use text_field::byte_at;
 ghost use mathlib.Core.Path.{_≡_};
 ghost use lib.ListN.{getD};
-ghost use Rattle.path_row.specs.Form.{stepsIn, noStep, stepsTaken};
+ghost use mathlib.Core.List.{[]};
+ghost use Rattle.path_row.specs.Form.{stepsIn, noStep, stepsTaken, stepsHeld};
 
 // The steps of a row: the letters and the scopes of the first `count`; behind them stands 0.
 pub struct Steps {
@@ -17,9 +18,21 @@ pub struct Steps {
     pub count: usize,
 }
 
-// The steps of a row.
+// No steps, as after a refusal.
+pub fn no_steps() -> Steps
+    ensures answer { λ r. ⌜ r ≡ stepsHeld [] ⌝ }
+{
+    Steps {
+        letters: [0u8; MOST_STEPS],
+        scopes: [0u8; MOST_STEPS],
+        count: 0,
+    }
+}
+
+// Takes the steps from a row's text: those that stand behind its start, as far as they are of their
+// form.
 pub fn steps_of(row: &[u8]) -> Steps
-    ensures answer { λ r. ⌜ stepsTaken r ≡ stepsIn (now (row .entry)) ⌝ }
+    ensures answer { λ r. ⌜ r ≡ stepsHeld (stepsIn (now (row .entry))) ⌝ }
 {
     let mut letters = [0u8; MOST_STEPS];
     let mut scopes = [0u8; MOST_STEPS];

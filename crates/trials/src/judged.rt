@@ -5,7 +5,8 @@ use judge::judge_text;
 
 // Its standing, where `room` records are lent for its steps.
 pub fn judging<'s>(text: &'s [u8], query: usize, row: &'s [u8], room: usize) {
-    let r = judge_text(text, query, row, room);
+    let told = judge_text(text, query, row, room);
+    let r = told.answer;
     match r {
         Judged::Visible => say::word(b"visible"),
         Judged::Shadowed(n) => say::counted(b"shadowed", n),

@@ -11,19 +11,20 @@ use crate::lent::bytes;
 use crate::lent::front;
 use crate::say;
 use comparison::Compared;
-use comparison::decide;
-use comparison::steps_due;
+use comparison::compare_text;
 use path_row::form::RowRead;
 use path_row::form::read_row;
-use path_row::form::step_at;
+use path_row::taken::step_of;
+use path_row::taken::steps_of;
 use path_row::writer::write_row;
 use text_field::Answer;
 
 // Each step of a row printed, its letter kept and its scope 63 places behind it.
 fn steps(row: &[u8], count: usize, kept: &mut [u8]) {
+    let taken = steps_of(row);
     let mut i = 0;
     while i < count {
-        let s = step_at(row, i);
+        let s = step_of(taken, i);
         say::step(s.label, s.scope);
         lent::put_byte(kept, i, s.label);
         lent::put_byte(kept, plus(63, i), s.scope);
@@ -33,7 +34,7 @@ fn steps(row: &[u8], count: usize, kept: &mut [u8]) {
 
 // Is there no step i?
 fn is_past(row: &[u8], i: usize) -> bool {
-    let s = step_at(row, i);
+    let s = step_of(steps_of(row), i);
     s.label == 0 && s.scope == 0
 }
 
@@ -171,12 +172,15 @@ pub fn apart(body: &[u8], room: usize) {
 
 // Two rows compared by a text, where n records are lent for the steps of a and m for those of b.
 pub fn comparing<'s>(text: &'s [u8], a: &'s [u8], b: &'s [u8], n: usize, m: usize) {
-    let r = decide(text, a, b, n, m);
+    let told = compare_text(text, a, b, n, m);
+    let r = told.answer;
     match r {
         Compared::First(k) => say::counted(b"first", k),
         Compared::Second(k) => say::counted(b"second", k),
         Compared::Neither(k) => say::counted(b"neither", k),
         Compared::Refused(k) => say::refused(k),
     }
-    say::records(steps_due(r, a), steps_due(r, b));
+    let first = told.first;
+    let second = told.second;
+    say::records(first.count, second.count);
 }

@@ -5,6 +5,7 @@ mod c {
     use super::Step;
 
     extern "C" {
+        pub fn tewhoranu_version() -> u64;
         pub fn tewhoranu_read(text: *const u8, text_length: usize, table: *mut u64, table_length: usize) -> u64;
         pub fn tewhoranu_write(table: *const u64, table_length: usize, out: *mut u8, out_length: usize) -> u64;
         pub fn tewhoranu_name_sought(text: *const u8, text_length: usize, query: usize, place: *mut u64) -> u64;
@@ -14,14 +15,14 @@ mod c {
             query: usize,
             out: *mut u8,
             out_length: usize,
-            followed: *mut u64,
         ) -> u64;
-        pub fn tewhoranu_listing_plain(
+        pub fn tewhoranu_listing_counted(
             text: *const u8,
             text_length: usize,
             query: usize,
             out: *mut u8,
             out_length: usize,
+            followed: *mut u64,
         ) -> u64;
         pub fn tewhoranu_judge(
             text: *const u8,
@@ -70,6 +71,11 @@ pub struct Step {
 // aligned, initialised and, where they are `&mut`, apart from all others for the call; the library
 // keeps none of them. That is all that its header asks, the stack aside.
 
+pub fn tewhoranu_version() -> u64 {
+    // SAFETY: as said above.
+    unsafe { c::tewhoranu_version() }
+}
+
 pub fn tewhoranu_read(text: &[u8], table: &mut [u64]) -> u64 {
     // SAFETY: as said above.
     unsafe { c::tewhoranu_read(text.as_ptr(), text.len(), table.as_mut_ptr(), table.len()) }
@@ -85,14 +91,14 @@ pub fn tewhoranu_name_sought(text: &[u8], query: usize, place: &mut u64) -> u64 
     unsafe { c::tewhoranu_name_sought(text.as_ptr(), text.len(), query, place) }
 }
 
-pub fn tewhoranu_listing(text: &[u8], query: usize, out: &mut [u8], followed: &mut u64) -> u64 {
+pub fn tewhoranu_listing(text: &[u8], query: usize, out: &mut [u8]) -> u64 {
     // SAFETY: as said above.
-    unsafe { c::tewhoranu_listing(text.as_ptr(), text.len(), query, out.as_mut_ptr(), out.len(), followed) }
+    unsafe { c::tewhoranu_listing(text.as_ptr(), text.len(), query, out.as_mut_ptr(), out.len()) }
 }
 
-pub fn tewhoranu_listing_plain(text: &[u8], query: usize, out: &mut [u8]) -> u64 {
+pub fn tewhoranu_listing_counted(text: &[u8], query: usize, out: &mut [u8], followed: &mut u64) -> u64 {
     // SAFETY: as said above.
-    unsafe { c::tewhoranu_listing_plain(text.as_ptr(), text.len(), query, out.as_mut_ptr(), out.len()) }
+    unsafe { c::tewhoranu_listing_counted(text.as_ptr(), text.len(), query, out.as_mut_ptr(), out.len(), followed) }
 }
 
 pub fn tewhoranu_judge(text: &[u8], query: usize, row: &[u8], steps: &mut [Step]) -> u64 {

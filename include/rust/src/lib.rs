@@ -2,12 +2,28 @@
 //! library.
 //!
 //! Every function is total. A refusal leaves all that was lent as it was. What each function takes,
-//! answers and refuses is said in `include/tewhoranu.h`; the numbers there are the cases of the
-//! enums here.
+//! answers and refuses is said in `include/tewhoranu.h`, and so is the layout of a graph table; the
+//! numbers there are the cases of the enums here. Nothing bounds the time of a call: the header says
+//! which files are slow.
 //!
-//! The library is either the archive that the Rattle kit builds, which is linked, or, with the
-//! feature `source`, the proved source itself, which rustc compiles for any target. Nothing else
-//! differs.
+//! The library is the archive that the Rattle kit builds, or, with the feature `source`, the proved
+//! source itself, which rustc compiles for any target. Nothing else differs.
+//!
+//! # Stack
+//!
+//! A call may take as much as [`STACK`] bytes of stack, and only [`listing_counted`] more than three
+//! quarters of it. The main thread of a Linux program has 8 MiB, unless it was given less. A thread
+//! that `std::thread::spawn` starts has 2 MiB, some of which it needs itself: not enough for
+//! `listing_counted`. This starts one that has enough:
+//!
+//! ```
+//! # let (text, query) = (b"".to_vec(), 0);
+//! let thread = std::thread::Builder::new().stack_size(tewhoranu::STACK + 256 * 1024).spawn(move || {
+//!     let mut out = vec![0; tewhoranu::LISTING];
+//!     tewhoranu::listing_counted(&text, query, &mut out).map(|(n, followed)| (out[..n].to_vec(), followed))
+//! });
+//! # assert_eq!(thread.unwrap().join().unwrap(), Err(tewhoranu::Refusal::Malformed));
+//! ```
 
 #![no_std]
 #![cfg_attr(feature = "source", forbid(unsafe_code))]
@@ -18,18 +34,20 @@ mod archive;
 include!(concat!(env!("OUT_DIR"), "/package/src/modules.rs"));
 
 #[cfg(not(feature = "source"))]
-use archive as library;
+use crate::archive as library;
 #[cfg(feature = "source")]
-use host as library;
+use crate::tewhoranu as library;
 
 #[cfg(not(feature = "source"))]
-pub use archive::Step;
+pub use crate::archive::Step;
 #[cfg(feature = "source")]
-pub use path_row::form::Step;
+pub use crate::path_row::form::Step;
 
 use core::error::Error;
 use core::fmt;
 
+/// The version of the interface that these declarations are for; [`version`] tells the library's.
+pub const VERSION: u64 = 1;
 /// Cells of a graph table that serve every file.
 pub const CELLS: usize = 12_271;
 /// Bytes that serve every file's text.
@@ -51,48 +69,56 @@ pub const WITH_TURNS: u64 = 2;
 /// Stack that serves every call, in bytes: counted, not proved.
 pub const STACK: usize = 4 * 512 * 1024;
 
-/// Why a call was refused, by its number.
+/// Why a call was refused, by its number. Later versions may have more.
 #[derive(Clone, Copy, Debug, PartialEq, Eq)]
-#[repr(u8)]
+#[non_exhaustive]
 pub enum Refusal {
-    TooLong = 1,
-    Malformed = 2,
-    OutOfRange = 3,
-    NotAscending = 4,
-    TooManyRows = 5,
-    NoOrder = 6,
-    NoQuery = 7,
-    NoPathRow = 8,
-    NoRoom = 9,
-    NoExpression = 12,
-    TooManyStates = 13,
-    NoOldForm = 14,
+    TooLong,
+    Malformed,
+    OutOfRange,
+    NotAscending,
+    TooManyRows,
+    NoOrder,
+    NoQuery,
+    NoPathRow,
+    NoRoom,
+    NoExpression,
+    TooManyStates,
+    NoOldForm,
+    /// A number that these declarations do not know: the library is of another version.
+    Unknown(u64),
 }
 
 impl Refusal {
-    pub const ALL: [Refusal; 12] = [
-        Refusal::TooLong,
-        Refusal::Malformed,
-        Refusal::OutOfRange,
-        Refusal::NotAscending,
-        Refusal::TooManyRows,
-        Refusal::NoOrder,
-        Refusal::NoQuery,
-        Refusal::NoPathRow,
-        Refusal::NoRoom,
-        Refusal::NoExpression,
-        Refusal::TooManyStates,
-        Refusal::NoOldForm,
+    /// Those that have a name here, with their numbers.
+    const NAMED: [(Refusal, u64); 12] = [
+        (Refusal::TooLong, 1),
+        (Refusal::Malformed, 2),
+        (Refusal::OutOfRange, 3),
+        (Refusal::NotAscending, 4),
+        (Refusal::TooManyRows, 5),
+        (Refusal::NoOrder, 6),
+        (Refusal::NoQuery, 7),
+        (Refusal::NoPathRow, 8),
+        (Refusal::NoRoom, 9),
+        (Refusal::NoExpression, 12),
+        (Refusal::TooManyStates, 13),
+        (Refusal::NoOldForm, 14),
     ];
 
-    pub fn number(self) -> u8 {
-        self as u8
+    /// The refusal of a number.
+    pub fn of(number: u64) -> Refusal {
+        match Refusal::NAMED.into_iter().find(|&(_, n)| n == number) {
+            Some((refusal, _)) => refusal,
+            None => Refusal::Unknown(number),
+        }
     }
 
-    fn of(number: u64) -> Refusal {
-        match Refusal::ALL.into_iter().find(|r| u64::from(r.number()) == number) {
-            Some(refusal) => refusal,
-            None => unreachable!("the library answers no such number: {number}"),
+    /// The number of the refusal, as the header has it.
+    pub fn number(self) -> u64 {
+        match self {
+            Refusal::Unknown(number) => number,
+            named => Refusal::NAMED.into_iter().find(|&(refusal, _)| refusal == named).map_or(0, |(_, n)| n),
         }
     }
 }
@@ -103,24 +129,26 @@ impl fmt::Display for Refusal {
         f.write_str(match self {
             Refusal::TooLong => "the file is longer than 32,768 bytes",
             Refusal::Malformed => "a line or a table's row is not of its section's form, or a section is missing",
-            Refusal::OutOfRange => "a scope, state, mark, count, turn or label is outside its range or list",
-            Refusal::NotAscending => "a row repeats or does not ascend",
-            Refusal::TooManyRows => "a section has a row past its limit",
-            Refusal::NoOrder => "the order has a pair with equal ends, or pairs a, b and b, c without a, c",
+            Refusal::OutOfRange => {
+                "a number is above the greatest of its column, or names a scope or label that the file lacks"
+            }
+            Refusal::NotAscending => "a row is out of its sequence, or there twice",
+            Refusal::TooManyRows => "a section has more rows than it may",
+            Refusal::NoOrder => "the order prefers an end to itself, or lacks a pair that follows from two others",
             Refusal::NoQuery => "there is no query of this number",
             Refusal::NoPathRow => "a path row is not of its form",
             Refusal::NoRoom => "the memory lent is too short for the output or the steps",
             Refusal::NoExpression => "not an expression over the file's labels, or past 64 bytes or ten letters",
             Refusal::TooManyStates => "the smallest table for the expression has more than 16 states",
             Refusal::NoOldForm => "the old form has no kinds and no turns, and a kind is not v or a turn is not 0",
+            Refusal::Unknown(_) => "no refusal that this header knows",
         })
     }
 }
 
 impl Error for Refusal {}
 
-/// Which of two path rows is more specific, and how many steps are equal before the first
-/// difference: 0 for different starts, all for equal paths.
+/// Which of two path rows is more specific, and how many steps both begin with.
 #[derive(Clone, Copy, Debug, PartialEq, Eq)]
 pub enum Compared {
     First(usize),
@@ -129,7 +157,7 @@ pub enum Compared {
 }
 
 /// What a path row is for a query. `Shadowed` has the number of steps after which its name was
-/// caught: the most in which a reached path that is more specific agrees with the row's.
+/// caught: the most that the row shares with a reached path that is more specific.
 #[derive(Clone, Copy, Debug, PartialEq, Eq)]
 pub enum Standing {
     Visible,
@@ -156,6 +184,11 @@ fn case(answer: u64) -> Result<(u64, usize), Refusal> {
     }
 }
 
+/// The version of the library's interface: [`VERSION`], if it goes with these declarations.
+pub fn version() -> u64 {
+    library::tewhoranu_version()
+}
+
 /// Reads a gym file's text into a graph table and answers how many cells were written. The first is
 /// the file's form.
 pub fn read(text: &[u8], table: &mut [u64]) -> Result<usize, Refusal> {
@@ -176,32 +209,33 @@ pub fn name_sought(text: &[u8], query: usize) -> Option<&[u8]> {
     (length != 0).then(|| &text[place as usize..][..length as usize])
 }
 
+/// Writes a query's listing and answers how many bytes were written.
+pub fn listing(text: &[u8], query: usize, out: &mut [u8]) -> Result<usize, Refusal> {
+    written(library::tewhoranu_listing(text, query, out))
+}
+
 /// Writes a query's listing and answers how many bytes were written, and how many lawful beginnings
-/// the query follows, `FOLLOWED` where there are so many or more.
-pub fn listing(text: &[u8], query: usize, out: &mut [u8]) -> Result<(usize, u64), Refusal> {
+/// the query follows, `FOLLOWED` where there are so many or more. Counting may take much longer than
+/// listing, and more stack than a thread has by default: see above.
+pub fn listing_counted(text: &[u8], query: usize, out: &mut [u8]) -> Result<(usize, u64), Refusal> {
     let mut followed = 0;
-    let answer = library::tewhoranu_listing(text, query, out, &mut followed);
+    let answer = library::tewhoranu_listing_counted(text, query, out, &mut followed);
     written(answer).map(|length| (length, followed))
 }
 
-/// Writes a query's listing, without that number, and answers how many bytes were written.
-pub fn listing_plain(text: &[u8], query: usize, out: &mut [u8]) -> Result<usize, Refusal> {
-    written(library::tewhoranu_listing_plain(text, query, out))
-}
-
-/// Judges a path row for a query; its steps go into the table.
+/// Judges a path row for a query; its steps go into the first records of the table.
 pub fn judge(text: &[u8], query: usize, row: &[u8], steps: &mut [Step]) -> Result<Standing, Refusal> {
     let answer = library::tewhoranu_judge(text, query, row, steps);
-    Ok(match case(answer)? {
-        (0, 0) => Standing::Visible,
-        (1, n) => Standing::Shadowed(n),
-        (2, 0) => Standing::Unreached,
-        _ => unreachable!("the library answers no such number: {answer}"),
-    })
+    match case(answer)? {
+        (0, 0) => Ok(Standing::Visible),
+        (1, n) => Ok(Standing::Shadowed(n)),
+        (2, 0) => Ok(Standing::Unreached),
+        _ => Err(Refusal::Unknown(answer)),
+    }
 }
 
-/// Compares two path rows by the file's order and turns, with the number of equal steps before the
-/// first difference; the steps of each go into its table.
+/// Compares two path rows by the file's order and turns, and tells how many steps both begin with;
+/// the steps of each go into the first records of its table.
 pub fn compare(
     text: &[u8],
     first: &[u8],
@@ -210,12 +244,12 @@ pub fn compare(
     second_steps: &mut [Step],
 ) -> Result<Compared, Refusal> {
     let answer = library::tewhoranu_compare(text, first, second, first_steps, second_steps);
-    Ok(match case(answer)? {
-        (0, n) => Compared::First(n),
-        (1, n) => Compared::Second(n),
-        (2, n) => Compared::Neither(n),
-        _ => unreachable!("the library answers no such number: {answer}"),
-    })
+    match case(answer)? {
+        (0, n) => Ok(Compared::First(n)),
+        (1, n) => Ok(Compared::Second(n)),
+        (2, n) => Ok(Compared::Neither(n)),
+        _ => Err(Refusal::Unknown(answer)),
+    }
 }
 
 /// Writes the summary and answers how many bytes were written.
@@ -239,4 +273,30 @@ pub fn to_new(text: &[u8], out: &mut [u8]) -> Result<usize, Refusal> {
 /// than 16 states.
 pub fn rules(text: &[u8], expression: &[u8], out: &mut [u8]) -> Result<usize, Refusal> {
     written(library::tewhoranu_rules(text, expression, out))
+}
+
+#[cfg(test)]
+mod tests {
+    use super::*;
+
+    #[test]
+    fn the_library_has_this_version() {
+        assert_eq!(version(), VERSION);
+    }
+
+    #[test]
+    fn numbers_and_refusals_go_together() {
+        for number in 0..DONE {
+            assert_eq!(Refusal::of(number).number(), number);
+        }
+        for (refusal, number) in Refusal::NAMED {
+            assert_eq!((Refusal::of(number), refusal.number()), (refusal, number));
+        }
+    }
+
+    #[test]
+    fn an_unknown_number_is_an_error_and_no_panic() {
+        assert_eq!(written(63), Err(Refusal::Unknown(63)));
+        assert_eq!(case(10), Err(Refusal::Unknown(10)));
+    }
 }

@@ -115,15 +115,15 @@ impl Test {
         }
     }
 
-    fn listing_plain(&mut self, text: &[u8], query: usize) {
+    fn listing(&mut self, text: &[u8], query: usize) {
         let due = plain::answers::listing(text, query, &mut vec![0; tewhoranu::LISTING]).unwrap_or(60);
         let n = length(&mut self.rng, due, 2000);
         let memory = lent(&mut self.rng, n, |i| i as u8);
         self.same(
-            "listing_plain",
+            "listing",
             text,
             memory,
-            |m| tewhoranu::listing_plain(text, query, m).map_err(number),
+            |m| tewhoranu::listing(text, query, m).map_err(number),
             |m| plain::answers::listing(text, query, m),
         );
     }
@@ -253,7 +253,7 @@ impl Test {
         let mut shown = Vec::new();
         for query in 0..queries + 1 {
             self.name_sought(text, query);
-            self.listing_plain(text, query);
+            self.listing(text, query);
             self.followed(text, query);
             shown.extend(rows(text, query));
             shown.extend(rows(&unordered, query));
@@ -272,7 +272,7 @@ impl Test {
         }
         for query in [queries + 1, usize::MAX] {
             self.name_sought(text, query);
-            self.listing_plain(text, query);
+            self.listing(text, query);
             self.followed(text, query);
         }
     }

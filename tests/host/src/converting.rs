@@ -68,7 +68,7 @@ fn without_column(text: &[u8]) -> Vec<u8> {
 /// its refusal.
 fn said(text: &[u8], query: usize) -> Result<(String, String), tewhoranu::Refusal> {
     let mut out = vec![0; tewhoranu::LISTING];
-    let n = tewhoranu::listing_plain(text, query, &mut out)?;
+    let n = tewhoranu::listing(text, query, &mut out)?;
     let listing = String::from_utf8_lossy(&out[..n]);
     let lines: Vec<&str> = listing.splitn(3, '\n').collect();
     let values: Vec<&str> = lines[1].split(' ').collect();

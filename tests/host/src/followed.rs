@@ -7,7 +7,7 @@ use crate::differ;
 
 #[cfg(not(feature = "source"))]
 extern "C" {
-    fn tewhoranu_listing(
+    fn tewhoranu_listing_counted(
         text: *const u8,
         text_length: usize,
         query: usize,
@@ -33,14 +33,15 @@ fn archive_leaves(text: &[u8], query: usize, mut ours: Vec<u8>, due: (&[u8], Res
     let before = ours.len() as u64 % 5;
     let mut followed = before;
     // SAFETY: the pointers and lengths are those of slices and of a number, apart from each other.
-    let answer =
-        unsafe { tewhoranu_listing(text.as_ptr(), text.len(), query, ours.as_mut_ptr(), ours.len(), &mut followed) };
+    let answer = unsafe {
+        tewhoranu_listing_counted(text.as_ptr(), text.len(), query, ours.as_mut_ptr(), ours.len(), &mut followed)
+    };
     let number = match due.1 {
         Ok((n, count)) => (64 + n as u64, count),
         Err(number) => (u64::from(number), before),
     };
     if (answer, followed) != number || ours != due.0 {
-        differ("listing", text, format!("{answer} with {followed} and not {number:?} for query {query}"));
+        differ("listing_counted", text, format!("{answer} with {followed} and not {number:?} for query {query}"));
     }
 }
 
@@ -56,19 +57,19 @@ impl Test {
         let count = theirs.and_then(|n| plain::answers::beginnings(text, query).map(|count| (n, count)));
 
         let mut ours = memory.clone();
-        let answer = tewhoranu::listing(text, query, &mut ours).map_err(number);
-        self.seen.note("listing", &answer, &ours);
+        let answer = tewhoranu::listing_counted(text, query, &mut ours).map_err(number);
+        self.seen.note("listing_counted", &answer, &ours);
         if answer != count || ours != out {
-            differ("listing", text, format!("{answer:?} and not {count:?} for query {query}, with {n} lent"));
+            differ("listing_counted", text, format!("{answer:?} and not {count:?} for query {query}, with {n} lent"));
         }
         #[cfg(not(feature = "source"))]
         archive_leaves(text, query, memory, (&out, count));
         match count {
             Ok((_, count)) => {
-                self.tally.count("listing", "written".to_string());
+                self.tally.count("listing_counted", "written".to_string());
                 self.tally.count("followed", size(count).to_string());
             }
-            Err(number) => self.tally.count("listing", format!("refused {number}")),
+            Err(number) => self.tally.count("listing_counted", format!("refused {number}")),
         }
     }
 }

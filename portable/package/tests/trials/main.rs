@@ -12,7 +12,7 @@ use std::path::Path;
 use std::thread;
 
 /// Stack for a program, in bytes: what serves every call, and more for the program's own memory.
-const STACK: usize = 4 * tewhoranu::STACK;
+const STACK: usize = 4 * ::tewhoranu::STACK;
 
 /// Runs a program on its input, if it has one, and compares what it prints, line by line.
 fn prints_what_is_due(name: &str, program: fn()) {

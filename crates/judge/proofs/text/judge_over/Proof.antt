@@ -1,5 +1,7 @@
 -- `judge_over` meets its contract: the text's refusals, then the table's. Assumes nothing.
 use Rattle.graph_file.proofs.TableLaws.{made-read, over-refused, over-written}
+use Rattle.judge.specs.Judge.{judgeAnswer}
+use Rattle.judge.proofs.LentLaws.{hands-none}
 use Rattle.judge.proofs.Calls.{text-refused, text-judged}
 use borrow.Author.Needs.{needs}
 use Rattle.judge.proofs.text.judge_over.Statement.{statement}
@@ -14,6 +16,9 @@ read-over-requires c κs = search needs
 
 enum-known-a : tie.Need-enum-known-a
 enum-known-a c = search needs
+
+refused-row-requires : tie.Need-refused-row-requires
+refused-row-requires c κs = search needs
 
 enum-known-a-2 : tie.Need-enum-known-a-2
 enum-known-a-2 c = search needs
@@ -31,7 +36,7 @@ same-length : tie.Need-same-length
 same-length c = search needs
 
 returns : tie.Need-returns
-returns c = let a = c .before .before .before .before .before .before .before .before .before .before .args in text-refused (a .text .now) (a .query) (a .row .now) (a .room) _ (over-refused (c .before .before .before .before .before .before .before .before .before .before .args .text .now) _ _ (c .before .before .before .before .before .read-over .ensures .0) _ (c .before .a .given .1))
+returns c = let a = c .before .before .before .before .before .before .before .before .before .before .before .args in hands-none (judgeAnswer (a .text .now) (a .query) (a .row .now) (a .room)) (a .row .now) _ (c .refused-row .result) (c .refused-row .ensures) (text-refused (a .text .now) (a .query) (a .row .now) (a .room) _ (over-refused (c .before .before .before .before .before .before .before .before .before .before .before .args .text .now) _ _ (c .before .before .before .before .before .before .read-over .ensures .0) _ (c .before .before .a .given .1)))
 
 same-length-2 : tie.Need-same-length-2
 same-length-2 c = search needs
@@ -45,6 +50,7 @@ judge-over-spec =
     (tie.spec
     read-over-requires
     enum-known-a
+    refused-row-requires
     enum-known-a-2
     slice-reshare-prefix-judge-of
     slice-aggregate-judge-of

@@ -1,11 +1,12 @@
 -- `path_row::taken::steps_of` meets its contract. The loop's invariant: the steps taken and those
 -- that are left make the whole. Assumes nothing.
 use denote.Ref.{now}
-use mathlib.Core.Path.{_≡_, refl, sym, _∙_}
+use mathlib.Core.Path.{refl}
+use mathlib.Core.List.{[]}
 use Prim.Native.Nat.{_-_}
 use borrow.Author.Needs.{needs}
 use native.Mathlib.Omega.{arith}
-use Rattle.path_row.specs.Form.{stepsIn, stepsMade, stepsTaken}
+use Rattle.path_row.specs.Form.{stepsIn, padded}
 use Rattle.path_row.proofs.TakenLaws.{Taking, taking-full, taking-ends, taking-on}
 use Rattle.path_row.proofs.RowReads.{steps-first}
 use Rattle.path_row.proofs.taken.steps_of.Statement.{statement}
@@ -27,8 +28,8 @@ first-step-requires c κs = search needs
 
 -- src/taken.rt:28:5
 loop-holds : tie.Need-loop-holds Inv-loop μ-loop
-unfolding stepsMade
-loop-holds c = let row = c .before .before .args .row .now in record { letters-room = refl; scopes-room = refl; makes = steps-first row (c .first-step .result) (c .first-step .ensures) }
+unfolding padded
+loop-holds c = let row = c .before .before .args .row .now in record { taken = []; counted = refl; letters = refl; scopes = refl; makes = steps-first row (c .first-step .result) (c .first-step .ensures) }
 
 -- src/taken.rt:29:43
 next-step-requires : tie.Need-next-step-requires Inv-loop μ-loop
@@ -44,7 +45,6 @@ enum-told c = search needs
 
 -- src/taken.rt:30:13
 returns : tie.Need-returns Inv-loop μ-loop
-unfolding stepsTaken
 returns c = let l = c .before .before .before .before .loop in taking-ends (c .before .before .before .before .before .before .before .args .row .now) _ (l .letters) (l .scopes) (l .at) (l .count) (l .inv) (c .before .before .next-step .result) (c .before .before .next-step .ensures) (c .enum-told .given .1)
 
 -- src/taken.rt:36:9
@@ -69,7 +69,6 @@ loop-again c = let l = c .before .before .before .before .before .loop in taking
 
 -- src/taken.rt:21:1
 returns-2 : tie.Need-returns-2 Inv-loop μ-loop
-unfolding stepsTaken
 returns-2 c = let l = c .before .loop in taking-full (c .before .before .before .before .args .row .now) _ (l .letters) (l .scopes) (l .at) (l .count) (l .inv) (omega arith)
 
 pub steps-of-spec : {M : Type 1} → statement M

@@ -18,7 +18,7 @@ use std::thread;
 
 /// Stack for the program, in bytes, also where a main thread has less: what serves every call, and as much for the
 /// program's own memory.
-const STACK: usize = 2 * tewhoranu::STACK;
+const STACK: usize = 2 * ::tewhoranu::STACK;
 
 fn main() -> ExitCode {
     let program = thread::Builder::new().stack_size(STACK).spawn(gym::main);

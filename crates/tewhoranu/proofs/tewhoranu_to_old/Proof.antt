@@ -1,0 +1,28 @@
+use mathlib.Core.Path.{sym, ap, subst, _∙_}
+use native.Mathlib.Omega.{arith}
+use lib.ListN.{length}
+use Rattle.tewhoranu.specs.Numbers.{written, Sized}
+use Rattle.tewhoranu.proofs.NumberLaws.{answer-sized}
+use borrow.Author.Needs.{needs}
+use Rattle.tewhoranu.proofs.tewhoranu_to_old.Statement.{statement}
+use Rattle.tewhoranu.proofs.tewhoranu_to_old.Tie as tie
+use Rattle.tewhoranu.proofs.tewhoranu_to_old.Reads as reads
+use Rattle.tewhoranu.proofs.tewhoranu_to_old.Lts as lts
+use Rattle.tewhoranu.proofs.numbers.written_number.Reads as written-number-reads
+use Rattle.conversion.proofs.to_old.Reads as to-old-reads
+
+to-old-requires : tie.Need-to-old-requires
+to-old-requires c κs = search needs
+
+written-number-requires : tie.Need-written-number-requires
+written-number-requires c κs = subst Sized (sym (c .before .before .to-old .ensures .0)) (answer-sized _ (length (c .before .before .before .before .before .before .args .out .now)) (omega (arith, c .before .before .before .before .before .before .good .1 .0 .1)))
+
+same-length : tie.Need-same-length
+same-length c = search needs
+
+returns : tie.Need-returns
+returns c = (c .written-number .ensures ∙ ap written (c .before .before .before .to-old .ensures .0), c .before .before .before .to-old .ensures .1)
+
+pub tewhoranu-to-old-spec : {M : Type 1} → statement M
+tewhoranu-to-old-spec =
+    tie.close (tie.spec to-old-requires written-number-requires same-length returns)
