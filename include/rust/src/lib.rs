@@ -7,7 +7,7 @@
 //! which files are slow.
 //!
 //! The library is the archive that the Rattle kit builds, or, with the feature `source`, the proved
-//! source itself, which rustc compiles for any target. Nothing else differs.
+//! source itself, compiled with the program. Nothing else differs.
 //!
 //! # Stack
 //!

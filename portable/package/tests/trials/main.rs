@@ -3,6 +3,7 @@
 
 include!("../../src/modules.rs");
 include!("modules.rs");
+include!("programs.rs");
 
 mod check;
 mod io;
@@ -39,16 +40,10 @@ fn prints_what_is_due(name: &str, program: fn()) {
 }
 
 #[test]
-fn cases() {
-    prints_what_is_due("trials", trials::main);
-}
-
-#[test]
-fn path_rules() {
-    prints_what_is_due("trials_rules", trials_rules::main);
-}
-
-#[test]
-fn random_gyms() {
-    prints_what_is_due("trials_random", trials_random::main);
+fn every_program_prints_what_is_due() {
+    thread::scope(|scope| {
+        for (name, program) in PROGRAMS {
+            scope.spawn(move || prints_what_is_due(name, program));
+        }
+    });
 }
