@@ -113,7 +113,7 @@ class File:
 
     # -- parts of items
 
-    def any(self, stops=()):
+    def any(self):
         """Goes over one token of code, or over a bracketed part; notes where a path begins."""
         token = self.next
         if token is None or token.text in ')]}':
@@ -152,7 +152,7 @@ class File:
         """The fields of a struct or the variants of an enum, in braces."""
         self.take('{')
         while not self.sees('}'):
-            self.documented.append(self.next.start)
+            self.documented.append(self.next.start if self.next else 0)
             self.visibility()
             self.name_due()
             self.until(',', '}')
@@ -182,6 +182,8 @@ class File:
     # -- items
 
     def item(self):
+        if self.next is None:
+            self.fail('an item is due')
         start = self.next.start
         if self.sees('ghost'):
             self.ghost_use()
