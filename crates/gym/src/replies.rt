@@ -111,7 +111,8 @@ fn put_judged<'s, 'o>(text: &'s [u8], query: usize, row: &'s [u8], out: &'o mut 
     ensures written { λ r. ⌜ Replied (now (out .entry)) (now (out .exit)) r (inPlace replyRoom (judgeLine (now (text .entry)) query (now (row .entry)))) ⌝ }
 {
     let told = judge_text(text, query, row, MOST_STEPS);
-    put_standing(out, told.answer)
+    let answer = told.answer;
+    put_standing(out, answer)
 }
 
 // Which of two rows is more specific.
@@ -119,7 +120,8 @@ fn put_compared<'s, 'o>(text: &'s [u8], a: &'s [u8], b: &'s [u8], out: &'o mut [
     ensures written { λ r. ⌜ Replied (now (out .entry)) (now (out .exit)) r (inPlace replyRoom (compareLine (now (text .entry)) (now (a .entry)) (now (b .entry)))) ⌝ }
 {
     let told = compare_text(text, a, b, MOST_STEPS, MOST_STEPS);
-    put_comparison(out, told.answer)
+    let answer = told.answer;
+    put_comparison(out, answer)
 }
 
 // The file with the path rules of an expression, or its refusal.

@@ -1,11 +1,11 @@
--- `gym::replies::put_compared` puts the line of what `decide` answers. Assumes nothing.
+-- `gym::replies::put_compared` puts the line of what `compare_text` answers. Assumes nothing.
 use borrow.Author.Needs.{needs}
 use Rattle.gym.proofs.ReplyLaws.{compare-replied}
 use Rattle.gym.proofs.replies.put_compared.Statement.{statement}
 use Rattle.gym.proofs.replies.put_compared.Tie as tie
 
-decide-requires : tie.Need-decide-requires
-decide-requires c κs = search needs
+compare-text-requires : tie.Need-compare-text-requires
+compare-text-requires c κs = search needs
 
 put-comparison-requires : tie.Need-put-comparison-requires
 put-comparison-requires c κs = search needs
@@ -18,4 +18,4 @@ returns c = compare-replied _ _ _ (c .before .before .before .before .before .be
 
 pub put-compared-spec : {M : Type 1} → statement M
 put-compared-spec =
-    tie.close (tie.spec decide-requires put-comparison-requires same-length returns)
+    tie.close (tie.spec compare-text-requires put-comparison-requires same-length returns)

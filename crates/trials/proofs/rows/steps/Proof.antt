@@ -8,16 +8,19 @@ use Rattle.trials.proofs.rows.steps.Statement.{statement}
 use Rattle.trials.proofs.rows.steps.Tie as tie
 
 abbrev Inv-loop : tie.InvT-loop
-Inv-loop row count kept₀ i₀ kept i = length kept₀ ≡ length kept
+Inv-loop row count kept₀ taken i₀ kept i = length kept₀ ≡ length kept
 
 abbrev μ-loop : tie.MeasureT-loop
-μ-loop row count kept₀ i₀ kept i = count - i
+μ-loop row count kept₀ taken i₀ kept i = count - i
+
+steps-of-requires : tie.Need-steps-of-requires Inv-loop μ-loop
+steps-of-requires c κs = search needs
 
 loop-holds : tie.Need-loop-holds Inv-loop μ-loop
 loop-holds c = search needs
 
-step-at-requires : tie.Need-step-at-requires Inv-loop μ-loop
-step-at-requires c κs = search needs
+step-of-requires : tie.Need-step-of-requires Inv-loop μ-loop
+step-of-requires c κs = search needs
 
 step-requires : tie.Need-step-requires Inv-loop μ-loop
 step-requires c κs = search needs
@@ -52,8 +55,9 @@ steps-spec =
     (tie.spec
     Inv-loop
     μ-loop
+    steps-of-requires
     loop-holds
-    step-at-requires
+    step-of-requires
     step-requires
     put-byte-requires
     plus-requires
