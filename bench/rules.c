@@ -1,7 +1,7 @@
 /* Times tewhoranu_rules on one gym file and many expressions of ten letters, drawn by chance:
  *
- *     rt staticlib host
- *     gcc -O2 -I include bench/rules.c target/staticlib/libhost.a -o target/rules_time
+ *     rt staticlib tewhoranu
+ *     gcc -O2 -I include bench/rules.c target/staticlib/libtewhoranu.a -o target/rules_time
  *     target/rules_time FILE [COUNT]
  *
  * Each is called five times, and the least time counts. Prints the middle one and the slowest of those put out and of those

@@ -37,6 +37,14 @@ static int holds(const tewhoranu_step *step, char label, int scope)
     return step->label == label && step->scope == scope;
 }
 
+/* Is the row of the graph table one of the section, with this value in the cell? */
+static int row_is(size_t row, uint64_t section, size_t cell, uint64_t value)
+{
+    const uint64_t *cells = table + 1 + TEWHORANU_ROW * row;
+
+    return cells[0] == section && cells[cell] == value;
+}
+
 /* Is the text refused by this number, with the first `old` in it made `new`? Nothing lent changes then. */
 static int refused_with(size_t length, const char *old, const char *new, uint64_t number)
 {
@@ -60,6 +68,30 @@ static int refused_with(size_t length, const char *old, const char *new, uint64_
         && tewhoranu_rules(changed, length, bytes("P)"), 2, out, sizeof out) == number
         && tewhoranu_compare(changed, length, bytes("1 2"), 3, bytes("1 2"), 3, steps, 1, others, 1) == number
         && tewhoranu_name_sought(changed, length, 0, &place) == 0 && place == 7 && out[0] == 'x';
+}
+
+/* Does the graph table hold the example's rows where the header says? */
+static int laid_out(void)
+{
+    const uint64_t service = 0x7365727669636500, hours = 0x686f757273000000;
+
+    return row_is(0, TEWHORANU_SECTION_LABELS, TEWHORANU_LABEL_LETTER, 'I')
+        && row_is(2, TEWHORANU_SECTION_PAIRS, TEWHORANU_PAIR_LESS, 0) && row_is(2, TEWHORANU_SECTION_PAIRS, TEWHORANU_PAIR_MORE, 1)
+        && row_is(5, TEWHORANU_SECTION_TRANSITIONS, TEWHORANU_TRANSITION_STATE, 0)
+        && row_is(6, TEWHORANU_SECTION_TRANSITIONS, TEWHORANU_TRANSITION_LABEL, 1)
+        && row_is(5, TEWHORANU_SECTION_TRANSITIONS, TEWHORANU_TRANSITION_NEXT, 1)
+        && row_is(9, TEWHORANU_SECTION_ACCEPTS, TEWHORANU_ACCEPT_STATE, 1)
+        && row_is(10, TEWHORANU_SECTION_SCOPES, TEWHORANU_SCOPES_COUNT, 5)
+        && row_is(12, TEWHORANU_SECTION_EDGES, TEWHORANU_EDGE_FROM, 2) && row_is(13, TEWHORANU_SECTION_EDGES, TEWHORANU_EDGE_LABEL, 1)
+        && row_is(12, TEWHORANU_SECTION_EDGES, TEWHORANU_EDGE_TO, 4) && row_is(12, TEWHORANU_SECTION_EDGES, TEWHORANU_EDGE_TURN, 0)
+        && row_is(16, TEWHORANU_SECTION_DECLARATIONS, TEWHORANU_DECLARATION_AT, 1)
+        && row_is(16, TEWHORANU_SECTION_DECLARATIONS, TEWHORANU_DECLARATION_KIND, 'v')
+        && row_is(16, TEWHORANU_SECTION_DECLARATIONS, TEWHORANU_DECLARATION_NAME, service)
+        && row_is(16, TEWHORANU_SECTION_DECLARATIONS, TEWHORANU_DECLARATION_MARK, 10)
+        && row_is(19, TEWHORANU_SECTION_OPEN, TEWHORANU_OPEN_AT, 3) && row_is(19, TEWHORANU_SECTION_OPEN, TEWHORANU_OPEN_END, 0)
+        && row_is(22, TEWHORANU_SECTION_QUERIES, TEWHORANU_QUERY_START, 2)
+        && row_is(22, TEWHORANU_SECTION_QUERIES, TEWHORANU_QUERY_KIND, 'v')
+        && row_is(22, TEWHORANU_SECTION_QUERIES, TEWHORANU_QUERY_NAME, hours);
 }
 
 typedef uint64_t conversion(const uint8_t *text, size_t text_length, uint8_t *out, size_t out_length);
@@ -153,6 +185,8 @@ int main(int argc, char **argv)
                                 "0 I 1 2\n0 I 2 1\nat kind name mark\n1 v x 1\n2 v x 2\nat open\n0 I\nstart kind seek\n0 v x\n";
     static const char caught[] = "label\nI\nP\nless more\nI P\nstate label next\n0 I 0\n0 P 0\naccept\n0\nscopes\n5\nfrom label to\n"
                                  "0 I 3\n0 P 1\n1 I 4\n1 P 2\nat name mark\n2 x 2\n3 x 3\n4 x 4\nat open\nstart seek\n0 x\n";
+    static const char none[] = "label\nless more\nstate label next\naccept\nscopes\n1\nfrom label to\n"
+                               "at name mark\n0 x 1\nat open\nstart seek\n0 x\n";
     static const char later[] = "start kind seek found awaits\n0 v x one 0I\nmark path\n1 0I1\n";
     static const char limit[] = "start kind seek found awaits\n0 v x one 0$\nmark path\n2 0\n";
     static const char one_state[] = "state label next\n0 I 0\n0 P 0\naccept\n0\nscopes\n";
@@ -167,10 +201,13 @@ int main(int argc, char **argv)
     expect(file != NULL, "the example's file is the one argument");
     length = fread(text, 1, sizeof text, file);
 
+    EXPECT(tewhoranu_version() == TEWHORANU_VERSION);
+
     answer = tewhoranu_read(text, length, table, TEWHORANU_CELLS);
     EXPECT(!tewhoranu_refused(answer));
     cells = tewhoranu_written(answer);
-    EXPECT(cells == 1 + 6 * 23 && table[0] == TEWHORANU_OLD_FORM && table[1] == 0 && table[2] == 'I');
+    EXPECT(cells == 1 + TEWHORANU_ROW * 23 && table[0] == TEWHORANU_OLD_FORM);
+    EXPECT(laid_out());
     EXPECT(tewhoranu_read(text, length, table, cells - 1) == TEWHORANU_NO_ROOM);
     EXPECT(tewhoranu_read(text, length - 1, table, cells) == TEWHORANU_MALFORMED);
     EXPECT(tewhoranu_read(text, TEWHORANU_TEXT + 1, table, cells) == TEWHORANU_TOO_LONG);
@@ -211,6 +248,8 @@ int main(int argc, char **argv)
     EXPECT(is_case(answer, TEWHORANU_UNREACHED, 0));
     EXPECT(holds(&steps[0], 'P', 1) && holds(&steps[1], 'P', 0) && holds(&steps[2], 0, 0));
     EXPECT(tewhoranu_judge(text, length, 0, bytes(unreached), strlen(unreached), steps, 1) == TEWHORANU_NO_ROOM);
+    EXPECT(tewhoranu_steps_in(bytes(visible), strlen(visible)) == 0 && tewhoranu_steps_in(bytes(shadowed), strlen(shadowed)) == 1);
+    EXPECT(tewhoranu_steps_in(bytes(unreached), strlen(unreached)) == 2);
     EXPECT(tewhoranu_judge(text, length, 0, bytes("2"), 1, steps, 1) == TEWHORANU_NO_PATH_ROW);
     EXPECT(tewhoranu_judge(text, length, 3, bytes("2"), 1, steps, 1) == TEWHORANU_NO_QUERY);
 
@@ -258,6 +297,9 @@ int main(int argc, char **argv)
     EXPECT(!tewhoranu_refused(tewhoranu_listing_counted(bytes(turns), strlen(turns), 0, out, sizeof out, &place)) && place == 2);
     EXPECT(!tewhoranu_refused(tewhoranu_listing_counted(bytes(two_routes()), strlen(two_routes()), 0, out, sizeof out, &place)));
     EXPECT(place == TEWHORANU_FOLLOWED);
+
+    /* a file that accepts nothing follows nothing */
+    EXPECT(!tewhoranu_refused(tewhoranu_listing_counted(bytes(none), strlen(none), 0, out, sizeof out, &place)) && place == 0);
 
     /* a file with kinds: its cells, its text, its listing, its name sought */
     length = strlen(kinds);

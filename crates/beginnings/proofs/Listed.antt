@@ -197,7 +197,7 @@ module _ (L : Language) where
       from : (p : List (Hop L)) → Beginning L g q p → p ∈ map (λ (n : Node L). n .hops) (beginnings L g q)
       unfolding beginnings lawful
       from p b =
-          let n : Node L = record { hops = p; at = lastFrom L (q .start) p; state = b .state } in
+          let n : Node L = record { hops = p; at = lastFrom (q .start) p; state = b .state } in
           map-intro (λ (n : Node L). n .hops) {a = n}
           (keep-intro lawful (nodes-complete L g q starts range n (record { path = b .path; comes = refl; leads = b .leads }))
           (and-both _ _ (leadsOn-complete L laws (b .state) (b .rest, b .final, b .leads-on, b .accepted))

@@ -21,12 +21,12 @@ use Rattle.board.specs.Made.{Made}
 use Rattle.board.proofs.Queries.{sound}
 use Rattle.board.proofs.Board.{hops-are, order-is}
 use Rattle.path_row.specs.declared.form.Step.{Step}
-use Rattle.path_row.specs.Form.{PathRow, rowHere, stepsIn}
+use Rattle.path_row.specs.Form.{PathRow, rowHere}
 use Rattle.path_row.specs.Numbering.{labelNumber, hopOf, hopsOf, pathOf}
 use Rattle.path_row.proofs.TurnLaws.{same-hop}
 use Rattle.path_row.proofs.RowReads.{RowIs}
 use Rattle.comparison.specs.declared.rows.Compared.{Compared}
-use Rattle.comparison.specs.declared.rows.Compared.the-variants.{First, Second, Neither, Refused}
+use Rattle.comparison.specs.declared.rows.Compared.the-variants.{First, Second, Neither}
 use Rattle.comparison.specs.Compare.{Comparison, first, second, neither, Told, asTold, whichOf, meaning, rowBefore, comparison, agreement, told, toldOf, compareRows}
 use Rattle.comparison.specs.Promises.{agreeSteps}
 use Rattle.comparison.specs.Steps.{stepAt, sameStep, stepsPreferred, stepsCompared}

@@ -41,7 +41,7 @@ CompareIs = (text cells a b : List ℕ) (roomA roomB : ℕ) (p q : PathRow) → 
 abbrev pub sameShown : Step → Step → Bool
 sameShown t u = eqb (t .label) (u .label) && eqb (t .scope) (u .scope)
 
--- the number of equal steps before the first difference, as the rows show them (02, K7)
+-- how many steps both rows begin with, as they show them (02, K7)
 unfoldable pub agreeSteps : List Step → List Step → ℕ
 agreeSteps [] us = 0
 agreeSteps (t ∷ ts) [] = 0

@@ -20,8 +20,8 @@ ghost use Rattle.comparison.specs.Steps.{stepsCompared};
 // Rows from different starts have no equal steps.
 const NO_STEPS: usize = 0;
 
-// Which of two rows is more specific, with the number of equal steps before the first difference;
-// or the refusal's number.
+// Which of two rows is more specific, with the number of steps that both begin with; or the
+// refusal's number.
 pub enum Compared {
     First(usize),
     Second(usize),

@@ -46,7 +46,7 @@ use Rattle.judge.specs.declared.standing.Judged.the-variants.{Visible, S
 use Rattle.judge.specs.Judge.{meaning, asRulesRow}
 use Rattle.judge.specs.declared.cut.Caught.{Caught}
 use Rattle.judge.specs.LastCut.{caughtAt, lastCut}
-use Rattle.judge.specs.Steps.{isMarked, hasMark, stepHops, Begins, lastOf, rowReached, rowLast, judgedRow}
+use Rattle.judge.specs.Steps.{isMarked, hasMark, stepHops, Begins, rowReached, rowLast, judgedRow}
 use Rattle.judge.proofs.CutLaws.{found-at, found-none}
 use Rattle.judge.proofs.Deepest.{isPlace, cut-some, caught-is}
 
@@ -75,11 +75,6 @@ module _ (r : Rules) (x : QueryRow) (mark s : ℕ) where
           (map markOf (elim u as (λ _. List (Declaration (language r))) [ true ↦ declarationOf r row ∷ rest | false ↦ rest ]))
       at false e = e
       at true e = ap (λ (z : Bool). elim (eqb mark (rowDeclared row .mark)) as (λ _. Bool) [ true ↦ true | false ↦ z ]) e
-
-last-is : (r : Rules) (s : ℕ) (hs : List (HopOf Turned)) → lastOf s hs ≡ lastFrom (language r) s hs
-unfolding lastOf
-last-is r s [] = refl
-last-is r s (h ∷ hs) = last-is r (h .to) hs
 
 -- The standing by three tests: the start, reached with its mark, cut.
 abbrev byTests : Bool → Bool → Bool → Standing
@@ -137,7 +132,7 @@ module _ (cells : List ℕ) (x : QueryRow) (mark from : ℕ) (ss : List Step) (a
   rulesLast = lastCut (boardOf L g (q .name)) (L .prefers) (scopesOf cells) (freeAt (x .start)) (x .start) 0 hs stop
 
   abbrev rulesMark : Bool
-  rulesMark = anyOf (eqb mark) (marksAt L (g .declarations) (lastFrom L from hs) (q .name))
+  rulesMark = anyOf (eqb mark) (marksAt L (g .declarations) (lastFrom from hs) (q .name))
 
   -- the standing, if the mark is that of a declaration
   abbrev withMark : Bool → Standing → Standing
@@ -198,12 +193,12 @@ module _ (cells : List ℕ) (x : QueryRow) (mark from : ℕ) (ss : List Step) (a
     hops-here : stepHops block ts (n .scope) ≡ hs
     hops-here = rw (ts-is, begins .scope, ← same) (sym (steps-here cells block (a .read) made from ss))
 
-    marked-is : hasMark x mark (lastOf (x .start) hs) (rowsOf decls) ≡ rulesMark
+    marked-is : hasMark x mark (lastFrom (x .start) hs) (rowsOf decls) ≡ rulesMark
     unfolding graphOf
     marked-is =
-        ap (λ (s : ℕ). hasMark x mark (lastOf s hs) (rowsOf decls)) (sym same)
-        ∙ rw (decls-is, rows-are cells (a .read) declarationSection, last-is (rulesOf cells) from hs)
-        (marked (rulesOf cells) x mark (lastFrom L from hs) (rowsIn declarationSection cells))
+        ap (λ (s : ℕ). hasMark x mark (lastFrom s hs) (rowsOf decls)) (sym same)
+        ∙ rw (decls-is, rows-are cells (a .read) declarationSection)
+        (marked (rulesOf cells) x mark (lastFrom from hs) (rowsIn declarationSection cells))
 
     reached-is : rowReached block decls goal x mark n (stepHops block ts (n .scope)) ≡ (rulesReached && rulesMark)
     unfolding rowReached

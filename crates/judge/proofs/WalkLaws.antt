@@ -25,7 +25,7 @@ use Rattle.path_row.specs.Numbering.{labelNumber, hopOf, hopsOf}
 use Rattle.path_row.proofs.TakenLaws.{taken-none, taken-next}
 use Rattle.comparison.specs.Letters.{blockLetters}
 use Rattle.judge.specs.LastCut.{leadsBy}
-use Rattle.judge.specs.Steps.{hasMark, hopTo, sameHop, hasHop, stepHops, stateOn, stateAlong, Behind, lastOf, rowReached}
+use Rattle.judge.specs.Steps.{hasMark, hopTo, sameHop, hasHop, stepHops, stateOn, stateAlong, Behind, rowReached}
 use Rattle.judge.proofs.HopLaws.{on-taken, on-free, free-is}
 
 -- the hops of the steps from step i on
@@ -94,7 +94,7 @@ module _ (block decls : List ℕ) (goal : ℕ) (x : QueryRow) (mark : ℕ) (n : 
         at true k = leads-no block goal n l t r k false enter h
 
     pub reach-on : r < 16 → (left : ℕ) (m : Node) → Behind n t r left m → reached n (hopTo block (n .scope) l t ∷ hs) ≡ reached m hs
-    unfolding rowReached stateAlong lastOf
+    unfolding rowReached stateAlong
     reach-on h left m b =
         rw (by-edge ∙ at (hasHop (hopTo block (n .scope) l t) (blockHops block (n .scope))) is, b .scope, b .state, free-is n m t r left b)
       where
@@ -109,7 +109,7 @@ module _ (block decls : List ℕ) (goal : ℕ) (x : QueryRow) (mark : ℕ) (n : 
     end-no h = rw (← e, h)
 
     pub end-yes : u ≡ true → hasMark x mark (n .scope) (rowsOf decls) ≡ reached n []
-    unfolding rowReached reachedBy tableBoard lastOf
+    unfolding rowReached reachedBy tableBoard
     end-yes h = rw (← e, h)
 
   -- a row is reached along its steps from step i on

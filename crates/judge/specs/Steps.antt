@@ -5,11 +5,11 @@ use Prim.Native.Nat.{ℕ, zero, suc, _≤_}
 use mathlib.Core.Path.{_≡_}
 use mathlib.Core.Bool.{Bool, true, false, not, _&&_}
 use mathlib.Core.Option.{Option}
-use mathlib.Core.List.{List, [], _∷_, map}
+use mathlib.Core.List.{List, map}
 use lib.Dec.{eqb, leb, ltb}
 use lib.ListN.{length}
 use Rattle.scope_graph.specs.Language.{End, stop}
-use Rattle.scope_graph.specs.Path.{HopOf}
+use Rattle.scope_graph.specs.Path.{HopOf, lastFrom}
 use Rattle.scope_graph.specs.Turns.{Turned, sameTurned, turnBy}
 use Rattle.scope_graph.specs.Rows.{anyOf, language}
 use Rattle.scope_graph.specs.Agree.{Judgement, judgement}
@@ -92,17 +92,12 @@ pub record Behind (n : Node) (to r left : ℕ) (m : Node) : Type 0 where
   pub scope : m .scope ≡ to
   pub state : m .state ≡ r
 
--- the scope that hops come to
-unfoldable pub lastOf : ℕ → List (HopOf Turned) → ℕ
-lastOf s [] = s
-lastOf s (h ∷ hs) = lastOf (h .to) hs
-
 -- the hops lead from the node to what is sought, and the mark is that of a matching declaration
 -- where they end
 unfoldable pub rowReached : List ℕ → List ℕ → ℕ → QueryRow → ℕ → Node → List (HopOf Turned) → Bool
 rowReached block decls goal x mark n hs =
     reachedBy (tableBoard block goal) (hasScope (n .free)) (n .scope) (n .state) hs
-    && hasMark x mark (lastOf (n .scope) hs) (rowsOf decls)
+    && hasMark x mark (lastFrom (n .scope) hs) (rowsOf decls)
 
 -- what is asked of a node's ends: the node is within the tables, and the table of places worth
 -- entering is closed for it

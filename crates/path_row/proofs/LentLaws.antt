@@ -7,9 +7,8 @@ use lib.ListN.{length, getD, set, take, drop}
 use lib.Seq.{drop-cons, set-at, take-suc, take-all, append-snoc, length-take-le}
 use Rattle.text_field.specs.Outcome.{Outcome, refused, done}
 use Rattle.path_row.specs.declared.form.Step.{Step}
-use Rattle.path_row.specs.Form.{PathRow, rowHere, stepsIn, noStep}
+use Rattle.path_row.specs.Form.{PathRow, rowHere, noStep}
 use Rattle.path_row.specs.Lent.{rowSteps, overlaid, stepsLeft, stepsLent}
-use Rattle.path_row.proofs.RowReads.{steps-shown}
 
 -- the first n records are the first n of the steps, as `fill` puts them one by one
 abbrev pub filled : List Step → ℕ → List Step → List Step

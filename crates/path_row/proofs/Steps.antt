@@ -16,14 +16,13 @@ use Rattle.text_field.specs.Number.{numberPlaced, numberHere, numberMeaning}
 use Rattle.text_field.specs.Outcome.{Outcome, refused, done, andThen, refuseIf}
 use Rattle.graph_file.specs.Line.{startsWith}
 use Rattle.graph_file.specs.File.{isEmpty}
-use Rattle.path_row.specs.declared.form.Step.{Step}
 use Rattle.path_row.specs.declared.form.HeadRead.{HeadRead}
 use Rattle.path_row.specs.declared.form.HeadRead.the-variants.{Head, NoHead}
 use Rattle.path_row.specs.declared.form.RowRead.{RowRead}
 use Rattle.path_row.specs.declared.form.RowRead.the-variants.{Row, NoRow}
 use Rattle.path_row.specs.declared.form.StepRead.{StepRead}
 use Rattle.path_row.specs.declared.form.StepRead.the-variants.{Taken, NoStep}
-use Rattle.path_row.specs.Form.{mostMark, mostScope, mostSteps, noStep, atMost, numberUpTo, stepBy, stepHere, stepsOf, afterSteps, stepsWidth, stepPlaced, StepFound, stepMeaning, stepFrom, front, headMeaning, startBy, markBy, headHere, rowBy, rowHere, rowMeaning, rowInLarge, stepsAfter, stepsIn}
+use Rattle.path_row.specs.Form.{mostMark, mostScope, mostSteps, atMost, numberUpTo, stepBy, stepHere, stepsOf, afterSteps, stepsWidth, stepPlaced, StepFound, stepMeaning, stepFrom, front, headMeaning, startBy, markBy, headHere, rowBy, rowHere, rowMeaning, rowInLarge}
 use Rattle.path_row.proofs.FormLaws.{most-in, most-past, UpTo, up-found, step-on, step-off, head-on, head-off, steps-on, steps-off, after-on, after-off, width-on, width-off}
 
 -- a number read at a place is held to its limit

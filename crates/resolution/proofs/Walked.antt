@@ -151,7 +151,7 @@ module _ (cells block ask : List ℕ) (ready : Ready cells block ask) where
     text = rowText (lettersOf cells) (r .mark) (r .path .start) (r .path .hops);
   }
 
-  place-rows : (n : NodeOf Turned) → n .at < 64 → lastFrom L (q .start) (n .hops) ≡ n .at
+  place-rows : (n : NodeOf Turned) → n .at < 64 → lastFrom (q .start) (n .hops) ≡ n .at
       → placeRows block cells ask Entries [] n ≡ map rowOf (rowsAt L g q n)
   unfolding placeRows entryRows rowsAt
   place-rows n h comes =

@@ -105,7 +105,7 @@ module _ (L : Language) (laws : Laws L) (q : Query L) where
           hops : List (Hop L)
           end : End (L .Step)
           path : IsPath L g (route hops)
-          allowed : Allowed (lastFrom L (q .start) hops) end
+          allowed : Allowed (lastFrom (q .start) hops) end
           state : ℕ
           leads : Leads L 0 (word L hops) state
           usable : Usable L state end
@@ -121,13 +121,13 @@ module _ (L : Language) (laws : Laws L) (q : Query L) where
 
         -- the path stands in g already, with the mark, or it leaves g
         abbrev Traced : List (Hop L) → ℕ → Type 0
-        Traced p m = (IsPath L g (route p) × Declares L g (lastFrom L (q .start) p) (q .name) m) ⊎ Leaves p
+        Traced p m = (IsPath L g (route p) × Declares L g (lastFrom (q .start) p) (q .name) m) ⊎ Leaves p
 
         module _ (p : List (Hop L)) (m : ℕ) (simple : Distinct (q .start ∷ tos L p)) (final : ℕ) (accepted : L .accepts final ≡ true) where
           -- all its hops are in g
           ended : Along L g (q .start) p → Leads L 0 (word L p) final
-              → (record { at = lastFrom L (q .start) p; name = q .name; mark = m } ∈ g .declarations)
-              ⊎ ((g .scopes ≤ lastFrom L (q .start) p) ⊎ Allowed (lastFrom L (q .start) p) stop)
+              → (record { at = lastFrom (q .start) p; name = q .name; mark = m } ∈ g .declarations)
+              ⊎ ((g .scopes ≤ lastFrom (q .start) p) ⊎ Allowed (lastFrom (q .start) p) stop)
               → Traced p m
           ended a ld (inl d) = inl (record { starts = starts; along = a; simple = simple }, d)
           ended a ld (inr (inl n)) = let w = last-in L g range (q .start) p starts a in absurd (omega arith)
@@ -145,9 +145,9 @@ module _ (L : Language) (laws : Laws L) (q : Query L) where
           -- its hops π are in g, and the next hop may be
           goes : (π : List (Hop L)) (x : Hop L) (c : List (Hop L)) → p ≡ π ++ (x ∷ c) → Along L g (q .start) π
               → (s : ℕ) → Leads L 0 (word L π) s → Leads L s (word L (x ∷ c)) final
-              → (record { from = lastFrom L (q .start) π; step = x .step; to = x .to } ∈ g .edges → Traced p m)
-              → (record { from = lastFrom L (q .start) π; step = x .step; to = x .to } ∈ g .edges)
-              ⊎ ((g .scopes ≤ lastFrom L (q .start) π) ⊎ Allowed (lastFrom L (q .start) π) (by (x .step)))
+              → (record { from = lastFrom (q .start) π; step = x .step; to = x .to } ∈ g .edges → Traced p m)
+              → (record { from = lastFrom (q .start) π; step = x .step; to = x .to } ∈ g .edges)
+              ⊎ ((g .scopes ≤ lastFrom (q .start) π) ⊎ Allowed (lastFrom (q .start) π) (by (x .step)))
               → Traced p m
           goes π x c e a s ld lc go (inl d) = go d
           goes π x c e a s ld lc go (inr (inl n)) = let w = last-in L g range (q .start) π starts a in absurd (omega arith)
@@ -162,9 +162,9 @@ module _ (L : Language) (laws : Laws L) (q : Query L) where
             cuts = λ r k. rw e (preferred-longer L laws r π x c stop k);
           })
 
-          follow : (π c : List (Hop L)) → p ≡ π ++ c → Along L g (q .start) π → Along L h (lastFrom L (q .start) π) c
+          follow : (π c : List (Hop L)) → p ≡ π ++ c → Along L g (q .start) π → Along L h (lastFrom (q .start) π) c
               → (s : ℕ) → Leads L 0 (word L π) s → Leads L s (word L c) final
-              → Declares L h (lastFrom L (q .start) p) (q .name) m → Traced p m
+              → Declares L h (lastFrom (q .start) p) (q .name) m → Traced p m
           follow π [] e a b s ld lc d =
               let k : p ≡ π = e ∙ append-nil π in
               ended (rw k a) (rw (k, ← lc) ld) (ext .new-declaration _ d)
@@ -175,12 +175,12 @@ module _ (L : Language) (laws : Laws L) (q : Query L) where
               (leads-join L 0 s (lc .0) π (x ∷ []) ld (lc .0, lc .1, refl)) (lc .2) d)
               (ext .new-edge _ (b .0))
 
-        trace : (p : List (Hop L)) (m : ℕ) → IsPath L h (route p) → Lawful L (route p) → Declares L h (lastFrom L (q .start) p) (q .name) m → Traced p m
+        trace : (p : List (Hop L)) (m : ℕ) → IsPath L h (route p) → Lawful L (route p) → Declares L h (lastFrom (q .start) p) (q .name) m → Traced p m
         trace p m path law d = follow p m (path .simple) (law .final) (law .accepted) [] p refl tt (path .along) 0 refl (law .leads) d
 
         -- a row that g reaches as well
         abbrev InG : PathRow L → Type 0
-        InG r = Reached L g q (r .path) × Declares L g (lastFrom L (r .path .start) (r .path .hops)) (q .name) (r .mark)
+        InG r = Reached L g q (r .path) × Declares L g (lastFrom (r .path .start) (r .path .hops)) (q .name) (r .mark)
 
         abbrev Place : Type 0
         Place = (s : ℕ) × (e : End (L .Step)) × Allowed s e × Followed L g q s e
@@ -188,7 +188,7 @@ module _ (L : Language) (laws : Laws L) (q : Query L) where
         -- where a path that h shows leaves g, g follows
         place-of : (p : List (Hop L)) → Uncut h p → Leaves p → Place
         place-of p u w = (
-          lastFrom L (q .start) (w .hops),
+          lastFrom (q .start) (w .hops),
           w .end,
           w .allowed,
           record {
@@ -215,13 +215,13 @@ module _ (L : Language) (laws : Laws L) (q : Query L) where
                 path = rw e (w .0);
                 lawful = k .lawful;
                 mark = r .mark;
-                declared = rw (ap (λ (z : Path L). lastFrom L (z .start) (z .hops)) e) (w .1);
+                declared = rw (ap (λ (z : Path L). lastFrom (z .start) (z .hops)) e) (w .1);
               },
-              rw (ap (λ (z : Path L). lastFrom L (z .start) (z .hops)) e) (w .1),
+              rw (ap (λ (z : Path L). lastFrom (z .start) (z .hops)) e) (w .1),
             ))
             (λ w. inr (place-of hops (visible-uncut h (r .path) v) w))
             (trace hops (r .mark) (rw e at (k .path)) (rw e at (k .lawful))
-            (rw (ap (λ (z : Path L). lastFrom L (z .start) (z .hops)) e) at (en .declared)))
+            (rw (ap (λ (z : Path L). lastFrom (z .start) (z .hops)) e) at (en .declared)))
 
         -- all that h shows g reaches: then both show the same
         module _ (all : (r : PathRow L) → Entry L h q r → InG r) where

@@ -100,7 +100,7 @@ module _ (L : Language) (laws : Laws L) (g : Graph L) (q : Query L) where
           record {
             hops = r .path .hops;
             path = rw (← w .from-start) (w .path);
-            comes = ap (λ s. lastFrom L s (r .path .hops)) (sym (w .from-start));
+            comes = ap (λ s. lastFrom s (r .path .hops)) (sym (w .from-start));
             state = w .lawful .final;
             leads = w .lawful .leads;
             usable = w .lawful .accepted;

@@ -46,7 +46,7 @@ module _ (L : Language) (laws : Laws L) (g : Graph L) (q : Query L) (range : InR
       record { reached = w; shadowed = λ none. let k = shadow-elim p (w .from-start) t in none (k .0) (k .1) (k .2) }
 
   -- a reached place is where its hops end
-  comes : (n : Node L) → n ∈ reachedNodes L g q → lastFrom L (q .start) (n .hops) ≡ n .at
+  comes : (n : Node L) → n ∈ reachedNodes L g q → lastFrom (q .start) (n .hops) ≡ n .at
   comes n k = (nodes-sound L g q starts ((reached-node L laws g q k) .0)) .comes
 
   -- what a standing says of a path
@@ -139,10 +139,10 @@ module _ (L : Language) (laws : Laws L) (g : Graph L) (q : Query L) (range : InR
   judged-holds : (r : PathRow L) → Judged (judged L g q r) r
   unfolding judged
   judged-holds r =
-      by-mark (anyOf (eqb (r .mark)) (marksAt L (g .declarations) (lastFrom L (r .path .start) (r .path .hops)) (q .name))) refl
+      by-mark (anyOf (eqb (r .mark)) (marksAt L (g .declarations) (lastFrom (r .path .start) (r .path .hops)) (q .name))) refl
       (standing L g q (r .path)) (stands (r .path))
     where
-      by-mark : (b : Bool) → anyOf (eqb (r .mark)) (marksAt L (g .declarations) (lastFrom L (r .path .start) (r .path .hops)) (q .name)) ≡ b
+      by-mark : (b : Bool) → anyOf (eqb (r .mark)) (marksAt L (g .declarations) (lastFrom (r .path .start) (r .path .hops)) (q .name)) ≡ b
           → (s : Standing) → Stands s (r .path) → Judged (elim b as (λ _. Standing) [ false ↦ is-unreached | true ↦ s ]) r
       by-mark false e s w = λ k. true-false (in-test _ _ (marks-intro L laws g _ _ (k .1))) e
       by-mark true e is-visible w = record { visible = w; declared = marks-elim L laws g _ _ (in-true _ _ e) }

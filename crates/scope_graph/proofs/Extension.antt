@@ -23,11 +23,11 @@ all-or {A} {P} {B} (x ∷ l) f = join (f x here) (all-or l (λ a m. f a (there m
 
 module _ (L : Language) where
   -- hops one after the other
-  pub along-join : (g : Graph L) (s : ℕ) (p c : List (Hop L)) → Along L g s p → Along L g (lastFrom L s p) c → Along L g s (p ++ c)
+  pub along-join : (g : Graph L) (s : ℕ) (p c : List (Hop L)) → Along L g s p → Along L g (lastFrom s p) c → Along L g s (p ++ c)
   along-join g s [] c h k = k
   along-join g s (x ∷ p) c h k = (h .0, along-join g (x .to) p c (h .1) k)
 
-  pub along-second : (g : Graph L) (s : ℕ) (p c : List (Hop L)) → Along L g s (p ++ c) → Along L g (lastFrom L s p) c
+  pub along-second : (g : Graph L) (s : ℕ) (p c : List (Hop L)) → Along L g s (p ++ c) → Along L g (lastFrom s p) c
   along-second g s [] c h = h
   along-second g s (x ∷ p) c h = along-second g (x .to) p c (h .1)
 
@@ -35,7 +35,7 @@ module _ (L : Language) where
   leads-join a b r [] c h k = rw h k
   leads-join a b r (x ∷ p) c h k = (h .0, h .1, leads-join (h .0) b r p c (h .2) k)
 
-  pub last-join : (s : ℕ) (p c : List (Hop L)) → lastFrom L s (p ++ c) ≡ lastFrom L (lastFrom L s p) c
+  pub last-join : (s : ℕ) (p c : List (Hop L)) → lastFrom s (p ++ c) ≡ lastFrom (lastFrom s p) c
   last-join s [] c = refl
   last-join s (x ∷ p) c = last-join (x .to) p c
 
@@ -45,7 +45,7 @@ module _ (L : Language) where
 
   -- along the edges of a graph one stays among its scopes
   module _ (g : Graph L) (range : InRange L g) where
-    pub last-in : (s : ℕ) (p : List (Hop L)) → s < g .scopes → Along L g s p → lastFrom L s p < g .scopes
+    pub last-in : (s : ℕ) (p : List (Hop L)) → s < g .scopes → Along L g s p → lastFrom s p < g .scopes
     last-in s [] h k = h
     last-in s (x ∷ p) h k = last-in (x .to) p (range .to-scope _ (k .0)) (k .1)
 

@@ -74,7 +74,7 @@ module _ (L : Language) where
     pub apart : Distinct (tos L (n .hops))
     pub fresh : (t : ℕ) → t ∈ tos L (n .hops) → ¬ (t ∈ seen)
     pub leads : Leads L q (word L (n .hops)) (n .state)
-    pub comes : lastFrom L s (n .hops) ≡ n .at
+    pub comes : lastFrom s (n .hops) ≡ n .at
     pub short : length (n .hops) < fuel
 
   module _ (g : Graph L) where
@@ -151,7 +151,7 @@ module _ (L : Language) where
   -- what a place of the query is: a path comes to its scope and leads to its state
   pub record IsNode (g : Graph L) (q : Query L) (n : Node L) : Type 0 where
     pub path : IsPath L g (record { start = q .start; hops = n .hops })
-    pub comes : lastFrom L (q .start) (n .hops) ≡ n .at
+    pub comes : lastFrom (q .start) (n .hops) ≡ n .at
     pub leads : Leads L 0 (word L (n .hops)) (n .state)
 
   module _ (g : Graph L) (q : Query L) (starts : q .start < g .scopes) where

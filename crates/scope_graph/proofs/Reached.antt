@@ -132,7 +132,7 @@ module _ (L : Language) (laws : Laws L) where
       path-node : (hops : List (Hop L)) → Reached L g q (record { start = q .start; hops = hops })
           → (n : Node L) × (n ∈ reachedNodes L g q) × (n .hops ≡ hops)
       path-node hops r = (
-        record { hops = hops; at = lastFrom L (q .start) hops; state = r .lawful .final },
+        record { hops = hops; at = lastFrom (q .start) hops; state = r .lawful .final },
         node-reached (nodes-complete L g q starts range _ (record { path = r .path; comes = refl; leads = r .lawful .leads }))
             (r .lawful .accepted) (r .declared),
         refl,

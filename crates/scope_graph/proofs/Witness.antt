@@ -65,7 +65,7 @@ module _ (L : Language) where
   chain-along g n [] h = tt
   chain-along g n (l ∷ ls) h = (h _ here, chain-along g (suc n) ls (λ e m. h e (there m)))
 
-  chain-last : (n : ℕ) (ls : List ℕ) → lastFrom L n (chainHops n ls) ≡ n + length ls
+  chain-last : (n : ℕ) (ls : List ℕ) → lastFrom n (chainHops n ls) ≡ n + length ls
   unfolding chainHops
   chain-last n [] = omega arith
   chain-last n (l ∷ ls) = chain-last (suc n) ls ∙ omega arith
@@ -341,7 +341,7 @@ module _ (L : Language) where
         unfolding grown
         grown-starts = omega arith
 
-        grown-last : lastFrom L (q .start) path ≡ g .scopes + length ls
+        grown-last : lastFrom (q .start) path ≡ g .scopes + length ls
         unfolding path rest hop
         grown-last = last-join L (q .start) (fo .hops) rest ∙ chain-last (g .scopes) ls
 
@@ -351,7 +351,7 @@ module _ (L : Language) where
             leads-join L 0 (fo .state) (fo .usable .3) (fo .hops) rest (fo .leads)
             (fo .usable .0, fo .usable .1, chain-leads (fo .usable .0) (fo .usable .3) (g .scopes) ls (fo .usable .4))
 
-        declares : Declares L grown (lastFrom L (q .start) path) (q .name) 0
+        declares : Declares L grown (lastFrom (q .start) path) (q .name) 0
         unfolding grown
         declares = rw grown-last here
 

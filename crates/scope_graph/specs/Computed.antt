@@ -151,7 +151,7 @@ module _ (L : Language) where
     -- its end)
     unfoldable pub judged : PathRow L → Standing
     judged r =
-        elim (anyOf (eqb (r .mark)) (marksAt (g .declarations) (lastFrom L (r .path .start) (r .path .hops)) (q .name)))
+        elim (anyOf (eqb (r .mark)) (marksAt (g .declarations) (lastFrom (r .path .start) (r .path .hops)) (q .name)))
         [ false ↦ is-unreached | true ↦ standing (r .path) ]
 
     -- the end that stands for all that may come at an open place

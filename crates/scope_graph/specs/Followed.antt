@@ -29,7 +29,7 @@ module _ (L : Language) where
   pub record Followed (g : Graph L) (q : Query L) (s : ℕ) (e : End (L .Step)) : Type 0 where
     pub hops : List (Hop L)
     pub path : IsPath L g (record { start = q .start; hops = hops })
-    pub comes : lastFrom L (q .start) hops ≡ s
+    pub comes : lastFrom (q .start) hops ≡ s
     pub state : ℕ
     pub leads : Leads L 0 (word L hops) state
     pub usable : Usable state e

@@ -21,6 +21,11 @@ pub record HopOf (A : Type 0) : Type 0 where
 abbrev pub Hop : Language → Type 0
 Hop L = HopOf (L .Step)
 
+-- the last scope of a path, by its start and its hops
+abbrev pub lastFrom : {A : Type 0} → ℕ → List (HopOf A) → ℕ
+lastFrom s [] = s
+lastFrom s (h ∷ hs) = lastFrom (h .to) hs
+
 module _ (L : Language) where
   -- any start and hops, whether or not they are a path of a graph: IsPath says that
   pub record Path : Type 0 where
@@ -32,14 +37,10 @@ module _ (L : Language) where
     pub mark : ℕ
     pub path : Path
 
-  -- the scopes that hops come to, and the last scope of a path
+  -- the scopes that hops come to
   abbrev pub tos : List (Hop L) → List ℕ
   tos [] = []
   tos (h ∷ hs) = h .to ∷ tos hs
-
-  abbrev pub lastFrom : ℕ → List (Hop L) → ℕ
-  lastFrom s [] = s
-  lastFrom s (h ∷ hs) = lastFrom (h .to) hs
 
   -- each hop goes along an edge of the graph
   abbrev pub Along : Graph L → ℕ → List (Hop L) → Type 0

@@ -279,7 +279,7 @@ impl Test {
 }
 
 pub fn number(refusal: tewhoranu::Refusal) -> u8 {
-    refusal.number()
+    refusal.number() as u8
 }
 
 fn standing(standing: tewhoranu::Standing) -> plain::answers::Standing {

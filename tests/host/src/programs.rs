@@ -32,14 +32,19 @@ fn said(refusal: Refusal) -> String {
     format!("refused {}: {refusal}\n", refusal.number())
 }
 
+/// Every refusal that the wrapper has a name for.
+fn refusals() -> impl Iterator<Item = Refusal> {
+    (1..64).map(Refusal::of).filter(|r| !matches!(r, Refusal::Unknown(_)))
+}
+
 /// Every refusal in words.
 pub fn words() -> String {
-    Refusal::ALL.into_iter().map(said).collect()
+    refusals().map(said).collect()
 }
 
 /// The words that are due for an output: for each line `refused N`.
 fn in_words(output: &[u8]) -> Vec<u8> {
-    let refusal = |line: &[u8]| Refusal::ALL.into_iter().find(|r| line == format!("refused {}", r.number()).as_bytes());
+    let refusal = |line: &[u8]| refusals().find(|r| line == format!("refused {}", r.number()).as_bytes());
     output.split(|&b| b == b'\n').filter_map(refusal).map(said).collect::<String>().into_bytes()
 }
 
