@@ -56,8 +56,8 @@ extern "C" {
 #define TEWHORANU_TOO_LONG 1         /* the file has more than TEWHORANU_TEXT bytes */
 #define TEWHORANU_MALFORMED 2        /* a line, or a row of a graph table, not of its section's form;
                                         a section missing or out of its place */
-#define TEWHORANU_OUT_OF_RANGE 3     /* a number above the greatest of its column, a scope or label
-                                        number that the file does not have, a letter it does not list */
+#define TEWHORANU_OUT_OF_RANGE 3     /* a number outside the bounds of its column, as 0 scopes; a
+                                        scope or a label that the file does not have */
 #define TEWHORANU_NOT_ASCENDING 4    /* a row out of its sequence, or there twice */
 #define TEWHORANU_TOO_MANY_ROWS 5    /* a section has more rows than it may */
 #define TEWHORANU_NO_ORDER 6         /* the order prefers an end to itself, or lacks a pair that
@@ -218,7 +218,7 @@ static inline const char *tewhoranu_refusal_text(uint64_t answer)
     case TEWHORANU_MALFORMED:
         return "a line or a table's row is not of its section's form, or a section is missing";
     case TEWHORANU_OUT_OF_RANGE:
-        return "a number is above the greatest of its column, or names a scope or label that the file lacks";
+        return "a number is outside the bounds of its column, or names a scope or label that the file lacks";
     case TEWHORANU_NOT_ASCENDING:
         return "a row is out of its sequence, or there twice";
     case TEWHORANU_TOO_MANY_ROWS:

@@ -130,7 +130,7 @@ impl fmt::Display for Refusal {
             Refusal::TooLong => "the file is longer than 32,768 bytes",
             Refusal::Malformed => "a line or a table's row is not of its section's form, or a section is missing",
             Refusal::OutOfRange => {
-                "a number is above the greatest of its column, or names a scope or label that the file lacks"
+                "a number is outside the bounds of its column, or names a scope or label that the file lacks"
             }
             Refusal::NotAscending => "a row is out of its sequence, or there twice",
             Refusal::TooManyRows => "a section has more rows than it may",
