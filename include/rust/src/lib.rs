@@ -6,6 +6,9 @@
 //! numbers there are the cases of the enums here. Nothing bounds the time of a call: the header says
 //! which files are slow.
 //!
+//! The library is the archive that the Rattle kit builds, or, with the feature `source`, the proved
+//! source itself, compiled with the program. Nothing else differs.
+//!
 //! # Stack
 //!
 //! A call may take as much as [`STACK`] bytes of stack, and only [`listing_counted`] more than three
@@ -22,8 +25,26 @@
 //! # assert_eq!(thread.unwrap().join().unwrap(), Err(tewhoranu::Refusal::Malformed));
 //! ```
 
-use std::error::Error;
-use std::fmt;
+#![no_std]
+#![cfg_attr(feature = "source", forbid(unsafe_code))]
+
+#[cfg(not(feature = "source"))]
+mod archive;
+#[cfg(feature = "source")]
+include!(concat!(env!("OUT_DIR"), "/package/src/modules.rs"));
+
+#[cfg(not(feature = "source"))]
+use crate::archive as library;
+#[cfg(feature = "source")]
+use crate::tewhoranu as library;
+
+#[cfg(not(feature = "source"))]
+pub use crate::archive::Step;
+#[cfg(feature = "source")]
+pub use crate::path_row::form::Step;
+
+use core::error::Error;
+use core::fmt;
 
 /// The version of the interface that these declarations are for; [`version`] tells the library's.
 pub const VERSION: u64 = 1;
@@ -47,14 +68,6 @@ pub const WITH_KINDS: u64 = 1;
 pub const WITH_TURNS: u64 = 2;
 /// Stack that serves every call, in bytes: counted, not proved.
 pub const STACK: usize = 4 * 512 * 1024;
-
-/// A step of a path: the label's letter and the scope that it comes to.
-#[repr(C)]
-#[derive(Clone, Copy, Debug, Default, PartialEq, Eq)]
-pub struct Step {
-    pub label: u8,
-    pub scope: u8,
-}
 
 /// Why a call was refused, by its number. Later versions may have more.
 #[derive(Clone, Copy, Debug, PartialEq, Eq)]
@@ -152,65 +165,6 @@ pub enum Standing {
     Unreached,
 }
 
-mod library {
-    use super::Step;
-
-    // Nothing checks these declarations against the library but the host test.
-    extern "C" {
-        pub fn tewhoranu_version() -> u64;
-        pub fn tewhoranu_read(text: *const u8, text_length: usize, table: *mut u64, table_length: usize) -> u64;
-        pub fn tewhoranu_write(table: *const u64, table_length: usize, out: *mut u8, out_length: usize) -> u64;
-        pub fn tewhoranu_name_sought(text: *const u8, text_length: usize, query: usize, place: *mut u64) -> u64;
-        pub fn tewhoranu_listing(
-            text: *const u8,
-            text_length: usize,
-            query: usize,
-            out: *mut u8,
-            out_length: usize,
-        ) -> u64;
-        pub fn tewhoranu_listing_counted(
-            text: *const u8,
-            text_length: usize,
-            query: usize,
-            out: *mut u8,
-            out_length: usize,
-            followed: *mut u64,
-        ) -> u64;
-        pub fn tewhoranu_judge(
-            text: *const u8,
-            text_length: usize,
-            query: usize,
-            row: *const u8,
-            row_length: usize,
-            steps: *mut Step,
-            steps_length: usize,
-        ) -> u64;
-        pub fn tewhoranu_compare(
-            text: *const u8,
-            text_length: usize,
-            first: *const u8,
-            first_length: usize,
-            second: *const u8,
-            second_length: usize,
-            first_steps: *mut Step,
-            first_steps_length: usize,
-            second_steps: *mut Step,
-            second_steps_length: usize,
-        ) -> u64;
-        pub fn tewhoranu_summary(text: *const u8, text_length: usize, out: *mut u8, out_length: usize) -> u64;
-        pub fn tewhoranu_to_old(text: *const u8, text_length: usize, out: *mut u8, out_length: usize) -> u64;
-        pub fn tewhoranu_to_new(text: *const u8, text_length: usize, out: *mut u8, out_length: usize) -> u64;
-        pub fn tewhoranu_rules(
-            text: *const u8,
-            text_length: usize,
-            expression: *const u8,
-            expression_length: usize,
-            out: *mut u8,
-            out_length: usize,
-        ) -> u64;
-    }
-}
-
 /// An answer of this and more is no refusal. Cases are as far apart.
 const DONE: u64 = 64;
 
@@ -230,43 +184,34 @@ fn case(answer: u64) -> Result<(u64, usize), Refusal> {
     }
 }
 
-// In each function below the pointers and lengths are those of slices, which Rust keeps valid,
-// aligned, initialised and, where they are `&mut`, apart from all others for the call; the library
-// keeps none of them. That is all that its header asks, the stack aside.
-
 /// The version of the library's interface: [`VERSION`], if it goes with these declarations.
 pub fn version() -> u64 {
-    // SAFETY: it takes nothing.
-    unsafe { library::tewhoranu_version() }
+    library::tewhoranu_version()
 }
 
 /// Reads a gym file's text into a graph table and answers how many cells were written. The first is
 /// the file's form.
 pub fn read(text: &[u8], table: &mut [u64]) -> Result<usize, Refusal> {
-    // SAFETY: as said above.
-    written(unsafe { library::tewhoranu_read(text.as_ptr(), text.len(), table.as_mut_ptr(), table.len()) })
+    written(library::tewhoranu_read(text, table))
 }
 
 /// Writes a graph table as a gym file's text, in the form that its first cell says, and answers how
 /// many bytes were written.
 pub fn write(table: &[u64], out: &mut [u8]) -> Result<usize, Refusal> {
-    // SAFETY: as said above.
-    written(unsafe { library::tewhoranu_write(table.as_ptr(), table.len(), out.as_mut_ptr(), out.len()) })
+    written(library::tewhoranu_write(table, out))
 }
 
 /// The name that a query of the file seeks, without its kind, as the part of the text that holds
 /// it; `None` if a refusal by 1 to 7 stands in the way.
 pub fn name_sought(text: &[u8], query: usize) -> Option<&[u8]> {
     let mut place = 0;
-    // SAFETY: as said above.
-    let length = unsafe { library::tewhoranu_name_sought(text.as_ptr(), text.len(), query, &mut place) };
+    let length = library::tewhoranu_name_sought(text, query, &mut place);
     (length != 0).then(|| &text[place as usize..][..length as usize])
 }
 
 /// Writes a query's listing and answers how many bytes were written.
 pub fn listing(text: &[u8], query: usize, out: &mut [u8]) -> Result<usize, Refusal> {
-    // SAFETY: as said above.
-    written(unsafe { library::tewhoranu_listing(text.as_ptr(), text.len(), query, out.as_mut_ptr(), out.len()) })
+    written(library::tewhoranu_listing(text, query, out))
 }
 
 /// Writes a query's listing and answers how many bytes were written, and how many lawful beginnings
@@ -274,27 +219,13 @@ pub fn listing(text: &[u8], query: usize, out: &mut [u8]) -> Result<usize, Refus
 /// listing, and more stack than a thread has by default: see above.
 pub fn listing_counted(text: &[u8], query: usize, out: &mut [u8]) -> Result<(usize, u64), Refusal> {
     let mut followed = 0;
-    // SAFETY: as said above.
-    let answer = unsafe {
-        library::tewhoranu_listing_counted(text.as_ptr(), text.len(), query, out.as_mut_ptr(), out.len(), &mut followed)
-    };
+    let answer = library::tewhoranu_listing_counted(text, query, out, &mut followed);
     written(answer).map(|length| (length, followed))
 }
 
 /// Judges a path row for a query; its steps go into the first records of the table.
 pub fn judge(text: &[u8], query: usize, row: &[u8], steps: &mut [Step]) -> Result<Standing, Refusal> {
-    // SAFETY: as said above.
-    let answer = unsafe {
-        library::tewhoranu_judge(
-            text.as_ptr(),
-            text.len(),
-            query,
-            row.as_ptr(),
-            row.len(),
-            steps.as_mut_ptr(),
-            steps.len(),
-        )
-    };
+    let answer = library::tewhoranu_judge(text, query, row, steps);
     match case(answer)? {
         (0, 0) => Ok(Standing::Visible),
         (1, n) => Ok(Standing::Shadowed(n)),
@@ -312,21 +243,7 @@ pub fn compare(
     first_steps: &mut [Step],
     second_steps: &mut [Step],
 ) -> Result<Compared, Refusal> {
-    // SAFETY: as said above.
-    let answer = unsafe {
-        library::tewhoranu_compare(
-            text.as_ptr(),
-            text.len(),
-            first.as_ptr(),
-            first.len(),
-            second.as_ptr(),
-            second.len(),
-            first_steps.as_mut_ptr(),
-            first_steps.len(),
-            second_steps.as_mut_ptr(),
-            second_steps.len(),
-        )
-    };
+    let answer = library::tewhoranu_compare(text, first, second, first_steps, second_steps);
     match case(answer)? {
         (0, n) => Ok(Compared::First(n)),
         (1, n) => Ok(Compared::Second(n)),
@@ -337,38 +254,25 @@ pub fn compare(
 
 /// Writes the summary and answers how many bytes were written.
 pub fn summary(text: &[u8], out: &mut [u8]) -> Result<usize, Refusal> {
-    // SAFETY: as said above.
-    written(unsafe { library::tewhoranu_summary(text.as_ptr(), text.len(), out.as_mut_ptr(), out.len()) })
+    written(library::tewhoranu_summary(text, out))
 }
 
 /// Writes the file in the old form and answers how many bytes were written. A kind other than `v` is refused,
 /// and so is a turn other than 0.
 pub fn to_old(text: &[u8], out: &mut [u8]) -> Result<usize, Refusal> {
-    // SAFETY: as said above.
-    written(unsafe { library::tewhoranu_to_old(text.as_ptr(), text.len(), out.as_mut_ptr(), out.len()) })
+    written(library::tewhoranu_to_old(text, out))
 }
 
 /// Writes the file in the form with kinds, one with turns as it is, and answers how many bytes were written.
 pub fn to_new(text: &[u8], out: &mut [u8]) -> Result<usize, Refusal> {
-    // SAFETY: as said above.
-    written(unsafe { library::tewhoranu_to_new(text.as_ptr(), text.len(), out.as_mut_ptr(), out.len()) })
+    written(library::tewhoranu_to_new(text, out))
 }
 
 /// Writes the file with the path rules of an expression in the place of its own and answers how many
 /// bytes were written. What is no expression over the file's labels is refused, and what needs more
 /// than 16 states.
 pub fn rules(text: &[u8], expression: &[u8], out: &mut [u8]) -> Result<usize, Refusal> {
-    // SAFETY: as said above.
-    written(unsafe {
-        library::tewhoranu_rules(
-            text.as_ptr(),
-            text.len(),
-            expression.as_ptr(),
-            expression.len(),
-            out.as_mut_ptr(),
-            out.len(),
-        )
-    })
+    written(library::tewhoranu_rules(text, expression, out))
 }
 
 #[cfg(test)]

@@ -3,9 +3,11 @@
 
 use crate::differ;
 use crate::files::{without_pairs, without_turns};
+use crate::seen::Seen;
 use plain::random::{damaged_row, damaged_table, expression, path_row, Rng};
 use std::collections::BTreeMap;
 use std::fmt::Debug;
+use std::hash::Hash;
 
 /// How often each call gave each answer: a test that never meets an answer does not test it.
 #[derive(Default)]
@@ -52,11 +54,12 @@ pub fn length(rng: &mut Rng, due: usize, most: usize) -> usize {
 pub struct Test {
     pub rng: Rng,
     pub tally: Tally,
+    pub seen: Seen,
 }
 
 impl Test {
     /// One call on both sides: the same result and the same memory.
-    pub fn same<T: Debug + PartialEq, C: Clone + PartialEq>(
+    pub fn same<T: Debug + PartialEq, C: Clone + PartialEq + Hash>(
         &mut self,
         call: &'static str,
         text: &[u8],
@@ -72,6 +75,7 @@ impl Test {
         if a != b {
             differ(call, text, format!("lent memory, after {r:?}, with {} lent", a.len()));
         }
+        self.seen.note(call, &r, &a);
         self.tally.count(call, case(&r));
     }
 
@@ -100,7 +104,9 @@ impl Test {
     /// The wrapper hands back a part of the text: the same place, and not only the same bytes.
     fn name_sought(&mut self, text: &[u8], query: usize) {
         let due = plain::gym::name_sought(text, query);
-        match tewhoranu::name_sought(text, query) {
+        let got = tewhoranu::name_sought(text, query);
+        self.seen.note("name_sought", &got, text);
+        match got {
             Some(name) if name == due && name.as_ptr() == due.as_ptr() => {
                 self.tally.count("name_sought", "found".to_string())
             }

@@ -1,9 +1,11 @@
 //! The listing with its number of lawful beginnings, against the plain Rust implementation: through
-//! the wrapper, and by the library's own call, since the wrapper does not show what a refusal leaves.
+//! the wrapper, and by the archive's own call, since the wrapper does not show what a refusal leaves.
+//! (No one outside can make that call of the source.)
 
 use crate::calls::{length, lent, number, Test};
 use crate::differ;
 
+#[cfg(not(feature = "source"))]
 extern "C" {
     fn tewhoranu_listing_counted(
         text: *const u8,
@@ -25,6 +27,24 @@ fn size(followed: u64) -> &'static str {
     }
 }
 
+/// The archive's call, with so much lent: the answer, the memory and the number that are due.
+#[cfg(not(feature = "source"))]
+fn archive_leaves(text: &[u8], query: usize, mut ours: Vec<u8>, due: (&[u8], Result<(usize, u64), u8>)) {
+    let before = ours.len() as u64 % 5;
+    let mut followed = before;
+    // SAFETY: the pointers and lengths are those of slices and of a number, apart from each other.
+    let answer = unsafe {
+        tewhoranu_listing_counted(text.as_ptr(), text.len(), query, ours.as_mut_ptr(), ours.len(), &mut followed)
+    };
+    let number = match due.1 {
+        Ok((n, count)) => (64 + n as u64, count),
+        Err(number) => (u64::from(number), before),
+    };
+    if (answer, followed) != number || ours != due.0 {
+        differ("listing_counted", text, format!("{answer} with {followed} and not {number:?} for query {query}"));
+    }
+}
+
 impl Test {
     /// A listing with its number: the same answer, memory and number by both ways, the number left
     /// where the listing is refused.
@@ -38,22 +58,12 @@ impl Test {
 
         let mut ours = memory.clone();
         let answer = tewhoranu::listing_counted(text, query, &mut ours).map_err(number);
+        self.seen.note("listing_counted", &answer, &ours);
         if answer != count || ours != out {
             differ("listing_counted", text, format!("{answer:?} and not {count:?} for query {query}, with {n} lent"));
         }
-        let before = self.rng.below(5) as u64;
-        let (mut ours, mut followed) = (memory, before);
-        // SAFETY: the pointers and lengths are those of slices and of a number, apart from each other.
-        let answer = unsafe {
-            tewhoranu_listing_counted(text.as_ptr(), text.len(), query, ours.as_mut_ptr(), ours.len(), &mut followed)
-        };
-        let due = match count {
-            Ok((n, count)) => (64 + n as u64, count),
-            Err(number) => (u64::from(number), before),
-        };
-        if (answer, followed) != due || ours != out {
-            differ("listing_counted", text, format!("{answer} with {followed} and not {due:?} for query {query}"));
-        }
+        #[cfg(not(feature = "source"))]
+        archive_leaves(text, query, memory, (&out, count));
         match count {
             Ok((_, count)) => {
                 self.tally.count("listing_counted", "written".to_string());

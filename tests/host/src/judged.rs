@@ -110,6 +110,7 @@ impl Test {
         let row = row(gym, path, mark);
         let mut steps = [tewhoranu::Step { label: 0, scope: 0 }; tewhoranu::STEPS];
         let got = tewhoranu::judge(text, query, &row, &mut steps).map_err(number);
+        self.seen.note("judge", &got, &steps.map(|step| (step.label, step.scope)));
         if got != Ok(due) {
             let row = String::from_utf8_lossy(&row).into_owned();
             differ("judge", text, format!("{got:?} and not {due:?} for query {query} and the row {row}"));

@@ -5,7 +5,9 @@
 //!
 //! host_test FILES EXAMPLE PROGRAM RUNS [GYM..]: so many random files in process, and as many small
 //! gyms whose paths are judged, so many runs of each of the two programs, and both programs on the
-//! gym files named. `host_test words` prints what the wrapper says of each refusal.
+//! gym files named. `host_test FILES - - 0 [GYM..]` leaves the programs out: by that, and built with
+//! the feature `source`, the proved source is held to what is printed for the archive. `host_test
+//! words` prints what the wrapper says of each refusal.
 
 mod calls;
 mod converting;
@@ -13,11 +15,13 @@ mod files;
 mod followed;
 mod judged;
 mod programs;
+mod seen;
 
 use calls::{Tally, Test};
 use files::{file, limits};
 use plain::random::Rng;
 use programs::{print_the_same, words, Program};
+use seen::Seen;
 use std::env;
 use std::fs;
 use std::process::exit;
@@ -57,7 +61,7 @@ fn run(args: &[String]) {
     };
     let files: usize = files.parse().expect("a number");
     let runs: usize = runs.parse().expect("a number");
-    let mut test = Test { rng: Rng::new(1), tally: Tally::default() };
+    let mut test = Test { rng: Rng::new(1), tally: Tally::default(), seen: Seen::default() };
     for text in limits() {
         test.text(&text);
     }
@@ -85,6 +89,10 @@ fn run(args: &[String]) {
         let all: Vec<String> =
             test.tally.0.iter().filter(|((c, _), _)| *c == call).map(|((_, a), n)| format!("{a} {n}")).collect();
         println!("{call}: {}", all.join(", "));
+    }
+    println!("{}", test.seen.told());
+    if example == "-" {
+        return;
     }
     let both = [Program { name: example, words: true }, Program { name: program, words: false }];
     for text in limits() {
