@@ -7,4 +7,7 @@ pub mod CellLaws
 pub mod Leading
 pub mod PlaceLaws
 pub mod ChangeLaws
+pub mod SectionLaws
 pub mod TableLaws
+pub mod FormedLaws
+pub mod Examples

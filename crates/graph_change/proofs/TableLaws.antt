@@ -1,110 +1,31 @@
 -- A table of sections in turn, parted at one section: what the changes of its cells come to.
 -- Assumes nothing.
-use Prim.Native.Nat.{ℕ, zero, suc, _+_, _-_, _≤_, _<_}
+use Prim.Native.Nat.{ℕ, suc, _+_, _-_, _≤_, _<_}
 use mathlib.Core.Path.{_≡_, refl, sym, ap, subst, _∙_}
-use mathlib.Core.List.{List, [], _∷_, _++_, append-assoc, Memᴰ·append-left, Memᴰ·append-right}
+use mathlib.Core.List.{List, [], _∷_, _++_, append-assoc, List·Memᴰ·not-nil, List·Memᴰ·cases-cons, List·Memᴰ·append-cases, Memᴰ·append-left, Memᴰ·append-right}
 use mathlib.Core.Bool.{Bool, true, false, _&&_}
 use mathlib.Core.Logic.{_⊎_, inl, inr, ⊎-elim}
 use native.Mathlib.Omega.{arith}
-use native.Mathlib.Nat.{add-zero}
-use lib.Dec.{eqb, ltb, leb}
+use lib.Dec.{ltb, leb}
 use lib.ListN.{length, getD, take, drop, length-append}
 use lib.Seq.{take-at, drop-at}
-use borrow.Author.Tests.{eq-eqb, ne-eqb, lt-ltb, le-ltb, le-leb, lt-leb}
+use borrow.Author.Tests.{eq-eqb, ne-eqb, lt-ltb, le-ltb, le-leb}
 use Rattle.scope_graph.specs.Language.{_∈_}
-use Rattle.scope_graph.proofs.Lists.{Two, here, there, and-both}
+use Rattle.scope_graph.proofs.Lists.{Two, here, true-false}
 use Rattle.graph_file.specs.Format.{sectionAt}
 use Rattle.graph_file.specs.Admission.{Row, rowOf, keyLess}
 use Rattle.graph_file.specs.Formed.{cellsOf, cellsFrom, tableOf, replaced}
 use Rattle.graph_file.proofs.DecodePlaces.{row-first}
 use Rattle.graph_table.specs.Sections.{leading, startOf}
-use Rattle.graph_change.specs.declared.place.Place.{Place}
 use Rattle.graph_change.specs.declared.place.Place.the-variants.{There, Free}
 use Rattle.graph_change.specs.Cells.{spliced}
 use Rattle.graph_change.specs.Place.{sameKey, isOf, isBefore, leadingRows, placeFor, hasKey, placed, placeIn}
 use Rattle.graph_change.specs.Changed.{inserted, removed, withRow, withoutAt, withoutRow, withRows}
-use Rattle.graph_change.specs.Promises.{FiveValues, RowPut, RowTaken, RowsPut}
-use Rattle.graph_change.proofs.Leading.{stop-row, stop-none, pass-rows, leading-is}
-use Rattle.graph_change.proofs.RowLaws.{Stops, without, without-same, without-other, Parted, parted}
-
-abbrev Five : List Row → Type 0
-Five rows = (row : Row) → row ∈ rows → length row ≡ 5
-
-cells-append : (k : ℕ) (above below : List Row) → cellsOf k (above ++ below) ≡ cellsOf k above ++ cellsOf k below
-unfolding cellsOf
-cells-append k [] below = refl
-cells-append k (a ∷ above) below =
-    ap (λ (l : List ℕ). k ∷ (a ++ l)) (cells-append k above below) ∙ ap (λ (l : List ℕ). k ∷ l) (sym (append-assoc a (cellsOf k above) (cellsOf k below)))
-
--- Sections in turn, parted.
-sections-add : (m n l j i : ℕ) (rows : ℕ → List Row) → l ≡ m + n → i ≡ j + m → cellsFrom l j rows ≡ cellsFrom m j rows ++ cellsFrom n i rows
-unfolding cellsFrom
-sections-add zero n l j i rows e f =
-    let a : l ≡ n = omega arith in
-    let b : j ≡ i = omega arith in
-    ap (λ (x : ℕ). cellsFrom x j rows) a ∙ ap (λ (x : ℕ). cellsFrom n x rows) b
-sections-add (suc m) n zero j i rows e f = absurd (omega arith)
-sections-add (suc m) n (suc l) j i rows e f =
-    ap (λ (x : List ℕ). cellsOf j (rows j) ++ x) (sections-add m n l (suc j) i rows (omega arith) (omega arith))
-    ∙ sym (append-assoc (cellsOf j (rows j)) (cellsFrom m (suc j) rows) (cellsFrom n i rows))
-
-sections-same : (left j : ℕ) (rows others : ℕ → List Row) → ((i : ℕ) → j ≤ i → i < j + left → rows i ≡ others i) → cellsFrom left j rows ≡ cellsFrom left j others
-unfolding cellsFrom
-sections-same zero j rows others h = refl
-sections-same (suc left) j rows others h =
-    ap (λ (r : List Row). cellsOf j r ++ cellsFrom left (suc j) rows) (h j (omega arith) (omega arith))
-    ∙ ap (λ (l : List ℕ). cellsOf j (others j) ++ l) (sections-same left (suc j) rows others (λ i a b. h i (omega arith) (omega arith)))
-
--- what comes first in sections from j on: nothing, or a row of one of them
-pub record First (j : ℕ) (cells : List ℕ) : Type 0 where
-  pub section : ℕ
-  pub row : Row
-  pub rest : List ℕ
-  pub from : j ≤ section
-  pub five : length row ≡ 5
-  pub whole : cells ≡ section ∷ (row ++ rest)
-
-Front : ℕ → List ℕ → Type 0
-Front j cells = (cells ≡ []) ⊎ First j cells
-
-front-rows : (j s : ℕ) (rows : List Row) (rest : List ℕ) → j ≤ s → Five rows → Front j rest → Front j (cellsOf s rows ++ rest)
-unfolding cellsOf Front
-front-rows j s [] rest h five f = f
-front-rows j s (row ∷ rows) rest h five f = inr (record {
-  section = s;
-  row = row;
-  rest = cellsOf s rows ++ rest;
-  from = h;
-  five = five row here;
-  whole = ap (λ (l : List ℕ). s ∷ l) (append-assoc row (cellsOf s rows) rest);
-})
-
-front-from : (left j : ℕ) (rows : ℕ → List Row) → ((i : ℕ) → j ≤ i → i < j + left → Five (rows i)) → Front j (cellsFrom left j rows)
-unfolding cellsFrom Front
-front-from zero j rows five = inl refl
-front-from (suc left) j rows five =
-    front-rows j j (rows j) (cellsFrom left (suc j) rows) (omega arith) (five j (omega arith) (omega arith))
-    (⊎-elim (λ e. inl e) (λ f. inr (record { section = f .section; row = f .row; rest = f .rest; from = omega (arith, f .from); five = f .five; whole = f .whole }))
-    (front-from left (suc j) rows (λ i a b. five i (omega arith) (omega arith))))
-
--- a test that fails at every row of sections from j on stops there
-front-stops : (test : List ℕ → Bool) (j : ℕ) (cells : List ℕ) → Front j cells → ((s : ℕ) → j ≤ s → (l : List ℕ) → test (s ∷ l) ≡ false) → leadingRows test cells ≡ 0
-unfolding Front
-front-stops test j cells (inl e) h = ap (leadingRows test) e ∙ stop-none test
-front-stops test j cells (inr f) h =
-    ap (leadingRows test) (f .whole) ∙ stop-row test (f .section) (f .row) (f .rest) (f .five) (h (f .section) (f .from) (f .row ++ f .rest))
-
--- over earlier sections
-pass-sections : (test : List ℕ → Bool) (left j : ℕ) (rows : ℕ → List Row) (rest : List ℕ) → ((i : ℕ) → j ≤ i → i < j + left → Five (rows i))
-    → ((i : ℕ) → j ≤ i → i < j + left → (l : List ℕ) → test (i ∷ l) ≡ true)
-    → leadingRows test (cellsFrom left j rows ++ rest) ≡ length (cellsFrom left j rows) + leadingRows test rest
-unfolding cellsFrom
-pass-sections test zero j rows rest five h = omega arith
-pass-sections test (suc left) j rows rest five h =
-    let own = pass-rows test j (rows j) (cellsFrom left (suc j) rows ++ rest) (five j (omega arith) (omega arith)) (λ row m l. h j (omega arith) (omega arith) (row ++ l)) in
-    let more = pass-sections test left (suc j) rows rest (λ i a b. five i (omega arith) (omega arith)) (λ i a b. h i (omega arith) (omega arith)) in
-    let n = length-append (cellsOf j (rows j)) (cellsFrom left (suc j) rows) in
-    ap (leadingRows test) (append-assoc (cellsOf j (rows j)) (cellsFrom left (suc j) rows) rest) ∙ own ∙ omega arith
+use Rattle.graph_change.specs.Promises.{Ascending, NoneLike, Found, FiveValues, RowPut, RowTaken, RowsPut, PlaceFound}
+use Rattle.graph_change.proofs.Leading.{stop-row, pass-rows, leading-is}
+use Rattle.graph_change.proofs.SectionLaws.{Five, cells-append, sections-add, sections-same, First, Front, front-rows, front-from, front-stops, pass-sections}
+use Rattle.graph_change.proofs.Keys.{less-not-same, after-not-same, otherwise, less-then}
+use Rattle.graph_change.proofs.RowLaws.{Stops, without, without-same, without-other, Parted, parted, ascending-below}
 
 module _ (form : ℕ) (rows : ℕ → List Row) (five : FiveValues rows) (k : ℕ) (h : k < 9) where
   -- the cells before section k, and those after it
@@ -344,6 +265,50 @@ module _ (form : ℕ) (rows : ℕ → List Row) (five : FiveValues rows) (k : �
         ∙ ap (λ (r : List Row). front ++ (cellsOf k r ++ back)) (sym (parts .taken-out))
         ∙ sym (table-with (removed (sectionAt k .key) row (rows k)))
 
+    -- what `find` says: no row of the key, or one
+    none-above : NoneLike (sectionAt k .key) row above
+    none-above a m = less-not-same (sectionAt k .key) a row (parts .before a m)
+
+    none-in : (bs : List Row) → Five bs → below ≡ bs → Ascending (sectionAt k .key) bs → Stops (sectionAt k .key) row bs → hasKey k row (drop place (tableOf form rows)) ≡ false
+        → NoneLike (sectionAt k .key) row bs
+    none-in [] f e h s t a m = absurd (List·Memᴰ·not-nil m)
+    none-in (b ∷ bs) f e h s t a m =
+        let other : sameKey (sectionAt k .key) b row ≡ false = sym (key-is b bs (f b here) e) ∙ t in
+        let first = otherwise (sectionAt k .key) b row s other in
+        ⊎-elim (λ z. rw z other) (λ n. after-not-same (sectionAt k .key) row a (less-then (sectionAt k .key) row b a first (h .0 a n))) (List·Memᴰ·cases-cons m)
+
+    none-told : Ascending (sectionAt k .key) (rows k) → hasKey k row (drop place (tableOf form rows)) ≡ false → NoneLike (sectionAt k .key) row (rows k)
+    none-told h t a m =
+        let later = none-in below below-five refl (ascending-below (sectionAt k .key) row above below (subst (Ascending (sectionAt k .key)) (parts .whole) h)) (parts .stops) t in
+        ⊎-elim (λ n. none-above a n) (λ n. later a n) (List·Memᴰ·append-cases above (subst (λ (r : List Row). a ∈ r) (parts .whole) m))
+
+    one-in : (bs : List Row) → Five bs → below ≡ bs → hasKey k row (drop place (tableOf form rows)) ≡ true → (a : Row) × (a ∈ bs) × (sameKey (sectionAt k .key) a row ≡ true)
+    unfolding cellsOf
+    one-in [] f e t = absurd (true-false t (ap (hasKey k row) (place-on ∙ ap (λ (r : List Row). cellsOf k r ++ back) e) ∙ key-none back-front))
+    one-in (b ∷ bs) f e t = (b, here, sym (key-is b bs (f b here) e) ∙ t)
+
+    one-told : hasKey k row (drop place (tableOf form rows)) ≡ true → (a : Row) × (a ∈ rows k) × (sameKey (sectionAt k .key) a row ≡ true)
+    one-told t =
+        let o = one-in below below-five refl t in
+        (o .0, subst (λ (r : List Row). o .0 ∈ r) (sym (parts .whole)) (Memᴰ·append-right above (o .1)), o .2)
+
+    placed-free : (t : Bool) (p q : ℕ) → placed t p ≡ Free q → t ≡ false
+    unfolding placed
+    placed-free true p q e = absurd (let z : _≡_ {A = ℕ} 0 1 = cc in omega arith)
+    placed-free false p q e = refl
+
+    placed-there : (t : Bool) (p q : ℕ) → placed t p ≡ There q → t ≡ true
+    unfolding placed
+    placed-there true p q e = refl
+    placed-there false p q e = absurd (let z : _≡_ {A = ℕ} 0 1 = cc in omega arith)
+
+    found-is : Ascending (sectionAt k .key) (rows k) → Found (sectionAt k .key) row (rows k) (placeIn k row (tableOf form rows))
+    unfolding placeIn
+    found-is h = record {
+      free = λ q e. none-told h (placed-free (hasKey k row (drop place (tableOf form rows))) place q e);
+      there = λ q e. one-told (placed-there (hasKey k row (drop place (tableOf form rows))) place q e);
+    }
+
 pub row-put : RowPut
 row-put form rows five k h row f = row-put-in form rows five k h row f
 
@@ -352,3 +317,6 @@ row-taken form rows five k h row = row-taken-out form rows five k h row
 
 pub rows-put : RowsPut
 rows-put form rows five k h new = rows-replaced form rows five k h new
+
+pub place-found : PlaceFound
+place-found form rows five k h row = found-is form rows five k h row
