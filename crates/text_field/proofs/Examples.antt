@@ -5,8 +5,10 @@ use mathlib.Core.Bool.{true, false}
 use Rattle.text_field.specs.Bytes.{within, isDigit, isLower, isNameByte}
 use Rattle.text_field.specs.Number.{digitsOf, numberText, growing, digitsFrom, numberHere}
 use Rattle.text_field.specs.Name.{allNameBytes, isName, packed, packHigh, packLow, bytesOf, beforeZero, nameText, isNameCells, nameRun, nameOf, nameHere}
+use Rattle.text_field.specs.Lines.{linePlaced, lineHere}
 use Rattle.text_field.specs.declared.NumberRead.the-variants.{Number}
 use Rattle.text_field.specs.declared.NameRead.the-variants.{Name}
+use Rattle.text_field.specs.declared.lines.LineRead.the-variants.{Line, NoLine}
 
 written : numberText 65535 ≡ 54 ∷ 53 ∷ 53 ∷ 51 ∷ 53 ∷ []
 unfolding digitsOf numberText
@@ -53,3 +55,16 @@ no-cells = refl
 seventeen : nameHere (97 ∷ 97 ∷ 97 ∷ 97 ∷ 97 ∷ 97 ∷ 97 ∷ 97 ∷ 97 ∷ 97 ∷ 97 ∷ 97 ∷ 97 ∷ 97 ∷ 97 ∷ 97 ∷ 97 ∷ []) ≡ Name 0x6161616161616161 0x6161616161616161 16
 unfolding within isDigit isLower isNameByte packed packHigh packLow nameRun nameOf nameHere
 seventeen = refl
+
+-- of the lines `ab`, an empty one and `c`, which has no LF: the first, the second, no third
+first-line : lineHere (97 ∷ 98 ∷ 10 ∷ 10 ∷ 99 ∷ []) ≡ Line 2 3
+unfolding linePlaced lineHere
+first-line = refl
+
+empty-line : lineHere (10 ∷ 99 ∷ []) ≡ Line 0 1
+unfolding linePlaced lineHere
+empty-line = refl
+
+no-line : lineHere (99 ∷ []) ≡ NoLine
+unfolding linePlaced lineHere
+no-line = refl

@@ -7,6 +7,7 @@ pub mod AnswerLaws
 pub mod MeaningLaws
 pub mod NumberLaws
 pub mod NameLaws
+pub mod LineLaws
 pub mod OrderLaws
 pub mod CellLaws
 pub mod Steps

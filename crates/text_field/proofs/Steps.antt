@@ -11,12 +11,15 @@ use Rattle.text_field.specs.Bytes.{isDigit, isLower, isNameByte}
 use Rattle.text_field.specs.Buffer.{Buf, put, puts}
 use Rattle.text_field.specs.Number.{numberText, growing, digitsFrom, numberHere, numberPlaced}
 use Rattle.text_field.specs.Name.{packHigh, packLow, nameOf, nameRun, nameHere, namePlaced}
+use Rattle.text_field.specs.Lines.{linePlaced, lineHere}
 use Rattle.text_field.specs.declared.NumberRead.the-variants.{Number, NoNumber}
 use Rattle.text_field.specs.declared.NameRead.the-variants.{Name, NoName}
+use Rattle.text_field.specs.declared.lines.LineRead.the-variants.{Line, NoLine}
 use Rattle.text_field.proofs.BufferLaws.{puts-one, puts-then}
 use Rattle.text_field.proofs.ByteLaws.{both}
 use Rattle.text_field.proofs.NumberLaws.{number-short, number-long, more-on, more-off, first-on, first-off, growing-bounds, digits-placed}
 use Rattle.text_field.proofs.NameLaws.{run, run-on, run-off, here-on, here-off}
+use Rattle.text_field.proofs.LineLaws.{line-on, line-off, placed-on}
 
 module _ (s : List ℕ) (i : ℕ) where
   pub drop-next : i < length s → drop i s ≡ getD s i 0 ∷ drop (i + 1) s
@@ -99,6 +102,22 @@ module _ (s : List ℕ) (i : ℕ) where
       some-name t high low p q =
           let m : i + suc (length (nameRun 15 (drop (i + 1) s))) ≡ e = omega arith
           in sym (ap (λ (z : List ℕ). namePlaced i (nameHere z)) (drop-next h) ∙ ap (namePlaced i) (here-on (getD s i 0) (drop (i + 1) s) t) ∙ rw (m, p, q, name-part))
+
+-- the line at a place: none is left, its LF stands here, or it goes on
+module _ (s : List ℕ) (i : ℕ) where
+  pub line-end : length s ≤ i → NoLine ≡ linePlaced i (lineHere (drop i s))
+  unfolding linePlaced lineHere
+  line-end h = rw (drop-end s i h)
+
+  module _ (h : i < length s) where
+    pub line-stop : getD s i 0 ≡ 10 → Line i (i + 1) ≡ linePlaced i (lineHere (drop i s))
+    unfolding linePlaced
+    line-stop e =
+        let m : i + 0 ≡ i = omega arith
+        in sym (ap (λ (z : List ℕ). linePlaced i (lineHere z)) (drop-next s i h) ∙ ap (linePlaced i) (line-on (getD s i 0) (drop (i + 1) s) e) ∙ rw m)
+
+    pub line-go : (getD s i 0 ≡ 10 → ⊥) → linePlaced (i + 1) (lineHere (drop (i + 1) s)) ≡ linePlaced i (lineHere (drop i s))
+    line-go n = sym (ap (λ (z : List ℕ). linePlaced i (lineHere z)) (drop-next s i h) ∙ ap (linePlaced i) (line-off (getD s i 0) (drop (i + 1) s) n) ∙ sym (placed-on i (lineHere (drop (i + 1) s))))
 
 -- a number that goes on has at most four digits
 pub grown : (x v : ℕ) → (isDigit x && growing v) ≡ true → v ≤ 9999

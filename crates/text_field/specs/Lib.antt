@@ -3,4 +3,5 @@ pub mod Answer
 pub mod Bytes
 pub mod Number
 pub mod Name
+pub mod Lines
 pub mod Buffer

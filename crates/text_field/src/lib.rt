@@ -1,7 +1,10 @@
-// Numbers and names as text, the lent buffer they are written to, and what a host is told.
+// Numbers, names and lines as text, the lent buffer they are written to, and what a host is told.
 mod answer;
+mod lines;
 
 pub use answer::Answer;
+pub use lines::LineRead;
+pub use lines::next_line;
 ghost use mathlib.Core.Path.{_≡_};
 ghost use mathlib.Core.Bool.{_&&_};
 ghost use mathlib.Core.List.{List, [], _∷_};

@@ -2,6 +2,7 @@
 // became of the memory lent to it. The programs in tests/trials write the cases and, by a reference
 // of their own, the output that is due.
 mod answered;
+mod changes;
 mod converted;
 mod counted;
 mod edges;
@@ -53,6 +54,8 @@ fn case(h: Head, body: &[u8]) {
         b'c' => rows::comparing(text, first, bytes(body, middle, body.len()), number, room),
         b'j' => judged::judging(text, number, first, room),
         b'x' => ruled_files::ruling(text, first, room),
+        b'q' => changes::finding(text, first, number),
+        b'i' | b't' | b'm' => changes::changing(kind, text, first, number, room),
         _ => text_case(kind, text, number, room),
     }
 }

@@ -6,5 +6,6 @@ pub mod enumerate;
 pub mod gym;
 pub mod path_row;
 pub mod random;
+pub mod row_changes;
 pub mod rules;
 pub mod search;

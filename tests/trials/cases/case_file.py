@@ -17,6 +17,8 @@ them are its text, the next ROW its first path row, and the rest its second.
   x  the text with the path rules of the expression that is the first row, in a lent buffer of ROOM bytes
   a  the listings of the first NUMBER queries of the text and then its summary, each in a lent buffer of ROOM bytes
   o  the text is converted to the old form into a lent buffer of ROOM bytes, and what comes out to the form with kinds
+  q  the text is cells in hexadecimal, a graph table's, and the first row five values: the place of that row in section NUMBER
+  i  it is put into section NUMBER of the table, which has ROOM cells; t  it is taken out; m  the section's rows are replaced by the cells of the first row
   k  the text is converted to the form with kinds into a lent buffer of ROOM bytes, and what comes out to the old form
 """
 

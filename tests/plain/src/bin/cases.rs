@@ -4,7 +4,7 @@
 
 use plain::answers::Standing;
 use plain::path_row::{self, Compared, PathRow, Step};
-use plain::{answers, gym};
+use plain::{answers, gym, row_changes};
 use std::io::{self, Read, Write};
 
 const BLANK: Step = Step {
@@ -163,6 +163,34 @@ fn edge_rows(body: &[u8], scope: u64) -> String {
     format!("found{}\n", found.collect::<String>())
 }
 
+/// What a lent cell holds before it is used.
+const CELL: u64 = 12_297_829_382_473_034_410;
+
+/// A row's five values, those that are missing 0.
+fn row_values(body: &[u8]) -> [u64; 5] {
+    let given = numbers(body);
+    std::array::from_fn(|i| given.get(i).copied().unwrap_or(0))
+}
+
+fn row_place(body: &[u8], section: u64, row: &[u8]) -> String {
+    let (at, there) = row_changes::place(&numbers(body), section, &row_values(row));
+    format!("{} {at}\n", if there { "there" } else { "free" })
+}
+
+/// A table of `room` cells with those of a body at its front, changed, and the sum of all of them.
+fn changed(body: &[u8], room: usize, change: impl Fn(&[u64]) -> Vec<u64>) -> String {
+    let mut cells = numbers(body);
+    cells.truncate(room);
+    let out = change(&cells);
+    let mut table = vec![CELL; room];
+    table[..cells.len()].copy_from_slice(&cells);
+    if room < out.len() {
+        return format!("refused 9 sum {}\n", sum(halves(&table)));
+    }
+    table[..out.len()].copy_from_slice(&out);
+    format!("used {} sum {}\n", out.len(), sum(halves(&table)))
+}
+
 fn judge(text: &[u8], query: usize, row: &[u8], room: usize) -> String {
     match answers::judge(text, query, row, &mut vec![BLANK; room]) {
         Err(number) => format!("refused {number}\n"),
@@ -248,6 +276,16 @@ fn main() -> io::Result<()> {
             "p" if first.starts_with(b"=") => from_parts(&first[1..], room),
             "p" => apart(first, room),
             "e" => edge_rows(text, number as u64),
+            "q" => row_place(text, number as u64, first),
+            "i" => changed(text, room, |cells| {
+                row_changes::inserted(cells, number as u64, &row_values(first))
+            }),
+            "t" => changed(text, room, |cells| {
+                row_changes::removed(cells, number as u64, &row_values(first))
+            }),
+            "m" => changed(text, room, |cells| {
+                row_changes::replaced(cells, number as u64, &numbers(first))
+            }),
             "j" => judge(text, number, first, room),
             "c" => compare(text, first, second, number, room),
             "l" => listing(number),
