@@ -50,6 +50,7 @@ pub mod FormedTable
 pub mod DecodeFormed
 pub mod DecodeKinds
 pub mod DecodeAccepted
+pub mod AlikeLaws
 pub mod FormedForms
 pub mod FormedChanges
 pub mod DecodeExample

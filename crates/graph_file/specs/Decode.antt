@@ -82,18 +82,31 @@ module _ (r : Rules) where
 unfoldable pub scopesOf : List ℕ → ℕ
 scopesOf cells = value (getD (rowsIn countSection cells) 0 blank) 0
 
+-- The graph of a table's rows, read with given rules, which may be those of another table: two tables
+-- with the same rules are then two graphs of one language.
+module _ (r : Rules) (cells : List ℕ) where
+  abbrev pub graphIn : Graph (language r)
+  graphIn = record {
+    scopes = scopesOf cells;
+    edges = map (edgeOf r) (rowsIn edgeSection cells);
+    declarations = map (declarationOf r) (rowsIn declarationSection cells);
+  }
+
+  abbrev pub opensIn : List (OpenPair (language r))
+  opensIn = map (openPairOf r) (rowsIn openSection cells)
+
+  abbrev pub queriesIn : List (Query (language r))
+  queriesIn = map (queryOf r) (rowsIn querySection cells)
+
+-- the graph, the open pairs and the queries of a table, with its own rules
 unfoldable pub graphOf : (cells : List ℕ) → Graph (language (rulesOf cells))
-graphOf cells = record {
-  scopes = scopesOf cells;
-  edges = map (edgeOf (rulesOf cells)) (rowsIn edgeSection cells);
-  declarations = map (declarationOf (rulesOf cells)) (rowsIn declarationSection cells);
-}
+graphOf cells = graphIn (rulesOf cells) cells
 
 unfoldable pub opensOf : (cells : List ℕ) → List (OpenPair (language (rulesOf cells)))
-opensOf cells = map (openPairOf (rulesOf cells)) (rowsIn openSection cells)
+opensOf cells = opensIn (rulesOf cells) cells
 
 unfoldable pub queriesOf : (cells : List ℕ) → List (Query (language (rulesOf cells)))
-queriesOf cells = map (queryOf (rulesOf cells)) (rowsIn querySection cells)
+queriesOf cells = queriesIn (rulesOf cells) cells
 
 -- where section k's rows begin in an accepted table: after the form and the rows of the sections
 -- above

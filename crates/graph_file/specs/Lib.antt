@@ -10,6 +10,7 @@ pub mod Decode
 pub mod Sought
 pub mod NameOrder
 pub mod Accepted
+pub mod Alike
 pub mod Formed
 pub mod Table
 pub mod LookBack

@@ -19,4 +19,11 @@ pub mod Ends
 pub mod Agree
 pub mod Settled
 pub mod Promises
+pub mod Sequences
+pub mod Stable
+pub mod Throughout
+pub mod Numbering
+pub mod Renamed
+pub mod TakenIn
+pub mod Readers
 pub mod Examples

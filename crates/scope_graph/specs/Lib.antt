@@ -10,4 +10,8 @@ pub mod Listing
 pub mod Ends
 pub mod Agree
 pub mod Promises
+pub mod Stable
+pub mod Renamed
+pub mod TakenIn
+pub mod Readers
 pub mod Order
