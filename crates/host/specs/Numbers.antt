@@ -10,8 +10,8 @@ use Rattle.text_field.specs.Outcome.{Outcome, refused, done}
 use Rattle.graph_file.specs.NameSought.{nameSought, placeSought}
 use Rattle.comparison.specs.Compare.{Comparison, first, second, neither, Told}
 
--- A refusal is told by its number (01, "Who can cause a refusal"; 12 and 13, 02, K6; 14, K9), any
--- other answer by the number that is given for it.
+-- A refusal is told by its number (01, "Who can cause a refusal"; 11, 02, K5; 12 and 13, K6; 14,
+-- K9), any other answer by the number that is given for it.
 unfoldable pub told : {A : Type 0} → (A → ℕ) → Outcome A → ℕ
 told number (refused n) = n
 told number (done a) = number a
