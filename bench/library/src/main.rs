@@ -1,6 +1,8 @@
 //! Calls one function of our library, or of the plain implementation, on a gym file, so many times over: bench/run counts the instructions of
-//! both. `library (ours|plain) (read|write|listing|listing_plain|summary) FILE TIMES`. Prints a sum over what was written, which must be the same on both sides.
+//! both. `library (ours|plain) (read|write|listing|listing_plain|summary|rules) FILE TIMES`. Prints a sum over what was written, which must be the same on
+//! both sides.
 
+use plain::random::{expression, Rng};
 use std::{env, fs};
 
 fn sum(cells: impl Iterator<Item = u64>) -> u64 {
@@ -50,6 +52,29 @@ fn summary(ours: bool, text: &[u8], out: &mut [u8]) -> usize {
     }
 }
 
+/// How many expressions are drawn over a file's labels, from one seed.
+const EXPRESSIONS: usize = 100;
+
+/// The file with the path rules of each expression: a sum over what is put out, and over the numbers of refusals.
+fn rules(ours: bool, text: &[u8], expressions: &[Vec<u8>], out: &mut [u8]) -> u64 {
+    expressions.iter().fold(0, |s: u64, e| {
+        let answer = if ours {
+            tewhoranu::rules(text, e, out).map_err(|r| u64::from(r.number()))
+        } else {
+            plain::answers::rules(text, e, out).map_err(u64::from)
+        };
+        s.wrapping_add(answer.map_or_else(|number| number, |n| sum(out[..n].iter().map(|&b| b.into()))))
+    })
+}
+
+/// Expressions over the labels of a file, whose first section has one a line.
+fn drawn(text: &[u8]) -> Vec<Vec<u8>> {
+    let rows = text.split(|&b| b == b'\n').skip(1);
+    let letters: Vec<u8> = rows.take_while(|row| row.len() == 1).map(|row| row[0]).collect();
+    let mut rng = Rng::new(6);
+    (0..EXPRESSIONS).map(|_| expression(&mut rng, &letters)).collect()
+}
+
 fn main() {
     let words: Vec<String> = env::args().collect();
     let ours = match words[1].as_str() {
@@ -63,6 +88,7 @@ fn main() {
     let mut out = vec![0; tewhoranu::LISTING];
     let cells = read(ours, &text, &mut table);
     let queries = text.split(|&b| b == b'\n').rev().skip(1).take_while(|l| l[0].is_ascii_digit()).count();
+    let expressions = drawn(&text);
     let mut total: u64 = 0;
     for _ in 0..times {
         let of = match words[2].as_str() {
@@ -86,6 +112,7 @@ fn main() {
                 let n = summary(ours, &text, &mut out);
                 sum(out[..n].iter().map(|&b| b.into()))
             }
+            "rules" => rules(ours, &text, &expressions, &mut out),
             other => panic!("no function {other}"),
         };
         total = total.wrapping_mul(31).wrapping_add(of);

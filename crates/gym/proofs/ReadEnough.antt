@@ -26,7 +26,7 @@ use Rattle.conversion.specs.Conversion.{textOf, oldOf, newOf}
 use Rattle.ruled.specs.Ruled.{ruledText, textBy, ruledOf}
 use Rattle.printing.specs.Printed.{programText, outcomeText}
 use Rattle.beginnings.specs.Beginnings.{countFor}
-use Rattle.gym.specs.Words.{Asked, list, old, new, judge, compare, rules, count, usage, Word, alone, withOne, withTwo, queryAsked, byQuery, judgeAsked, countAsked, listWord, oldWord, newWord, judgeWord, compareWord, rulesWord, countWord, laterWords, words, sameBytes, askedOf, asked}
+use Rattle.gym.specs.Words.{Asked, list, old, new, judge, compare, rules, count, help, usage, Word, alone, withOne, withTwo, queryAsked, byQuery, judgeAsked, countAsked, listWord, oldWord, newWord, judgeWord, compareWord, rulesWord, countWord, helpWord, laterWords, words, sameBytes, askedOf, asked}
 use Rattle.gym.specs.Said.{Said, judgeLine, compareLine, countLine, answered, said}
 use Rattle.gym.specs.Handed.{arguments, handed}
 use Rattle.gym.specs.Promises.{wordBytes, inputBytes, wordsRead, ReadEnough}
@@ -65,6 +65,7 @@ module _ (input : List ℕ) where
   input-enough (compare a b) = rw input-read
   input-enough (rules expression) = rw input-read
   input-enough (count i) = rw input-read
+  input-enough help = refl
   input-enough usage = refl
 
 -- a row: past 256 bytes it is refused by 8
@@ -197,15 +198,16 @@ module _ (input : List ℕ) where
         by false = rest
 
     words-enough : Enough words
-    unfolding words listWord oldWord newWord judgeWord compareWord rulesWord countWord laterWords askedOf
+    unfolding words listWord oldWord newWord judgeWord compareWord rulesWord countWord helpWord laterWords askedOf
     words-enough =
         one-more listWord (oldWord ∷ newWord ∷ judgeWord ∷ compareWord ∷ laterWords) (omega arith) (alone-read list more)
         (one-more oldWord (newWord ∷ judgeWord ∷ compareWord ∷ laterWords) (omega arith) (alone-read old more)
         (one-more newWord (judgeWord ∷ compareWord ∷ laterWords) (omega arith) (alone-read new more)
         (one-more judgeWord (compareWord ∷ laterWords) (omega arith) (two-read judgeAsked query-read more)
         (one-more compareWord laterWords (omega arith) (two-read compare compare-rows more)
-        (one-more rulesWord (countWord ∷ []) (omega arith) (one-read rules rules-expression more)
-        (one-more countWord [] (omega arith) (one-read countAsked count-read more) refl))))))
+        (one-more rulesWord (countWord ∷ helpWord ∷ []) (omega arith) (one-read rules rules-expression more)
+        (one-more countWord (helpWord ∷ []) (omega arith) (one-read countAsked count-read more)
+        (one-more helpWord [] (omega arith) (alone-read help more) refl)))))))
 
   words-read : (given : List (List ℕ)) → saying (asked (wordsRead given)) ≡ saying (asked given)
   unfolding asked wordsRead handed

@@ -33,8 +33,9 @@ use Rattle.beginnings.specs.Beginnings.{countFor}
 use Rattle.gym.specs.declared.words.Reply.{Reply}
 use Rattle.gym.specs.declared.words.Command.{Command}
 use Rattle.gym.specs.declared.replies.Stream.{Stream}
-use Rattle.gym.specs.Words.{Asked, listWord, oldWord, newWord, judgeWord, compareWord, rulesWord, countWord, laterWords, words, asked}
-use Rattle.gym.specs.Said.{Said, spoken, replyRoom, lineOf, counted, standingName, whichName, comparisonName, judgeLine, compareLine, countLine, usageHead, usageLine, usageText, answered, said}
+use Rattle.gym.specs.Text.{bytes, spaces, padded}
+use Rattle.gym.specs.Words.{Asked, listWord, oldWord, newWord, judgeWord, compareWord, rulesWord, countWord, helpWord, laterWords, words, asked}
+use Rattle.gym.specs.Said.{Said, spoken, replyRoom, lineOf, counted, standingName, whichName, comparisonName, judgeLine, compareLine, countLine, usageLine, usageText, answered, said}
 use Rattle.gym.specs.Handed.{Replied, replyMeaning, meaning}
 
 -- an answer's line, or its refusal's
@@ -92,7 +93,7 @@ counted-short name n few h =
 
 pub shadowed-short : (n : ℕ) → n < 18446744073709551616 → length (standingName (as-shadowed n)) ≤ 32
 unfolding standingName
-shadowed-short n h = counted-short (115 ∷ 104 ∷ 97 ∷ 100 ∷ 111 ∷ 119 ∷ 101 ∷ 100 ∷ []) n (omega arith) h
+shadowed-short n h = counted-short (bytes "shadowed") n (omega arith) h
 
 pub visible-short : length (standingName as-visible) ≤ 32
 unfolding standingName
@@ -118,7 +119,7 @@ unfolding puts
 counted-puts name n b c d e f g h = puts-then b c e name (numberText n ++ (10 ∷ [])) f (puts-then c d e (numberText n) (10 ∷ []) g h)
 
 pub usage-replied : (lent left : List ℕ) (size : ℕ) → _≡_ {A = Buf} (left, size) (puts (lent, 0) usageText) → Replied lent left size usageText
-unfolding usageText usageHead flatMap words usageLine listWord oldWord newWord judgeWord compareWord rulesWord countWord laterWords
+unfolding usageText flatMap words usageLine padded spaces listWord oldWord newWord judgeWord compareWord rulesWord countWord helpWord laterWords
 usage-replied lent left size h = record { written = h; fits = omega arith }
 
 -- a reply by what was computed for it

@@ -14,7 +14,8 @@ use Rattle.beginnings.specs.Beginnings.{countFor}
 use Rattle.printing.specs.Printed.{inPlace, programText}
 use Rattle.gym.specs.declared.replies.Stream.{Stream}
 use Rattle.gym.specs.declared.replies.Stream.the-variants.{Out, Err}
-use Rattle.gym.specs.Words.{Asked, list, old, new, judge, compare, rules, count, usage, Word, words, asked}
+use Rattle.gym.specs.Text.{bytes, padded}
+use Rattle.gym.specs.Words.{Asked, list, old, new, judge, compare, rules, count, help, usage, Word, words, asked}
 
 -- the text, and the stream that gets it; the other one gets nothing
 pub record Said : Type 0 where
@@ -40,17 +41,15 @@ lineOf name o = andThen o (λ a. done (name a ++ (10 ∷ [])))
 unfoldable pub counted : List ℕ → ℕ → List ℕ
 counted name n = name ++ (32 ∷ numberText n)
 
--- `visible`, `shadowed` with its number, `unreached`
 unfoldable pub standingName : Judgement → List ℕ
-standingName as-visible = 118 ∷ 105 ∷ 115 ∷ 105 ∷ 98 ∷ 108 ∷ 101 ∷ []
-standingName (as-shadowed n) = counted (115 ∷ 104 ∷ 97 ∷ 100 ∷ 111 ∷ 119 ∷ 101 ∷ 100 ∷ []) n
-standingName as-unreached = 117 ∷ 110 ∷ 114 ∷ 101 ∷ 97 ∷ 99 ∷ 104 ∷ 101 ∷ 100 ∷ []
+standingName as-visible = bytes "visible"
+standingName (as-shadowed n) = counted (bytes "shadowed") n
+standingName as-unreached = bytes "unreached"
 
--- `first`, `second`, `neither`
 unfoldable pub whichName : Comparison → List ℕ
-whichName first = 102 ∷ 105 ∷ 114 ∷ 115 ∷ 116 ∷ []
-whichName second = 115 ∷ 101 ∷ 99 ∷ 111 ∷ 110 ∷ 100 ∷ []
-whichName neither = 110 ∷ 101 ∷ 105 ∷ 116 ∷ 104 ∷ 101 ∷ 114 ∷ []
+whichName first = bytes "first"
+whichName second = bytes "second"
+whichName neither = bytes "neither"
 
 -- with the number of equal steps
 unfoldable pub comparisonName : Told → List ℕ
@@ -68,19 +67,13 @@ compareLine text a b = lineOf comparisonName (compareAnswer text a b mostSteps m
 unfoldable pub countLine : List ℕ → ℕ → Outcome (List ℕ)
 countLine text i = lineOf numberText (countFor text i)
 
--- `usage: gym WORD [ARGUMENT..] < FILE`
-unfoldable pub usageHead : List ℕ
-usageHead =
-    117 ∷ 115 ∷ 97 ∷ 103 ∷ 101 ∷ 58 ∷ 32 ∷ 103 ∷ 121 ∷ 109 ∷ 32 ∷ 87 ∷ 79 ∷ 82 ∷ 68 ∷ 32
-    ∷ 91 ∷ 65 ∷ 82 ∷ 71 ∷ 85 ∷ 77 ∷ 69 ∷ 78 ∷ 84 ∷ 46 ∷ 46 ∷ 93 ∷ 32 ∷ 60 ∷ 32 ∷ 70 ∷ 73 ∷ 76 ∷ 69 ∷ 10 ∷ []
-
--- two spaces, the word and its arguments
+-- two spaces, the word with its arguments, and from a column on what it does
 unfoldable pub usageLine : Word → List ℕ
-usageLine w = 32 ∷ 32 ∷ (w .name ++ w .shown ++ (10 ∷ []))
+usageLine w = bytes "  " ++ (padded 18 (w .name ++ w .shown) ++ (w .does ++ (10 ∷ [])))
 
--- that line, and one for each word
+-- how the program is called, and a line for each word
 unfoldable pub usageText : List ℕ
-usageText = usageHead ++ flatMap usageLine words
+usageText = bytes "usage: gym WORD [ARGUMENT..] < FILE\n" ++ flatMap usageLine words
 
 -- what is said for a gym file's text
 unfoldable pub answered : Asked → List ℕ → Said
@@ -91,6 +84,7 @@ answered (judge i row) text = replied (judgeLine text i row)
 answered (compare a b) text = replied (compareLine text a b)
 answered (rules expression) text = replied (ruledOf expression text)
 answered (count i) text = replied (countLine text i)
+answered help text = spoken Out usageText
 answered usage text = spoken Err usageText
 
 -- What the program says for a list of words, its own name left off, and an input.

@@ -7,8 +7,10 @@ use lib.ListN.{length}
 use Rattle.text_field.specs.declared.NumberRead.{NumberRead}
 use Rattle.text_field.specs.declared.NumberRead.the-variants.{Number, NoNumber}
 use Rattle.text_field.specs.Number.{numberHere}
+use Rattle.gym.specs.Text.{bytes}
 
--- what may be asked for; usage, where the words ask for nothing
+-- What may be asked for. Words that ask for nothing of this get the usage text, and so does who asks
+-- for help: the one as a complaint, the other as an answer.
 pub data Asked : Type 0 where
   list : Asked
   old : Asked
@@ -17,6 +19,7 @@ pub data Asked : Type 0 where
   compare : List ℕ → List ℕ → Asked
   rules : List ℕ → Asked
   count : ℕ → Asked
+  help : Asked
   usage : Asked
 
 -- a word without arguments
@@ -51,50 +54,69 @@ judgeAsked query row = byQuery (λ i. judge i row) query
 unfoldable pub countAsked : List ℕ → Asked
 countAsked query = byQuery count query
 
--- a word: its name, how its arguments are shown to who does not know them, and what they ask for
+-- A word: its name, how its arguments are shown and what it does, for who does not know it, and what
+-- its arguments ask for.
 pub record Word : Type 0 where
   pub name : List ℕ
   pub shown : List ℕ
+  pub does : List ℕ
   pub asks : List (List ℕ) → Asked
 
--- `list`
 unfoldable pub listWord : Word
-listWord = record { name = 108 ∷ 105 ∷ 115 ∷ 116 ∷ []; shown = []; asks = alone list }
+listWord = record { name = bytes "list"; shown = bytes ""; does = bytes "all listings, then the summary"; asks = alone list }
 
--- `old` and `new`: the file's form that is wanted (02, K9)
+-- the file's form that is wanted (02, K9)
 unfoldable pub oldWord : Word
-oldWord = record { name = 111 ∷ 108 ∷ 100 ∷ []; shown = []; asks = alone old }
+oldWord = record { name = bytes "old"; shown = bytes ""; does = bytes "the file in the old form, without kinds"; asks = alone old }
 
 unfoldable pub newWord : Word
-newWord = record { name = 110 ∷ 101 ∷ 119 ∷ []; shown = []; asks = alone new }
+newWord = record { name = bytes "new"; shown = bytes ""; does = bytes "the file in the form with kinds"; asks = alone new }
 
--- `judge`, ` QUERY ROW`
 unfoldable pub judgeWord : Word
 judgeWord =
-    record { name = 106 ∷ 117 ∷ 100 ∷ 103 ∷ 101 ∷ []; shown = 32 ∷ 81 ∷ 85 ∷ 69 ∷ 82 ∷ 89 ∷ 32 ∷ 82 ∷ 79 ∷ 87 ∷ []; asks = withTwo judgeAsked }
+    record {
+      name = bytes "judge";
+      shown = bytes " QUERY ROW";
+      does = bytes "the standing of a path row such as '10 3P1' for query 0, 1, ..";
+      asks = withTwo judgeAsked;
+    }
 
--- `compare`, ` ROW ROW`
 unfoldable pub compareWord : Word
 compareWord =
-    record { name = 99 ∷ 111 ∷ 109 ∷ 112 ∷ 97 ∷ 114 ∷ 101 ∷ []; shown = 32 ∷ 82 ∷ 79 ∷ 87 ∷ 32 ∷ 82 ∷ 79 ∷ 87 ∷ []; asks = withTwo compare }
+    record {
+      name = bytes "compare";
+      shown = bytes " ROW ROW";
+      does = bytes "which of two path rows is more specific, and how many steps agree";
+      asks = withTwo compare;
+    }
 
--- `rules`, ` EXPRESSION`: the file with other path rules (02, K6)
+-- the file with other path rules (02, K6)
 unfoldable pub rulesWord : Word
 rulesWord =
     record {
-      name = 114 ∷ 117 ∷ 108 ∷ 101 ∷ 115 ∷ [];
-      shown = 32 ∷ 69 ∷ 88 ∷ 80 ∷ 82 ∷ 69 ∷ 83 ∷ 83 ∷ 73 ∷ 79 ∷ 78 ∷ [];
+      name = bytes "rules";
+      shown = bytes " EXPRESSION";
+      does = bytes "the file with the path rules of an expression such as 'P*I*'";
       asks = withOne rules;
     }
 
--- `count`, ` QUERY`: how many lawful beginnings the query has (02, K11)
+-- how many lawful beginnings the query has (02, K11)
 unfoldable pub countWord : Word
 countWord =
-    record { name = 99 ∷ 111 ∷ 117 ∷ 110 ∷ 116 ∷ []; shown = 32 ∷ 81 ∷ 85 ∷ 69 ∷ 82 ∷ 89 ∷ []; asks = withOne countAsked }
+    record {
+      name = bytes "count";
+      shown = bytes " QUERY";
+      does = bytes "how many lawful beginnings a query follows";
+      asks = withOne countAsked;
+    }
+
+-- the usage text, as an answer and not as a complaint
+unfoldable pub helpWord : Word
+helpWord = record { name = bytes "help"; shown = bytes ""; does = bytes "this text"; asks = alone help }
 
 -- all words; a new one is added to the later ones
 unfoldable pub laterWords : List Word
-laterWords = rulesWord ∷ countWord ∷ []
+laterWords = rulesWord ∷ countWord ∷ helpWord ∷ []
 
 unfoldable pub words : List Word
 words = listWord ∷ oldWord ∷ newWord ∷ judgeWord ∷ compareWord ∷ laterWords

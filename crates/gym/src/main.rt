@@ -102,6 +102,7 @@ fn read_file(c: Command, text: &mut [u8]) -> usize
     match c {
         Command::Listings => io::read_full(0, text),
         Command::One(q) => match q {
+            Reply::Help => 0,
             Reply::Usage => 0,
             _ => io::read_full(0, text),
         },

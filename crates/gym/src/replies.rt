@@ -146,7 +146,16 @@ fn put_usage(out: &mut [u8]) -> usize
     put_bytes(
         out,
         0,
-        b"usage: gym WORD [ARGUMENT..] < FILE\n  list\n  old\n  new\n  judge QUERY ROW\n  compare ROW ROW\n  rules EXPRESSION\n  count QUERY\n",
+        b"usage: gym WORD [ARGUMENT..] < FILE
+  list              all listings, then the summary
+  old               the file in the old form, without kinds
+  new               the file in the form with kinds
+  judge QUERY ROW   the standing of a path row such as '10 3P1' for query 0, 1, ..
+  compare ROW ROW   which of two path rows is more specific, and how many steps agree
+  rules EXPRESSION  the file with the path rules of an expression such as 'P*I*'
+  count QUERY       how many lawful beginnings a query follows
+  help              this text
+",
     )
 }
 
@@ -201,6 +210,13 @@ pub fn put_reply<'s, 'o>(
         }
         Reply::Count(query) => {
             let size = put_count(text, query, out);
+            Put {
+                on: Stream::Out,
+                size,
+            }
+        }
+        Reply::Help => {
+            let size = put_usage(out);
             Put {
                 on: Stream::Out,
                 size,

@@ -16,6 +16,7 @@ pub enum Reply {
     Compare,
     Rules,
     Count(usize),
+    Help,
     Usage,
 }
 
@@ -119,6 +120,9 @@ fn later_command(count: usize, name: &[u8], first: &[u8]) -> Command
     }
     if is_same(name, b"count") {
         return with_one(count, count_asked(first));
+    }
+    if is_same(name, b"help") {
+        return alone(count, Command::One(Reply::Help));
     }
     Command::One(Reply::Usage)
 }

@@ -68,8 +68,7 @@ impl Path {
     }
 }
 
-/// The number of equal steps before the first difference, 0 for different starts (02, K7): the
-/// longest beginning that both paths have.
+/// How far two paths agree (02, K7): the steps of the longest beginning that both have.
 pub fn agree(p: &Path, q: &Path) -> usize {
     if p.start != q.start {
         return 0;
@@ -280,8 +279,8 @@ impl Graph {
         met.iter().any(|q| self.accepts.contains(q))
     }
 
-    /// Is there a step of p where r, with the same steps before, goes on by a preferred one, or ends
-    /// where that is preferred?
+    /// Does r cut p: do they share some first steps, and does r then take a step preferred to p's, or
+    /// end where ending is?
     fn cuts_a_step(&self, r: &Path, p: &Path) -> bool {
         (0..p.steps.len()).any(|i| {
             let at = if i == 0 { p.start } else { p.steps[i - 1].1 };
@@ -306,7 +305,7 @@ impl Graph {
     }
 }
 
-/// An ended path first, then label number, then scope; equal paths by mark.
+/// The order of a listing's rows (01, "The listing").
 fn listing_order(a: &Entry, b: &Entry) -> Ordering {
     for i in 0.. {
         match (a.0.steps.get(i), b.0.steps.get(i)) {
@@ -336,6 +335,21 @@ pub fn declarations(entries: &[Entry]) -> usize {
     seen.sort();
     seen.dedup();
     seen.len()
+}
+
+/// Who reads the declaration at a place of the rows (02, K5): the line `at`, then each scope of whose
+/// query for its kind and name some entry ends in it.
+pub fn readers(gym: &Gym, place: usize) -> Vec<u8> {
+    let graph = Graph::of(gym);
+    let (at, name, mark) = &graph.declarations[place];
+    let mut out = "at\n".to_string();
+    for start in 0..graph.scopes {
+        let entries = graph.entries(start, name);
+        if entries.iter().any(|(p, m)| (p.last(), m) == (*at, mark)) {
+            out += &format!("{start}\n");
+        }
+    }
+    out.into_bytes()
 }
 
 /// A query's listing.

@@ -1,4 +1,4 @@
-//! Reads a gym file from standard input and prints each query's listing, then the summary.
+//! Prints all listings of the gym file on standard input, and the summary, as `resolve` does.
 
 use std::io::{self, Read, Write};
 

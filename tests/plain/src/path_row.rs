@@ -19,8 +19,7 @@ pub struct PathRow {
     pub steps: Vec<Step>,
 }
 
-/// Which of two rows is more specific, and how many of their steps are equal before the first
-/// difference: 0 for different starts.
+/// Which of two rows is more specific, and how many steps they share from a common start.
 #[derive(Clone, Copy, Debug, PartialEq, Eq)]
 pub enum Compared {
     First(usize),

@@ -115,7 +115,7 @@ def kind_cases():
 
 
 def await_cases():
-    """An open pair is not made harmless by a row of its own label; the steps on the way to it are cut as always."""
+    """An open pair may matter though a row of its own label is there; the steps on the way to it are cut as always."""
     for opened, due in [("1 $", "-"), ("1 I", "-"), ("2 $", "2$"), ("2 I", "2I"), ("0 I", "0I"), ("0 $", "0$"), ("3 $", "-"), ("5 I", "-")]:
         seen("0 I 1 1 and 0 I 2 2, the name at 2, open %s" % opened, imports(s7=[opened]), "0 v a one " + due, "7 0I2")
     for opened, due in [("1 $", "1$"), ("1 I", "1I"), ("2 $", "2$"), ("2 I", "2I"), ("0 I", "0I")]:

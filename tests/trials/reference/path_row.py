@@ -36,7 +36,7 @@ def turns_of(edges):
 
 
 def equal_steps(p, q):
-    """How many steps of two paths, each its start and its steps, are equal in letter and scope before the first difference; 0 for different starts."""
+    """How many steps two paths, each its start and its steps, share from the start on, in letter and scope; none if they start apart."""
     return next((n for n, (a, b) in enumerate(zip(p[1], q[1])) if a != b), min(len(p[1]), len(q[1]))) if p[0] == q[0] else 0
 
 

@@ -1,5 +1,5 @@
-//! Reads a gym file from standard input and prints how many lawful beginnings a query has, or the
-//! refusal, as `gym count QUERY` does: `count QUERY`.
+//! `count QUERY`: how many lawful beginnings a query of the gym file on standard input has, or the
+//! refusal, as `gym count QUERY` prints it.
 
 use std::io::{self, Read};
 

@@ -1,6 +1,5 @@
-//! How many lawful beginnings a query follows (02, K11): the paths from its start, the empty one
-//! included, after which transitions alone can still lead to acceptance and none of whose steps is
-//! cut.
+//! How many lawful beginnings a query follows (02, K11): paths from its start, that of no step too,
+//! that the automaton can still accept some continuation of and none of whose steps is cut.
 
 use super::{bit, Search};
 use crate::gym::Edge;

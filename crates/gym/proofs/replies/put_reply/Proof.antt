@@ -1,6 +1,6 @@
 -- `gym::replies::put_reply` puts each reply, for its stream. Assumes nothing.
 use borrow.Author.Needs.{needs}
-use Rattle.gym.specs.declared.words.Reply.the-variants.{Old, New, Judge, Compare, Rules, Count, Usage}
+use Rattle.gym.specs.declared.words.Reply.the-variants.{Old, New, Judge, Compare, Rules, Count, Help, Usage}
 use Rattle.gym.specs.Said.{answered}
 use Rattle.gym.specs.Handed.{replyMeaning}
 use Rattle.gym.proofs.ReplyLaws.{reply-is}
@@ -49,6 +49,12 @@ enum-told-5 c = search needs
 put-usage-requires : tie.Need-put-usage-requires
 put-usage-requires c κs = search needs
 
+enum-told-6 : tie.Need-enum-told-6
+enum-told-6 c = search needs
+
+put-usage-requires-2 : tie.Need-put-usage-requires-2
+put-usage-requires-2 c κs = search needs
+
 same-length : tie.Need-same-length
 same-length c = search needs
 
@@ -96,7 +102,14 @@ same-length-7 c = search needs
 
 returns-7 : tie.Need-returns-7
 unfolding answered replyMeaning
-returns-7 c = let a = c .before .before .before .before .before .before .before .before .before .before .args in reply-is _ _ _ (a .q) Usage (a .first .now) (a .second .now) (a .text .now) (c .before .before .before .before .enum-told5 .given .1) (c .before .before .put-usage .ensures)
+returns-7 c = let a = c .before .before .before .before .before .before .before .before .before .before .args in reply-is _ _ _ (a .q) Help (a .first .now) (a .second .now) (a .text .now) (c .before .before .before .before .enum-told5 .given .1) (c .before .before .put-usage .ensures)
+
+same-length-8 : tie.Need-same-length-8
+same-length-8 c = search needs
+
+returns-8 : tie.Need-returns-8
+unfolding answered replyMeaning
+returns-8 c = let a = c .before .before .before .before .before .before .before .before .before .before .args in reply-is _ _ _ (a .q) Usage (a .first .now) (a .second .now) (a .text .now) (c .before .before .before .before .enum-told6 .given .1) (c .before .before .put-usage2 .ensures)
 
 pub put-reply-spec : {M : Type 1} → statement M
 put-reply-spec =
@@ -116,6 +129,8 @@ put-reply-spec =
     put-count-requires
     enum-told-5
     put-usage-requires
+    enum-told-6
+    put-usage-requires-2
     same-length
     returns
     same-length-2
@@ -129,4 +144,6 @@ put-reply-spec =
     same-length-6
     returns-6
     same-length-7
-    returns-7)
+    returns-7
+    same-length-8
+    returns-8)

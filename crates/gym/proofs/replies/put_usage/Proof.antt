@@ -1,8 +1,9 @@
 -- `gym::replies::put_usage` puts the usage text, which is made of the words. Assumes nothing.
 use borrow.Author.Needs.{needs}
 use mathlib.Core.List.{flatMap}
-use Rattle.gym.specs.Words.{listWord, oldWord, newWord, judgeWord, compareWord, rulesWord, countWord, laterWords, words}
-use Rattle.gym.specs.Said.{usageHead, usageLine, usageText}
+use Rattle.gym.specs.Text.{spaces, padded}
+use Rattle.gym.specs.Words.{listWord, oldWord, newWord, judgeWord, compareWord, rulesWord, countWord, helpWord, laterWords, words}
+use Rattle.gym.specs.Said.{usageLine, usageText}
 use Rattle.gym.proofs.ReplyLaws.{usage-replied}
 use Rattle.gym.proofs.replies.put_usage.Statement.{statement}
 use Rattle.gym.proofs.replies.put_usage.Tie as tie
@@ -17,7 +18,7 @@ same-length : tie.Need-same-length
 same-length c = search needs
 
 returns : tie.Need-returns
-unfolding usageText usageHead flatMap words usageLine listWord oldWord newWord judgeWord compareWord rulesWord countWord laterWords
+unfolding usageText flatMap words usageLine padded spaces listWord oldWord newWord judgeWord compareWord rulesWord countWord helpWord laterWords
 returns c = usage-replied _ _ _ (c .before .before .put-bytes .ensures)
 
 pub put-usage-spec : {M : Type 1} → statement M

@@ -1,9 +1,9 @@
 -- `gym::words::later_command` looks for the word in their sequence. Assumes nothing.
 use borrow.Author.Needs.{needs}
 use mathlib.Core.Path.{sym, _∙_}
-use Rattle.gym.specs.Words.{countAsked, rulesWord, countWord}
+use Rattle.gym.specs.Words.{countAsked, rulesWord, countWord, helpWord}
 use Rattle.gym.specs.Handed.{meaning, replyMeaning}
-use Rattle.gym.proofs.WordLaws.{one-same, as-rules, as-count, as-unknown}
+use Rattle.gym.proofs.WordLaws.{one-same, as-rules, as-count, as-help, as-unknown}
 use Rattle.gym.proofs.words.later_command.Statement.{statement}
 use Rattle.gym.proofs.words.later_command.Tie as tie
 
@@ -36,9 +36,22 @@ returns-2 : tie.Need-returns-2
 unfolding rulesWord countWord
 returns-2 c b = let a = c .before .before .before .before .before .before .before .before .before .before .args in c .with-one2 .ensures (a .first .now) b ∙ one-same _ (a .first .now) b (λ x. meaning _ x b) countAsked (c .before .count-asked .ensures b) ∙ sym (as-count (a .name .now) _ (sym (c .before .before .before .before .before .if1 .left) ∙ c .before .before .before .before .before .before .is-same .ensures) (sym (c .before .before .if2 .taken) ∙ c .before .before .before .is-same2 .ensures))
 
+slice-aggregate-is-same-3 : tie.Need-slice-aggregate-is-same-3
+slice-aggregate-is-same-3 c = search needs
+
+is-same-requires-3 : tie.Need-is-same-requires-3
+is-same-requires-3 c κs = search needs
+
+alone-requires : tie.Need-alone-requires
+alone-requires c κs = search needs
+
 returns-3 : tie.Need-returns-3
-unfolding meaning replyMeaning rulesWord countWord
-returns-3 c b = let a = c .before .before .before .before .before .before .before .before .args in sym (as-unknown (a .name .now) _ (sym (c .before .before .before .if1 .left) ∙ c .before .before .before .before .is-same .ensures) (sym (c .if2 .left) ∙ c .before .is-same2 .ensures))
+unfolding meaning replyMeaning rulesWord countWord helpWord
+returns-3 c b = let a = c .before .before .before .before .before .before .before .before .before .before .before .before .args in c .alone .ensures (a .first .now) b ∙ sym (as-help (a .name .now) _ (sym (c .before .before .before .before .before .before .before .if1 .left) ∙ c .before .before .before .before .before .before .before .before .is-same .ensures) (sym (c .before .before .before .before .if2 .left) ∙ c .before .before .before .before .before .is-same2 .ensures) (sym (c .before .if3 .taken) ∙ c .before .before .is-same3 .ensures))
+
+returns-4 : tie.Need-returns-4
+unfolding meaning replyMeaning rulesWord countWord helpWord
+returns-4 c b = let a = c .before .before .before .before .before .before .before .before .before .before .before .args in sym (as-unknown (a .name .now) _ (sym (c .before .before .before .before .before .before .if1 .left) ∙ c .before .before .before .before .before .before .before .is-same .ensures) (sym (c .before .before .before .if2 .left) ∙ c .before .before .before .before .is-same2 .ensures) (sym (c .if3 .left) ∙ c .before .is-same3 .ensures))
 
 pub later-command-spec : {M : Type 1} → statement M
 later-command-spec =
@@ -53,4 +66,8 @@ later-command-spec =
     count-asked-requires
     with-one-requires-2
     returns-2
-    returns-3)
+    slice-aggregate-is-same-3
+    is-same-requires-3
+    alone-requires
+    returns-3
+    returns-4)
