@@ -68,9 +68,12 @@ module _ (cells block : List ℕ) (d : DeclarationRow) (known : Stands cells blo
   reader-asked s h = record { read = known .read; starts = h; kind = kind-small }
 
   -- as many scopes as the board says are asked
+  pub scopes-counted : scopesCell block ≡ scopesOf cells
+  scopes-counted = scopes-same cells (known .read) block (known .made)
+
   pub scopes-all : scopesCell block ≡ graphOf cells .scopes
   unfolding graphOf
-  scopes-all = scopes-same cells (known .read) block (known .made)
+  scopes-all = scopes-counted
 
   -- the answer of the ask is that of the declaration's query
   pub reader-told : (s : ℕ) (ask : List ℕ) → Asking cells block (record { start = s; name = d .name }) ask

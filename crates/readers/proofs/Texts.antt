@@ -24,70 +24,75 @@ scope-puts s b c d e f = puts-then b c d (numberText s) (10 ∷ []) e f
 keep-append : {A : Type 0} (f : A → Bool) (l k : List A) → keep f (l ++ k) ≡ keep f l ++ keep f k
 unfolding keep
 keep-append f [] k = refl
-keep-append {A} f (x ∷ l) k = by (f x)
+keep-append {A} f (x ∷ l) k = by (f x) (keep-append f l k)
   where
-    by : (t : Bool)
+    by : (t : Bool) → keep f (l ++ k) ≡ keep f l ++ keep f k
         → _≡_ {A = List A} (elim t as (λ _. List A) [ true ↦ x ∷ keep f (l ++ k) | false ↦ keep f (l ++ k) ])
         ((elim t as (λ _. List A) [ true ↦ x ∷ keep f l | false ↦ keep f l ]) ++ keep f k)
-    by true = ap (λ (z : List A). x ∷ z) (keep-append f l k)
-    by false = keep-append f l k
+    by true e = ap (λ (z : List A). x ∷ z) e
+    by false e = e
 
-text-append : (xs ys : List ℕ) → readersText (xs ++ ys) ≡ readersText xs ++ flatMap scopeLine ys
-unfolding readersText
-text-append xs ys = ap (λ (z : List ℕ). 97 ∷ 116 ∷ 10 ∷ z) (lines xs)
-  where
-    lines : (l : List ℕ) → flatMap scopeLine (l ++ ys) ≡ flatMap scopeLine l ++ flatMap scopeLine ys
-    lines [] = refl
-    lines (x ∷ l) =
-        ap (λ (z : List ℕ). scopeLine x ++ z) (lines l) ∙ sym (append-assoc (scopeLine x) (flatMap scopeLine l) (flatMap scopeLine ys))
+lines-append : (l k : List ℕ) → flatMap scopeLine (l ++ k) ≡ flatMap scopeLine l ++ flatMap scopeLine k
+unfolding flatMap
+lines-append [] k = refl
+lines-append (x ∷ l) k =
+    ap (λ (z : List ℕ). scopeLine x ++ z) (lines-append l k) ∙ sym (append-assoc (scopeLine x) (flatMap scopeLine l) (flatMap scopeLine k))
 
--- the text of those of the first n scopes that pass a test
+-- the lines of those of the first n scopes that pass a test
 module _ (test : ℕ → Bool) where
-  abbrev pub textTo : ℕ → List ℕ
-  textTo n = readersText (keep test (numbersBelow n))
+  abbrev pub linesTo : ℕ → List ℕ
+  linesTo n = flatMap scopeLine (keep test (numbersBelow n))
 
   -- one scope more
   kept-one : (n : ℕ) (t : Bool) → test n ≡ t
       → _≡_ {A = List ℕ} (keep test (n ∷ [])) (elim t as (λ _. List ℕ) [ true ↦ n ∷ [] | false ↦ [] ])
   unfolding keep
-  kept-one n t e = rw e
+  kept-one n t e = rw (e, keep)
 
-  more : (n : ℕ) → textTo (n + 1) ≡ textTo n ++ flatMap scopeLine (keep test (n ∷ []))
+  more : (n : ℕ) → linesTo (n + 1) ≡ linesTo n ++ flatMap scopeLine (keep test (n ∷ []))
   unfolding numbersBelow
   more n =
-      ap textTo (add-one n)
-      ∙ ap readersText (keep-append test (numbersBelow n) (n ∷ []))
-      ∙ text-append (keep test (numbersBelow n)) (keep test (n ∷ []))
+      ap linesTo (add-one n)
+      ∙ ap (flatMap scopeLine) (keep-append test (numbersBelow n) (n ∷ []))
+      ∙ lines-append (keep test (numbersBelow n)) (keep test (n ∷ []))
 
-  pub text-first : (b c : Buf) → c ≡ puts b (97 ∷ 116 ∷ 10 ∷ []) → c ≡ puts b (textTo 0)
-  unfolding numbersBelow keep readersText
-  text-first b c e = e
+  pub lines-none : (b : Buf) → b ≡ puts b (linesTo 0)
+  unfolding numbersBelow keep flatMap puts
+  lines-none b = refl
 
-  pub text-passed : (n : ℕ) (b c : Buf) → test n ≡ false → c ≡ puts b (textTo n) → c ≡ puts b (textTo (n + 1))
-  text-passed n b c f e =
-      e ∙ ap (puts b) (sym (more n ∙ ap (λ (l : List ℕ). textTo n ++ flatMap scopeLine l) (kept-one n false f) ∙ append-nil (textTo n)))
+  pub lines-passed : (n : ℕ) (b c : Buf) → test n ≡ false → c ≡ puts b (linesTo n) → c ≡ puts b (linesTo (n + 1))
+  unfolding flatMap
+  lines-passed n b c f e =
+      e ∙ ap (puts b) (sym (more n ∙ ap (λ (l : List ℕ). linesTo n ++ flatMap scopeLine l) (kept-one n false f) ∙ append-nil (linesTo n)))
 
-  pub text-read : (n : ℕ) (b c d : Buf) → test n ≡ true → c ≡ puts b (textTo n) → d ≡ puts c (scopeLine n) → d ≡ puts b (textTo (n + 1))
-  text-read n b c d t e g =
-      puts-then b c d (textTo n) (scopeLine n) e g
+  pub lines-read : (n : ℕ) (b c d : Buf) → test n ≡ true → c ≡ puts b (linesTo n) → d ≡ puts c (scopeLine n) → d ≡ puts b (linesTo (n + 1))
+  unfolding flatMap
+  lines-read n b c d t e g =
+      puts-then b c d (linesTo n) (scopeLine n) e g
       ∙ ap (puts b)
       (sym (more n
-      ∙ ap (λ (l : List ℕ). textTo n ++ flatMap scopeLine l) (kept-one n true t)
-      ∙ ap (λ (l : List ℕ). textTo n ++ l) (append-nil (scopeLine n))))
+      ∙ ap (λ (l : List ℕ). linesTo n ++ flatMap scopeLine l) (kept-one n true t)
+      ∙ ap (λ (l : List ℕ). linesTo n ++ l) (append-nil (scopeLine n))))
+
+  -- the names line before them
+  pub text-whole : (n m : ℕ) (b c d : Buf) → n ≡ m → c ≡ puts b (97 ∷ 116 ∷ 10 ∷ []) → d ≡ puts c (linesTo n) → d ≡ puts b (readersText (keep test (numbersBelow m)))
+  unfolding readersText
+  text-whole n m b c d all e f = puts-then b c d (97 ∷ 116 ∷ 10 ∷ []) (linesTo n) e f ∙ ap (λ (k : ℕ). puts b (97 ∷ 116 ∷ 10 ∷ linesTo k)) all
 
 -- a scope's line has three bytes at most, so 64 scopes have 192
 line-short : (s : ℕ) → s < 64 → length (scopeLine s) ≤ 3
 unfolding scopeLine
 line-short s h = let n = length-below 1 s (omega arith) in let l = length-append (numberText s) (10 ∷ []) in omega arith
 
+lines-short : (l : List ℕ) → ((s : ℕ) → s ∈ l → s < 64) → length (flatMap scopeLine l) ≤ 3 * length l
+unfolding flatMap
+lines-short [] h = omega arith
+lines-short (s ∷ l) h =
+    let one = line-short s (h s here) in
+    let rest = lines-short l (λ x m. h x (there m)) in
+    let sum = length-append (scopeLine s) (flatMap scopeLine l) in
+    omega arith
+
 pub text-short : (scopes : List ℕ) → ((s : ℕ) → s ∈ scopes → s < 64) → length (readersText scopes) ≤ 3 + 3 * length scopes
 unfolding readersText
-text-short scopes h = let l = lines scopes h in omega arith
-  where
-    lines : (l : List ℕ) → ((s : ℕ) → s ∈ l → s < 64) → length (flatMap scopeLine l) ≤ 3 * length l
-    lines [] h = omega arith
-    lines (s ∷ l) h =
-        let one = line-short s (h s here) in
-        let rest = lines l (λ x m. h x (there m)) in
-        let sum = length-append (scopeLine s) (flatMap scopeLine l) in
-        omega arith
+text-short scopes h = let l = lines-short scopes h in omega arith

@@ -33,15 +33,9 @@ fn reads(table: &[u64], block: &[u64], d: DeclarationRow, declared: u64, s: u64)
     requires scope { ⌜ s < scopesOf (now table) ⌝ }
     ensures answer { λ r. ⌜ r ≡ endsAt (language (rulesOf (now (table .entry)))) (graphOf (now (table .entry))) (queryFor (language (rulesOf (now (table .entry)))) (declarationOn (now (table .entry)) d) s) (d .at) ⌝ }
 {
-    let ask = ask_from(
-        table,
-        block,
-        QueryRow {
-            start: s,
-            name: d.name,
-        },
-        declared,
-    );
+    let name = d.name;
+    let query = QueryRow { start: s, name };
+    let ask = ask_from(table, block, query, declared);
     is_end(table, block, &ask, d.at)
 }
 
