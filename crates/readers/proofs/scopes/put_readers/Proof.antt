@@ -27,7 +27,7 @@ test cells d s = endsAt (language (rulesOf cells)) (graphOf cells) (queryFor (la
 
 abbrev Inv-loop : tie.InvT-loop
 Inv-loop table block d out₀ declared count n₀ next₀ out n next =
-    (length out ≡ length out₀) × (next ≤ count) × (_≡_ {A = Buf} (out, n) (puts (out₀, n₀) (linesTo (test table d) next)))
+    (length out ≡ length out₀) × (_≡_ {A = Buf} (out, n) (puts (out₀, n₀) (linesTo (test table d) next))) × (next ≤ count)
 
 abbrev μ-loop : tie.MeasureT-loop
 μ-loop table block d out₀ declared count n₀ next₀ out n next = count - next
@@ -48,7 +48,7 @@ put-bytes-requires : tie.Need-put-bytes-requires Inv-loop μ-loop
 put-bytes-requires c κs = search needs
 
 loop-holds : tie.Need-loop-holds Inv-loop μ-loop
-loop-holds c = let a = c .before .before .before .before .before .before .before .before .before .before .before .args in (refl, omega arith, lines-none (test (a .table .now) (a .d)) _)
+loop-holds c = let a = c .before .before .before .before .before .before .before .before .before .before .before .args in (refl, lines-none (test (a .table .now) (a .d)) _, omega arith)
 
 add-next : tie.Need-add-next Inv-loop μ-loop
 add-next c = omega arith
@@ -68,7 +68,7 @@ loop-again : tie.Need-loop-again Inv-loop μ-loop
 loop-again c =
     let a = c .before .before .before .before .before .before .before .before .before .before .before .before .before .before .before .args in
     let l = c .before .before .before .loop in
-    (l .inv .0, omega arith, lines-passed (test (a .table .now) (a .d)) (l .next) _ _ (sym (c .before .reads .ensures) ∙ not-true _ (c .if1 .taken)) (l .inv .2))
+    (l .inv .0, lines-passed (test (a .table .now) (a .d)) (l .next) _ _ (sym (c .before .reads .ensures) ∙ not-true _ (c .if1 .taken)) (l .inv .1), omega arith)
 
 put-scope-requires : tie.Need-put-scope-requires Inv-loop μ-loop
 put-scope-requires c κs = search needs
@@ -81,9 +81,9 @@ loop-again-2 c =
     let a = c .before .before .before .before .before .before .before .before .before .before .before .before .before .before .before .before .before .before .before .args in
     let l = c .before .before .before .before .before .before .before .loop in (
       c .before .before .put-scope .kept .0 ∙ l .inv .0,
-      omega arith,
-      lines-read (test (a .table .now) (a .d)) (l .next) _ _ _ (sym (c .before .before .before .before .before .reads .ensures) ∙ not-false _ (c .before .before .before .before .if1 .left)) (l .inv .2)
+      lines-read (test (a .table .now) (a .d)) (l .next) _ _ _ (sym (c .before .before .before .before .before .reads .ensures) ∙ not-false _ (c .before .before .before .before .if1 .left)) (l .inv .1)
           (c .before .before .put-scope .ensures),
+      omega arith,
     )
 
 same-length : tie.Need-same-length Inv-loop μ-loop
@@ -97,7 +97,7 @@ returns c =
     let all : l .next ≡ c .before .before .before .before .before .before .before .scope-count .result = omega arith in
     text-whole (test (a .table .now) (a .d)) (l .next) _ _ _ _
     (all ∙ c .before .before .before .before .before .before .before .scope-count .ensures ∙ scopes-all (a .table .now) (a .block .now) (a .d) (c .before .before .before .before .before .before .before .before .before .before .before .before .before .pre))
-    (c .before .before .before .before .put-bytes .ensures) (l .inv .2)
+    (c .before .before .before .before .put-bytes .ensures) (l .inv .1)
 
 pub put-readers-spec : {M : Type 1} → statement M
 put-readers-spec =

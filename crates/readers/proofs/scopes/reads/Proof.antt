@@ -1,6 +1,7 @@
 -- `reads` meets its contract. Assumes nothing.
+use native.Mathlib.Omega.{arith}
 use borrow.Author.Needs.{needs}
-use Rattle.readers.proofs.Asked.{scope-small, reader-asked, reader-told}
+use Rattle.readers.proofs.Asked.{scopes-few, scope-small, reader-asked, reader-told}
 use Rattle.readers.proofs.scopes.reads.Statement.{statement}
 use Rattle.readers.proofs.scopes.reads.Tie as tie
 
@@ -16,7 +17,10 @@ slice-aggregate-is-end c = search needs
 is-end-requires : tie.Need-is-end-requires
 is-end-requires c κs =
     let a = c .before .before .before .before .before .args in
-    (c .before .ask-from .ensures .ready, scope-small (a .table .now) (a .block .now) (a .d) (c .before .before .before .before .before .pre .0))
+    let p = c .before .before .before .before .before .pre in
+    let most = scopes-few (a .table .now) (p .0 .read) in
+    let at = scope-small (a .table .now) (a .block .now) (a .d) (p .0) in
+    (c .before .ask-from .ensures .ready, omega arith)
 
 returns : tie.Need-returns
 returns c =
