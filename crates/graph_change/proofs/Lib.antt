@@ -1,5 +1,4 @@
 -- Laws of the definitions of specs/, for this crate and those above it.
-pub mod Sequences
 pub mod Keys
 pub mod KeyLaws
 pub mod RowLaws

@@ -16,10 +16,11 @@ use Rattle.graph_file.specs.Format.{sectionAt}
 use Rattle.graph_file.specs.Admission.{Row, rowOf, keyLess}
 use Rattle.graph_file.specs.Formed.{cellsOf, cellsFrom, tableOf, replaced}
 use Rattle.graph_file.proofs.DecodePlaces.{row-first}
+use Rattle.graph_file.specs.Line.{startsWith}
 use Rattle.graph_table.specs.Sections.{leading, startOf}
 use Rattle.graph_change.specs.declared.place.Place.the-variants.{There, Free}
 use Rattle.graph_change.specs.Cells.{spliced}
-use Rattle.graph_change.specs.Place.{sameKey, isOf, isBefore, leadingRows, placeFor, hasKey, placed, placeIn}
+use Rattle.graph_change.specs.Place.{sameKey, isBefore, leadingRows, placeFor, hasKey, placed, placeIn}
 use Rattle.graph_change.specs.Changed.{inserted, removed, withRow, withoutAt, withoutRow, withRows}
 use Rattle.graph_change.specs.Promises.{Ascending, NoneLike, Found, FiveValues, RowPut, RowTaken, RowsPut, PlaceFound}
 use Rattle.graph_change.proofs.Leading.{stop-row, pass-rows, leading-is}
@@ -98,26 +99,26 @@ module _ (form : ℕ) (rows : ℕ → List Row) (five : FiveValues rows) (k : �
       ∙ ap (λ (l : List ℕ). A ++ new ++ l) (ap (drop (p + c)) (sym (append-assoc A B C)) ∙ drop-at (A ++ B) C (p + c) n)
       ∙ append-assoc A new C
 
-  of-own : (l : List ℕ) → isOf k (k ∷ l) ≡ true
-  unfolding isOf
+  of-own : (l : List ℕ) → startsWith k (k ∷ l) ≡ true
+  unfolding startsWith
   of-own l = eq-eqb k k refl
 
-  of-later : (s : ℕ) → suc k ≤ s → (l : List ℕ) → isOf k (s ∷ l) ≡ false
-  unfolding isOf
+  of-later : (s : ℕ) → suc k ≤ s → (l : List ℕ) → startsWith k (s ∷ l) ≡ false
+  unfolding startsWith
   of-later s a l = ne-eqb s k (λ e. omega arith)
 
   -- the section's rows replaced
-  section-size : leadingRows (isOf k) (drop (startOf k (tableOf form rows)) (tableOf form rows)) ≡ length (cellsOf k (rows k))
+  section-size : leadingRows (startsWith k) (drop (startOf k (tableOf form rows)) (tableOf form rows)) ≡ length (cellsOf k (rows k))
   section-size =
-      let p = pass-rows (isOf k) k (rows k) back (five k h) (λ row m l. of-own (row ++ l)) in
-      let s = front-stops (isOf k) (suc k) back back-front of-later in
-      ap (leadingRows (isOf k)) section-on ∙ p ∙ omega arith
+      let p = pass-rows (startsWith k) k (rows k) back (five k h) (λ row m l. of-own (row ++ l)) in
+      let s = front-stops (startsWith k) (suc k) back back-front of-later in
+      ap (leadingRows (startsWith k)) section-on ∙ p ∙ omega arith
 
   rows-replaced : (new : List Row) → withRows k (cellsOf k new) (tableOf form rows) ≡ tableOf form (replaced k new rows)
   unfolding withRows
   rows-replaced new =
-      ap (λ (l : List ℕ). spliced (startOf k (tableOf form rows)) (leadingRows (isOf k) (drop (startOf k (tableOf form rows)) (tableOf form rows))) (cellsOf k new) l) table-is
-      ∙ splice-at front (cellsOf k (rows k)) back (cellsOf k new) (startOf k (tableOf form rows)) (leadingRows (isOf k) (drop (startOf k (tableOf form rows)) (tableOf form rows))) start-is section-size
+      ap (λ (l : List ℕ). spliced (startOf k (tableOf form rows)) (leadingRows (startsWith k) (drop (startOf k (tableOf form rows)) (tableOf form rows))) (cellsOf k new) l) table-is
+      ∙ splice-at front (cellsOf k (rows k)) back (cellsOf k new) (startOf k (tableOf form rows)) (leadingRows (startsWith k) (drop (startOf k (tableOf form rows)) (tableOf form rows))) start-is section-size
       ∙ sym (table-with new)
 
   -- a row's place
@@ -196,9 +197,9 @@ module _ (form : ℕ) (rows : ℕ → List Row) (five : FiveValues rows) (k : �
 
     key-none : Front (suc k) back → hasKey k row back ≡ false
     unfolding hasKey Front
-    key-none (inl e) = ap (λ (l : List ℕ). leb 6 (length l) && (isOf k l && sameKey (sectionAt k .key) (rowOf l) row)) e
+    key-none (inl e) = ap (λ (l : List ℕ). leb 6 (length l) && (startsWith k l && sameKey (sectionAt k .key) (rowOf l) row)) e
     key-none (inr f) =
-        ap (λ (l : List ℕ). leb 6 (length l) && (isOf k l && sameKey (sectionAt k .key) (rowOf l) row)) (f .whole)
+        ap (λ (l : List ℕ). leb 6 (length l) && (startsWith k l && sameKey (sectionAt k .key) (rowOf l) row)) (f .whole)
         ∙ rw (of-later (f .section) (f .from) (f .row ++ f .rest)) (and-no (leb 6 (length (f .section ∷ (f .row ++ f .rest)))))
       where
         and-no : (b : Bool) → (b && false) ≡ false

@@ -95,7 +95,7 @@ pub record ChangedAt (k : ℕ) (new : List Row) (cells changed : List ℕ) : Typ
   pub own : rowsIn k changed ≡ new
   pub others : (j : ℕ) → j < 9 → ¬ (j ≡ k) → rowsIn j changed ≡ rowsIn j cells
 
--- the rows of a formed table's sections, and how many scopes they tell of
+-- how many scopes a table has, by its rows
 abbrev pub scopesAt : List ℕ → ℕ
 scopesAt cells = scopesIn (λ k. rowsIn k cells)
 
