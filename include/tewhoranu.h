@@ -52,7 +52,7 @@ extern "C" {
 #define TEWHORANU_VERSION 1
 
 /* Refusals. The sender of a file causes 1 to 6 (the host, where it has a table of its own written),
- * the writer of a path row 8, the writer of an expression 12 and 13, the host 7, 9 and 14. */
+ * the writer of a path row 8, the writer of an expression 12 and 13, the host 7, 9, 11 and 14. */
 #define TEWHORANU_TOO_LONG 1         /* the file has more than TEWHORANU_TEXT bytes */
 #define TEWHORANU_MALFORMED 2        /* a line, or a row of a graph table, not of its section's form;
                                         a section missing or out of its place */
@@ -66,6 +66,7 @@ extern "C" {
 #define TEWHORANU_NO_PATH_ROW 8      /* a path row not of its form */
 #define TEWHORANU_NO_ROOM 9          /* an output longer than the memory lent for it, or more steps
                                         than records */
+#define TEWHORANU_NO_DECLARATION 11  /* the file has no declaration row at this place */
 #define TEWHORANU_NO_EXPRESSION 12   /* not an expression over the file's labels, or a longer one than
                                         the limits below allow */
 #define TEWHORANU_TOO_MANY_STATES 13 /* the smallest table for the expression has more than
@@ -87,11 +88,12 @@ extern "C" {
 #define TEWHORANU_UNREACHED 2 /* neither */
 
 /* Sizes that always serve: cells of a graph table, bytes of a file, records of a step table, bytes
- * of a summary. */
+ * of a summary, bytes of a declaration's readers. */
 #define TEWHORANU_CELLS 12271
 #define TEWHORANU_TEXT 32768
 #define TEWHORANU_STEPS 63
 #define TEWHORANU_SUMMARY 64
+#define TEWHORANU_READERS 195
 
 /* What the program lends for a listing. No size serves every listing. */
 #define TEWHORANU_LISTING 65536
@@ -231,6 +233,8 @@ static inline const char *tewhoranu_refusal_text(uint64_t answer)
         return "a path row is not of its form";
     case TEWHORANU_NO_ROOM:
         return "the memory lent is too short for the output or the steps";
+    case TEWHORANU_NO_DECLARATION:
+        return "the file has no declaration at this place";
     case TEWHORANU_NO_EXPRESSION:
         return "not an expression over the file's labels, or past 64 bytes or ten letters";
     case TEWHORANU_TOO_MANY_STATES:
@@ -341,6 +345,15 @@ uint64_t tewhoranu_to_new(const uint8_t *text, size_t text_length, uint8_t *out,
  * needs more than TEWHORANU_MOST_STATES states, then 9. */
 uint64_t tewhoranu_rules(const uint8_t *text, size_t text_length, const uint8_t *expression,
                          size_t expression_length, uint8_t *out, size_t out_length);
+
+/* Writes who sees a declaration, given its place among the file's declaration rows, counted from 0:
+ * the line `at`, then on a line each, ascending, the scopes from which a query for its kind and name
+ * has an entry for this very declaration. Every scope is asked, whether or not the file has a query
+ * there.
+ * Answers 64 and the number of bytes, at most TEWHORANU_READERS; bytes behind them stay as they were.
+ * Refuses by 1 to 6 as tewhoranu_read does, then 11 for a place past the rows, then 9. */
+uint64_t tewhoranu_readers(const uint8_t *text, size_t text_length, size_t place, uint8_t *out,
+                           size_t out_length);
 
 #ifdef __cplusplus
 }

@@ -66,6 +66,7 @@ static int refused_with(size_t length, const char *old, const char *new, uint64_
         && tewhoranu_to_old(changed, length, out, sizeof out) == number
         && tewhoranu_to_new(changed, length, out, sizeof out) == number
         && tewhoranu_rules(changed, length, bytes("P)"), 2, out, sizeof out) == number
+        && tewhoranu_readers(changed, length, 4, out, sizeof out) == number
         && tewhoranu_compare(changed, length, bytes("1 2"), 3, bytes("1 2"), 3, steps, 1, others, 1) == number
         && tewhoranu_name_sought(changed, length, 0, &place) == 0 && place == 7 && out[0] == 'x';
 }
@@ -141,6 +142,18 @@ static int follows(size_t length, const char *listing)
 static uint64_t ruled(size_t length, const char *expression, size_t room)
 {
     return tewhoranu_rules(text, length, bytes(expression), strlen(expression), out, room);
+}
+
+/* Are these the readers of the declaration at a place, in a buffer of their length, and 9 in one a byte less? */
+static int seen_from(const char *gym, size_t length, size_t place, const char *lines)
+{
+    size_t size = strlen(lines);
+
+    memset(out, 'x', size + 1);
+    if (tewhoranu_readers(bytes(gym), length, place, out, size - 1) != TEWHORANU_NO_ROOM || out[0] != 'x')
+        return 0;
+    return tewhoranu_readers(bytes(gym), length, place, out, size) == TEWHORANU_DONE + size && memcmp(out, lines, size) == 0
+        && out[size] == 'x';
 }
 
 /* Each refusal that the header has words for. */
@@ -292,6 +305,16 @@ int main(int argc, char **argv)
     EXPECT(ruled(length, "Z", sizeof out) == TEWHORANU_NO_EXPRESSION);
     EXPECT(ruled(length - 1, "", 0) == TEWHORANU_MALFORMED && ruled(TEWHORANU_TEXT + 1, "", 0) == TEWHORANU_TOO_LONG);
     EXPECT(out[0] == 'x');
+
+    /* who sees each declaration of the example; places past its rows; kinds apart, and the later turn */
+    EXPECT(seen_from((const char *)text, length, 0, "at\n0\n1\n3\n") && seen_from((const char *)text, length, 1, "at\n1\n3\n"));
+    EXPECT(seen_from((const char *)text, length, 2, "at\n2\n") && seen_from((const char *)text, length, 3, "at\n2\n4\n"));
+    out[0] = 'x';
+    EXPECT(tewhoranu_readers(text, length, 4, out, sizeof out) == TEWHORANU_NO_DECLARATION);
+    EXPECT(tewhoranu_readers(text, length, (size_t)-1, out, 0) == TEWHORANU_NO_DECLARATION);
+    EXPECT(tewhoranu_readers(text, length - 1, 4, out, 0) == TEWHORANU_MALFORMED && out[0] == 'x');
+    EXPECT(seen_from(kinds, strlen(kinds), 0, "at\n0\n") && seen_from(kinds, strlen(kinds), 1, "at\n0\n"));
+    EXPECT(seen_from(turns, strlen(turns), 0, "at\n0\n1\n") && seen_from(turns, strlen(turns), 1, "at\n2\n"));
 
     /* the number beside a listing: a file with turns, and one with more beginnings than are told */
     EXPECT(!tewhoranu_refused(tewhoranu_listing_counted(bytes(turns), strlen(turns), 0, out, sizeof out, &place)) && place == 2);

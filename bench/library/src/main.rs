@@ -1,6 +1,6 @@
 //! Calls one function of our library, or of the plain implementation, on a gym file, so many times over: bench/run counts the instructions of
-//! both. `library (ours|plain) (read|write|listing|listing_counted|summary|rules) FILE TIMES`. Prints a sum over what was written, which must be the same
-//! on both sides.
+//! both. `library (ours|plain) (read|write|listing|listing_counted|summary|rules|readers) FILE TIMES`. Prints a sum over what was written, which must be
+//! the same on both sides.
 
 use plain::random::{expression, Rng};
 use std::{env, fs};
@@ -52,6 +52,15 @@ fn summary(ours: bool, text: &[u8], out: &mut [u8]) -> usize {
     }
 }
 
+/// Who sees a declaration, by its place.
+fn readers(ours: bool, text: &[u8], place: usize, out: &mut [u8]) -> usize {
+    if ours {
+        tewhoranu::readers(text, place, out).unwrap_or(0)
+    } else {
+        plain::answers::readers(text, place, out).unwrap_or(0)
+    }
+}
+
 /// How many expressions are drawn over a file's labels, from one seed.
 const EXPRESSIONS: usize = 100;
 
@@ -88,6 +97,7 @@ fn main() {
     let mut out = vec![0; tewhoranu::LISTING];
     let cells = read(ours, &text, &mut table);
     let queries = text.split(|&b| b == b'\n').rev().skip(1).take_while(|l| l[0].is_ascii_digit()).count();
+    let places = plain::gym::Gym::parse(&text).map_or(0, |gym| gym.declarations.len());
     let expressions = drawn(&text);
     let mut total: u64 = 0;
     for _ in 0..times {
@@ -112,6 +122,10 @@ fn main() {
                 let n = summary(ours, &text, &mut out);
                 sum(out[..n].iter().map(|&b| b.into()))
             }
+            "readers" => (0..places).fold(0, |s: u64, place| {
+                let n = readers(ours, &text, place, &mut out);
+                s.wrapping_add(sum(out[..n].iter().map(|&b| b.into())))
+            }),
             "rules" => rules(ours, &text, &expressions, &mut out),
             other => panic!("no function {other}"),
         };

@@ -26,7 +26,8 @@ use Rattle.conversion.specs.Conversion.{textOf, oldOf, newOf}
 use Rattle.ruled.specs.Ruled.{ruledText, textBy, ruledOf}
 use Rattle.printing.specs.Printed.{programText, outcomeText}
 use Rattle.beginnings.specs.Beginnings.{countFor}
-use Rattle.gym.specs.Words.{Asked, list, old, new, judge, compare, rules, count, help, usage, Word, alone, withOne, withTwo, queryAsked, byQuery, judgeAsked, countAsked, listWord, oldWord, newWord, judgeWord, compareWord, rulesWord, countWord, helpWord, laterWords, words, sameBytes, askedOf, asked}
+use Rattle.readers.specs.Readers.{readersFor}
+use Rattle.gym.specs.Words.{Asked, list, old, new, judge, compare, rules, count, readers, help, usage, Word, alone, withOne, withTwo, queryAsked, byQuery, judgeAsked, countAsked, readersAsked, listWord, oldWord, newWord, judgeWord, compareWord, rulesWord, countWord, readersWord, helpWord, laterWords, words, sameBytes, askedOf, asked}
 use Rattle.gym.specs.Said.{Said, judgeLine, compareLine, countLine, answered, said}
 use Rattle.gym.specs.Handed.{arguments, handed}
 use Rattle.gym.specs.Promises.{wordBytes, inputBytes, wordsRead, ReadEnough}
@@ -57,7 +58,7 @@ module _ (input : List ℕ) where
       by (cut h e) = long (take inputBytes input) (omega arith) ∙ sym (long input (omega arith))
 
   pub input-enough : (x : Asked) → answered x (take inputBytes input) ≡ answered x input
-  unfolding answered programText oldOf newOf textOf judgeLine judgeAnswer compareLine compareAnswer ruledOf countLine countFor
+  unfolding answered programText oldOf newOf textOf judgeLine judgeAnswer compareLine compareAnswer ruledOf countLine countFor readersFor
   input-enough list = rw input-read
   input-enough old = rw input-read
   input-enough new = rw input-read
@@ -65,6 +66,7 @@ module _ (input : List ℕ) where
   input-enough (compare a b) = rw input-read
   input-enough (rules expression) = rw input-read
   input-enough (count i) = rw input-read
+  input-enough (readers i) = rw input-read
   input-enough help = refl
   input-enough usage = refl
 
@@ -158,6 +160,10 @@ module _ (input : List ℕ) where
   unfolding countAsked
   count-read q = ap saying (query-cut count q)
 
+  readers-read : (q : List ℕ) → saying (readersAsked (take wordBytes q)) ≡ saying (readersAsked q)
+  unfolding readersAsked
+  readers-read q = ap saying (query-cut readers q)
+
   -- the arguments that are read
   abbrev read : List (List ℕ) → List (List ℕ)
   read more = arguments (length more) (take wordBytes (getD more 0 [])) (take wordBytes (getD more 1 []))
@@ -198,16 +204,17 @@ module _ (input : List ℕ) where
         by false = rest
 
     words-enough : Enough words
-    unfolding words listWord oldWord newWord judgeWord compareWord rulesWord countWord helpWord laterWords askedOf
+    unfolding words listWord oldWord newWord judgeWord compareWord rulesWord countWord readersWord helpWord laterWords askedOf
     words-enough =
         one-more listWord (oldWord ∷ newWord ∷ judgeWord ∷ compareWord ∷ laterWords) (omega arith) (alone-read list more)
         (one-more oldWord (newWord ∷ judgeWord ∷ compareWord ∷ laterWords) (omega arith) (alone-read old more)
         (one-more newWord (judgeWord ∷ compareWord ∷ laterWords) (omega arith) (alone-read new more)
         (one-more judgeWord (compareWord ∷ laterWords) (omega arith) (two-read judgeAsked query-read more)
         (one-more compareWord laterWords (omega arith) (two-read compare compare-rows more)
-        (one-more rulesWord (countWord ∷ helpWord ∷ []) (omega arith) (one-read rules rules-expression more)
-        (one-more countWord (helpWord ∷ []) (omega arith) (one-read countAsked count-read more)
-        (one-more helpWord [] (omega arith) (alone-read help more) refl)))))))
+        (one-more rulesWord (countWord ∷ readersWord ∷ helpWord ∷ []) (omega arith) (one-read rules rules-expression more)
+        (one-more countWord (readersWord ∷ helpWord ∷ []) (omega arith) (one-read countAsked count-read more)
+        (one-more readersWord (helpWord ∷ []) (omega arith) (one-read readersAsked readers-read more)
+        (one-more helpWord [] (omega arith) (alone-read help more) refl))))))))
 
   words-read : (given : List (List ℕ)) → saying (asked (wordsRead given)) ≡ saying (asked given)
   unfolding asked wordsRead handed

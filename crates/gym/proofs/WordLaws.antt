@@ -12,7 +12,7 @@ use Rattle.text_field.specs.declared.NumberRead.the-variants.{Number, NoNumber}
 use Rattle.text_field.specs.Number.{numberHere, numberPlaced}
 use Rattle.text_field.proofs.Steps.{drop-next, drop-end}
 use Rattle.gym.specs.declared.words.Query.{Query}
-use Rattle.gym.specs.Words.{Asked, list, old, new, compare, rules, help, usage, Word, alone, withOne, withTwo, queryAsked, byQuery, countAsked, judgeAsked, listWord, oldWord, newWord, judgeWord, compareWord, rulesWord, countWord, helpWord, laterWords, words, sameBytes, askedOf, asked}
+use Rattle.gym.specs.Words.{Asked, list, old, new, compare, rules, help, usage, Word, alone, withOne, withTwo, queryAsked, byQuery, countAsked, readersAsked, judgeAsked, listWord, oldWord, newWord, judgeWord, compareWord, rulesWord, countWord, readersWord, helpWord, laterWords, words, sameBytes, askedOf, asked}
 use Rattle.gym.specs.Handed.{arguments, handed, queried}
 
 -- two texts byte by byte, from place i on
@@ -195,25 +195,33 @@ module _ (count : ℕ) (name a b : List ℕ) where
 module _ (name : List ℕ) (more : List (List ℕ)) where
   pub as-rules : true ≡ sameBytes name (rulesWord .name) → askedOf laterWords name more ≡ withOne rules more
   unfolding laterWords rulesWord
-  as-rules e = named rulesWord (countWord ∷ helpWord ∷ []) name more e
+  as-rules e = named rulesWord (countWord ∷ readersWord ∷ helpWord ∷ []) name more e
 
   module _ (f : false ≡ sameBytes name (rulesWord .name)) where
-    past-rules : askedOf laterWords name more ≡ askedOf (countWord ∷ helpWord ∷ []) name more
+    past-rules : askedOf laterWords name more ≡ askedOf (countWord ∷ readersWord ∷ helpWord ∷ []) name more
     unfolding laterWords
-    past-rules = passed rulesWord (countWord ∷ helpWord ∷ []) name more f
+    past-rules = passed rulesWord (countWord ∷ readersWord ∷ helpWord ∷ []) name more f
 
     pub as-count : true ≡ sameBytes name (countWord .name) → askedOf laterWords name more ≡ withOne countAsked more
     unfolding countWord
-    as-count e = past-rules ∙ named countWord (helpWord ∷ []) name more e
+    as-count e = past-rules ∙ named countWord (readersWord ∷ helpWord ∷ []) name more e
 
     module _ (g : false ≡ sameBytes name (countWord .name)) where
-      past-count : askedOf laterWords name more ≡ askedOf (helpWord ∷ []) name more
-      past-count = past-rules ∙ passed countWord (helpWord ∷ []) name more g
+      past-count : askedOf laterWords name more ≡ askedOf (readersWord ∷ helpWord ∷ []) name more
+      past-count = past-rules ∙ passed countWord (readersWord ∷ helpWord ∷ []) name more g
 
-      pub as-help : true ≡ sameBytes name (helpWord .name) → askedOf laterWords name more ≡ alone help more
-      unfolding helpWord
-      as-help e = past-count ∙ named helpWord [] name more e
+      pub as-readers : true ≡ sameBytes name (readersWord .name) → askedOf laterWords name more ≡ withOne readersAsked more
+      unfolding readersWord
+      as-readers e = past-count ∙ named readersWord (helpWord ∷ []) name more e
 
-      pub as-unknown : false ≡ sameBytes name (helpWord .name) → askedOf laterWords name more ≡ usage
-      unfolding askedOf
-      as-unknown e = past-count ∙ passed helpWord [] name more e
+      module _ (h : false ≡ sameBytes name (readersWord .name)) where
+        past-readers : askedOf laterWords name more ≡ askedOf (helpWord ∷ []) name more
+        past-readers = past-count ∙ passed readersWord (helpWord ∷ []) name more h
+
+        pub as-help : true ≡ sameBytes name (helpWord .name) → askedOf laterWords name more ≡ alone help more
+        unfolding helpWord
+        as-help e = past-readers ∙ named helpWord [] name more e
+
+        pub as-unknown : false ≡ sameBytes name (helpWord .name) → askedOf laterWords name more ≡ usage
+        unfolding askedOf
+        as-unknown e = past-readers ∙ passed helpWord [] name more e

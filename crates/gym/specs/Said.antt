@@ -11,11 +11,12 @@ use Rattle.judge.specs.Judge.{judgeAnswer}
 use Rattle.conversion.specs.Conversion.{oldOf, newOf}
 use Rattle.ruled.specs.Ruled.{ruledOf}
 use Rattle.beginnings.specs.Beginnings.{countFor}
+use Rattle.readers.specs.Readers.{readersFor}
 use Rattle.printing.specs.Printed.{inPlace, programText}
 use Rattle.gym.specs.declared.replies.Stream.{Stream}
 use Rattle.gym.specs.declared.replies.Stream.the-variants.{Out, Err}
 use Rattle.gym.specs.Text.{bytes, padded}
-use Rattle.gym.specs.Words.{Asked, list, old, new, judge, compare, rules, count, help, usage, Word, words, asked}
+use Rattle.gym.specs.Words.{Asked, list, old, new, judge, compare, rules, count, readers, help, usage, Word, words, asked}
 
 -- the text, and the stream that gets it; the other one gets nothing
 pub record Said : Type 0 where
@@ -84,6 +85,7 @@ answered (judge i row) text = replied (judgeLine text i row)
 answered (compare a b) text = replied (compareLine text a b)
 answered (rules expression) text = replied (ruledOf expression text)
 answered (count i) text = replied (countLine text i)
+answered (readers i) text = replied (readersFor text i)
 answered help text = spoken Out usageText
 answered usage text = spoken Err usageText
 

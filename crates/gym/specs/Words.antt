@@ -19,6 +19,7 @@ pub data Asked : Type 0 where
   compare : List ℕ → List ℕ → Asked
   rules : List ℕ → Asked
   count : ℕ → Asked
+  readers : ℕ → Asked
   help : Asked
   usage : Asked
 
@@ -53,6 +54,10 @@ judgeAsked query row = byQuery (λ i. judge i row) query
 
 unfoldable pub countAsked : List ℕ → Asked
 countAsked query = byQuery count query
+
+-- PLACE is a number of that form too
+unfoldable pub readersAsked : List ℕ → Asked
+readersAsked place = byQuery readers place
 
 -- A word: its name, how its arguments are shown and what it does, for who does not know it, and what
 -- its arguments ask for.
@@ -110,13 +115,23 @@ countWord =
       asks = withOne countAsked;
     }
 
+-- who sees a declaration (02, K5)
+unfoldable pub readersWord : Word
+readersWord =
+    record {
+      name = bytes "readers";
+      shown = bytes " PLACE";
+      does = bytes "the scopes that see a declaration, by its place among the rows";
+      asks = withOne readersAsked;
+    }
+
 -- the usage text, as an answer and not as a complaint
 unfoldable pub helpWord : Word
 helpWord = record { name = bytes "help"; shown = bytes ""; does = bytes "this text"; asks = alone help }
 
 -- all words; a new one is added to the later ones
 unfoldable pub laterWords : List Word
-laterWords = rulesWord ∷ countWord ∷ helpWord ∷ []
+laterWords = rulesWord ∷ countWord ∷ readersWord ∷ helpWord ∷ []
 
 unfoldable pub words : List Word
 words = listWord ∷ oldWord ∷ newWord ∷ judgeWord ∷ compareWord ∷ laterWords

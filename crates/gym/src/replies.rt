@@ -11,6 +11,7 @@ use judge::judge_text;
 use path_row::form::MOST_STEPS;
 use printing::put_answer;
 use printing::put_refused;
+use readers::readers;
 use ruled::rules;
 use text_field::put_byte;
 use text_field::put_bytes;
@@ -25,6 +26,7 @@ ghost use Rattle.judge.specs.Judge.{meaning as judged};
 ghost use Rattle.conversion.specs.Conversion.{oldOf, newOf};
 ghost use Rattle.ruled.specs.Ruled.{ruledOf};
 ghost use Rattle.beginnings.specs.Counted.{countedOf};
+ghost use Rattle.readers.specs.Readers.{readersFor};
 ghost use Rattle.printing.specs.Printed.{inPlace};
 ghost use Rattle.gym.specs.Said.{replyRoom, lineOf, standingName, comparisonName, judgeLine, compareLine, countLine, usageText, answered};
 ghost use Rattle.gym.specs.Handed.{replyMeaning, Replied};
@@ -141,6 +143,15 @@ fn put_count<'s, 'o>(text: &'s [u8], query: usize, out: &'o mut [u8]) -> usize
     put_count_line(out, c)
 }
 
+// The scopes that see a declaration, or the refusal.
+fn put_readers<'s, 'o>(text: &'s [u8], place: usize, out: &'o mut [u8]) -> usize
+    requires room { ⌜ length (now out) ≡ replyRoom ⌝ }
+    ensures written { λ r. ⌜ Replied (now (out .entry)) (now (out .exit)) r (inPlace replyRoom (readersFor (now (text .entry)) place)) ⌝ }
+{
+    let a = readers(text, place, out);
+    put_answer(out, a)
+}
+
 // The usage text: its first line, and one for each word.
 fn put_usage(out: &mut [u8]) -> usize
     ensures written { λ r. ⌜ Replied (now (out .entry)) (now (out .exit)) r usageText ⌝ }
@@ -156,6 +167,7 @@ fn put_usage(out: &mut [u8]) -> usize
   compare ROW ROW   which of two path rows is more specific, and how many steps agree
   rules EXPRESSION  the file with the path rules of an expression such as 'P*I*'
   count QUERY       how many lawful beginnings a query follows
+  readers PLACE     the scopes that see a declaration, by its place among the rows
   help              this text
 ",
     )
@@ -212,6 +224,13 @@ pub fn put_reply<'s, 'o>(
         }
         Reply::Count(query) => {
             let size = put_count(text, query, out);
+            Put {
+                on: Stream::Out,
+                size,
+            }
+        }
+        Reply::Readers(place) => {
+            let size = put_readers(text, place, out);
             Put {
                 on: Stream::Out,
                 size,

@@ -4,11 +4,12 @@ use text_field::read_number;
 ghost use mathlib.Core.Path.{_≡_};
 ghost use mathlib.Core.List.{List};
 ghost use Prim.Native.Nat.{ℕ};
-ghost use Rattle.gym.specs.Words.{Asked, alone as aloneAsked, withOne, withTwo, byQuery, judgeAsked, countAsked, laterWords, sameBytes, askedOf, asked};
+ghost use Rattle.gym.specs.Words.{Asked, alone as aloneAsked, withOne, withTwo, byQuery, judgeAsked, countAsked, readersAsked, laterWords, sameBytes, askedOf, asked};
 ghost use Rattle.gym.specs.Handed.{arguments, handed, queried, meaning};
 
-// What is answered by one text. `Judge` and `Count` hold the query's number; rows and the
-// expression stay where they are, the judged row in the second argument.
+// What is answered by one text. `Judge` and `Count` hold the query's number, `Readers` the
+// declaration's place; rows and the expression stay where they are, the judged row in the second
+// argument.
 pub enum Reply {
     Old,
     New,
@@ -16,6 +17,7 @@ pub enum Reply {
     Compare,
     Rules,
     Count(usize),
+    Readers(usize),
     Help,
     Usage,
 }
@@ -111,6 +113,16 @@ fn count_asked(first: &[u8]) -> Command
     Command::One(Reply::Count(i))
 }
 
+// `readers`, by its argument: a place among the declaration rows is read as a query's number is.
+fn readers_asked(first: &[u8]) -> Command
+    ensures answer { λ r. ⌜ ((b : List ℕ) → meaning r (now (first .entry)) b ≡ readersAsked (now (first .entry))) ⌝ }
+{
+    let Query::At(i) = query_of(first) else {
+        return Command::One(Reply::Usage);
+    };
+    Command::One(Reply::Readers(i))
+}
+
 // What a word behind `compare` asks for, given so many arguments. A new word gets its line here.
 fn later_command(count: usize, name: &[u8], first: &[u8]) -> Command
     ensures answer { λ r. ⌜ ((b : List ℕ) → meaning r (now (first .entry)) b ≡ askedOf laterWords (now (name .entry)) (arguments count (now (first .entry)) b)) ⌝ }
@@ -120,6 +132,9 @@ fn later_command(count: usize, name: &[u8], first: &[u8]) -> Command
     }
     if is_same(name, b"count") {
         return with_one(count, count_asked(first));
+    }
+    if is_same(name, b"readers") {
+        return with_one(count, readers_asked(first));
     }
     if is_same(name, b"help") {
         return alone(count, Command::One(Reply::Help));

@@ -50,7 +50,7 @@ fn has_second(rows: &[u64], s: u64, name: Name) -> bool
 
 // Does a visible path of the query end at the scope? It does where the scope declares the name and
 // a path that stops there is followed.
-fn is_end(table: &[u64], block: &[u64], ask: &[u64], s: u64) -> bool
+pub fn is_end(table: &[u64], block: &[u64], ask: &[u64], s: u64) -> bool
     requires ready { ⌜ Ready (now table) (now block) (now ask) ⌝ }
     requires scope { ⌜ s < 64 ⌝ }
     ensures answer { λ r. ⌜ r ≡ endsAt (language (rulesOf (now (table .entry)))) (graphOf (now (table .entry))) (queryIn (now (table .entry)) (now (ask .entry))) s ⌝ }

@@ -8,7 +8,9 @@ mod sums;
 mod text;
 mod walks;
 
+pub use ask::ask_from;
 pub use ask::ask_of;
+pub use found::is_end;
 pub use lists::Listed;
 pub use lists::listing;
 pub use lists::listing_of;

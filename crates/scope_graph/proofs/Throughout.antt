@@ -39,7 +39,7 @@ turned w = record {
 }
 
 module _ (L : Language) where
-  last-under : (f : ℕ → ℕ) (s : ℕ) (hs : List (Hop L)) → lastFrom L (f s) (map (hopUnder L f) hs) ≡ f (lastFrom L s hs)
+  last-under : (f : ℕ → ℕ) (s : ℕ) (hs : List (Hop L)) → lastFrom (f s) (map (hopUnder L f) hs) ≡ f (lastFrom s hs)
   last-under f s [] = refl
   last-under f s (h ∷ hs) = last-under f (h .to) hs
 

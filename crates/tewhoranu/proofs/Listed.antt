@@ -11,6 +11,8 @@ use lib.Dec.{eqb, ltb, leb}
 use lib.ListN.{length, drop}
 use lib.Seq.{sets}
 use Rattle.scope_graph.specs.Language.{_∈_}
+use Rattle.scope_graph.specs.Rows.{language}
+use Rattle.scope_graph.specs.Readers.{readers}
 use Rattle.scope_graph.proofs.Lists.{here, there}
 use Rattle.text_field.specs.declared.NumberRead.{NumberRead}
 use Rattle.text_field.specs.declared.NumberRead.the-variants.{Number, NoNumber}
@@ -26,6 +28,7 @@ use Rattle.graph_file.specs.Line.{Reading, numberTaken, nameTaken, byteTaken, p
 use Rattle.graph_file.specs.Order.{orderFault}
 use Rattle.graph_file.specs.File.{Piece, Way, Stage, ifAdmitted, afterRow, oneRow, throughRows, afterNames, enough, throughSection, isEmpty, throughSections, ordered, atStart, whole, readNames, readRow, reading, formOf, readStage, madeOf, readCells, writeNames, writeRow, writing, hasForm, formIn, writeText}
 use Rattle.text_field.specs.Answer.{answer}
+use Rattle.graph_file.specs.Decode.{rulesOf, graphOf}
 use Rattle.graph_file.specs.Formed.{inForm}
 use Rattle.path_row.specs.Form.{PathRow, mostMark, mostScope, numberUpTo, Front, startBy, spaceBy, markBy, headHere, rowBy, rowHere}
 use Rattle.comparison.specs.Compare.{Told, compareRows, compareAnswer}
@@ -37,6 +40,7 @@ use Rattle.scope_graph.specs.Agree.{Judgement, as-visible, as-shadowed, as-unre
 use Rattle.conversion.specs.Conversion.{unshown, oldText, newText, textIn, textOf, oldOf, newOf}
 use Rattle.ruled.specs.Ruled.{ruledOf}
 use Rattle.ruled.proofs.Refusing.{refusals}
+use Rattle.readers.specs.Readers.{readersText, declarationAt, readersOf, readersFor}
 use Rattle.tewhoranu.specs.Numbers.{told, amountNumber, caseNumber, stepsNumber, written, comparisonCase, comparisonSteps, compared, standingCase, standingSteps, judged}
 use Rattle.tewhoranu.specs.Listed.{lastRefusal, Listed, listed, carried, ListedWith, its-own, as-others, heard, amountIn, caseIn, numbered, Output, OutputWith, Cases, Numbers}
 
@@ -244,6 +248,19 @@ module _ (text expression : List ℕ) (room : ℕ) where
       by _ read (listed n low high) = rw (refusals .reading expression text n read) (as-others (refused n) (listed n low high))
       by _ read (carried cells) = answered cells read (answer (ruledOf expression text) room) refl
 
+-- who reads a declaration
+readers-listed : (o : Outcome (List ℕ)) (place room : ℕ) → Listed o → ListedWith (11 ∷ []) (answer (andThen o (λ cells. readersOf cells place)) room)
+unfolding andThen readersOf refuseIf answer
+readers-listed _ place room (listed n low high) = as-others _ (listed n low high)
+readers-listed _ place room (carried cells) = by-test (leb (length (graphOf cells .declarations)) place)
+  where
+    lines : List ℕ
+    lines = readersText (readers (language (rulesOf cells)) (graphOf cells) (declarationAt cells place))
+
+    by-test : (b : Bool) → ListedWith (11 ∷ []) (answer (refuseIf b 11 (done lines)) room)
+    by-test true = its-own 11 here
+    by-test false = as-others _ (answer-listed (done lines) room (carried lines))
+
 -- path rows
 start-listed : (m before : ℕ) (r : NumberRead) → Listed (startBy m before r)
 unfolding startBy numberMeaning numberPlaced andThen
@@ -311,9 +328,9 @@ unfolding told written heard
 output-with own _ low (its-own n m) = (its-own n m, rw (lt-ltb n 64 (low n m), heard))
 output-with own o low (as-others _ l) = (as-others o l, output o l .1)
 
--- K6's and K9's numbers are below 64
-fourteen-low : (n : ℕ) → n ∈ (14 ∷ []) → n < 64
-fourteen-low n m = let y : n ≡ 14 = List·Memᴰ·eq-of-singleton m in omega arith
+-- K5's, K6's and K9's numbers are below 64
+alone-low : (k : ℕ) → k < 64 → (n : ℕ) → n ∈ (k ∷ []) → n < 64
+alone-low k h n m = let y : n ≡ k = List·Memᴰ·eq-of-singleton m in omega arith
 
 rules-low : (n : ℕ) → n ∈ (12 ∷ 13 ∷ []) → n < 64
 rules-low n m =
@@ -341,7 +358,7 @@ unfolding comparisonSteps
 compare-steps text a b n m t e = compare-few text a b n m t e
 
 pub numbers : Numbers
-unfolding compared judged oldOf textOf textIn
+unfolding compared judged oldOf textOf textIn readersFor
 numbers = record {
   read = λ text room. output (answer (readCells text) room) (answer-listed (readCells text) room (read-listed text));
   write = λ cells room. output (answer (writeText cells) room) (answer-listed (writeText cells) room (write-listed cells));
@@ -349,7 +366,8 @@ numbers = record {
   summary = λ text room. output (answer (summaryFor text) room) (answer-listed (summaryFor text) room (summary-listed text));
   judge = λ text query row room. cases standingCase standingSteps (judgeAnswer text query row room) (judge-listed text query row room) (judge-steps text query row room);
   compare = λ text a b n m. cases comparisonCase comparisonSteps (compareAnswer text a b n m) (compare-listed text a b n m) (compare-steps text a b n m);
-  toOld = λ text room. output-with (14 ∷ []) (answer (oldOf text) room) fourteen-low (old-listed (readCells text) room (read-listed text));
+  toOld = λ text room. output-with (14 ∷ []) (answer (oldOf text) room) (alone-low 14 (omega arith)) (old-listed (readCells text) room (read-listed text));
   toNew = λ text room. output (answer (newOf text) room) (answer-listed (newOf text) room (new-listed text));
   rules = λ text expression room. output-with (12 ∷ 13 ∷ []) (answer (ruledOf expression text) room) rules-low (rules-listed text expression room);
+  readers = λ text place room. output-with (11 ∷ []) (answer (readersFor text place) room) (alone-low 11 (omega arith)) (readers-listed (readCells text) place room (read-listed text));
 }

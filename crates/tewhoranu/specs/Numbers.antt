@@ -14,8 +14,8 @@ use Rattle.comparison.specs.Compare.{Comparison, first, second, neither, Told}
 abbrev pub interfaceVersion : ℕ
 interfaceVersion = 1
 
--- A refusal is told by its number (01, "Who can cause a refusal"; 12 and 13, 02, K6; 14, K9), any
--- other answer by the number that is given for it.
+-- A refusal is told by its number (01, "Who can cause a refusal"; 11, 02, K5; 12 and 13, K6; 14,
+-- K9), any other answer by the number that is given for it.
 unfoldable pub told : {A : Type 0} → (A → ℕ) → Outcome A → ℕ
 told number (refused n) = n
 told number (done a) = number a

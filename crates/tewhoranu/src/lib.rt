@@ -16,6 +16,7 @@ use graph_file::write;
 use judge::judge_text;
 use path_row::form::Step;
 use path_row::lent::fill;
+use readers::readers;
 use resolution::listing;
 use resolution::summary;
 use ruled::rules;
@@ -32,6 +33,7 @@ ghost use Rattle.beginnings.specs.Counted.{followedLeaves};
 ghost use Rattle.judge.specs.Judge.{judgeAnswer};
 ghost use Rattle.conversion.specs.Conversion.{oldOf, newOf};
 ghost use Rattle.ruled.specs.Ruled.{ruledOf};
+ghost use Rattle.readers.specs.Readers.{readersFor};
 ghost use Rattle.tewhoranu.specs.Numbers.{interfaceVersion, written, compared, judged, placeLeft};
 
 // The number that include/tewhoranu.h has as TEWHORANU_VERSION. It goes up when a function gets other
@@ -192,4 +194,14 @@ pub extern "C" fn tewhoranu_rules(text: &[u8], expression: &[u8], out: &mut [u8]
     ensures memory { λ _. ⌜ now (out .exit) ≡ leaves (ruledOf (now (expression .entry)) (now (text .entry))) (now (out .entry)) ⌝ }
 {
     written_number(rules(text, expression, out))
+}
+
+// The scopes that see a declaration of a gym file's text, given its place among the rows, written
+// into the lent buffer.
+#[no_mangle]
+pub extern "C" fn tewhoranu_readers(text: &[u8], place: usize, out: &mut [u8]) -> u64
+    ensures answer { λ r. ⌜ r ≡ written (answer (readersFor (now (text .entry)) place) (length (now (out .entry)))) ⌝ }
+    ensures memory { λ _. ⌜ now (out .exit) ≡ leaves (readersFor (now (text .entry)) place) (now (out .entry)) ⌝ }
+{
+    written_number(readers(text, place, out))
 }

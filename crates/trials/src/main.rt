@@ -14,6 +14,7 @@ mod listings;
 mod rows;
 mod ruled_files;
 mod say;
+mod seen;
 
 use graph_table::Form;
 use input::Head;
@@ -31,6 +32,7 @@ fn text_case(kind: u8, text: &[u8], number: usize, room: usize) {
         b'l' => listings::listed(text, number, room),
         b's' => listings::summed(text, room),
         b'a' => listings::whole(text, number, room),
+        b'd' => seen::seeing(text, number, room),
         b'b' => counted::counting(text, number),
         b'f' => counted::followed(text, number, room),
         b'e' => edges::finding(text, number),

@@ -48,6 +48,13 @@ mod c {
         pub fn tewhoranu_summary(text: *const u8, text_length: usize, out: *mut u8, out_length: usize) -> u64;
         pub fn tewhoranu_to_old(text: *const u8, text_length: usize, out: *mut u8, out_length: usize) -> u64;
         pub fn tewhoranu_to_new(text: *const u8, text_length: usize, out: *mut u8, out_length: usize) -> u64;
+        pub fn tewhoranu_readers(
+            text: *const u8,
+            text_length: usize,
+            place: usize,
+            out: *mut u8,
+            out_length: usize,
+        ) -> u64;
         pub fn tewhoranu_rules(
             text: *const u8,
             text_length: usize,
@@ -159,4 +166,9 @@ pub fn tewhoranu_rules(text: &[u8], expression: &[u8], out: &mut [u8]) -> u64 {
             out.len(),
         )
     }
+}
+
+pub fn tewhoranu_readers(text: &[u8], place: usize, out: &mut [u8]) -> u64 {
+    // SAFETY: as said above.
+    unsafe { c::tewhoranu_readers(text.as_ptr(), text.len(), place, out.as_mut_ptr(), out.len()) }
 }

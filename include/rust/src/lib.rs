@@ -56,6 +56,8 @@ pub const TEXT: usize = 32_768;
 pub const STEPS: usize = 63;
 /// Bytes that serve every summary.
 pub const SUMMARY: usize = 64;
+/// Bytes that serve every list of readers.
+pub const READERS: usize = 195;
 /// Bytes that the program lends for a listing.
 pub const LISTING: usize = 65_536;
 /// The number of lawful beginnings where there are so many or more.
@@ -82,6 +84,7 @@ pub enum Refusal {
     NoQuery,
     NoPathRow,
     NoRoom,
+    NoDeclaration,
     NoExpression,
     TooManyStates,
     NoOldForm,
@@ -91,7 +94,7 @@ pub enum Refusal {
 
 impl Refusal {
     /// Those that have a name here, with their numbers.
-    const NAMED: [(Refusal, u64); 12] = [
+    const NAMED: [(Refusal, u64); 13] = [
         (Refusal::TooLong, 1),
         (Refusal::Malformed, 2),
         (Refusal::OutOfRange, 3),
@@ -101,6 +104,7 @@ impl Refusal {
         (Refusal::NoQuery, 7),
         (Refusal::NoPathRow, 8),
         (Refusal::NoRoom, 9),
+        (Refusal::NoDeclaration, 11),
         (Refusal::NoExpression, 12),
         (Refusal::TooManyStates, 13),
         (Refusal::NoOldForm, 14),
@@ -138,6 +142,7 @@ impl fmt::Display for Refusal {
             Refusal::NoQuery => "there is no query of this number",
             Refusal::NoPathRow => "a path row is not of its form",
             Refusal::NoRoom => "the memory lent is too short for the output or the steps",
+            Refusal::NoDeclaration => "the file has no declaration at this place",
             Refusal::NoExpression => "not an expression over the file's labels, or past 64 bytes or ten letters",
             Refusal::TooManyStates => "the smallest table for the expression has more than 16 states",
             Refusal::NoOldForm => "the old form has no kinds and no turns, and a kind is not v or a turn is not 0",
@@ -273,6 +278,12 @@ pub fn to_new(text: &[u8], out: &mut [u8]) -> Result<usize, Refusal> {
 /// than 16 states.
 pub fn rules(text: &[u8], expression: &[u8], out: &mut [u8]) -> Result<usize, Refusal> {
     written(library::tewhoranu_rules(text, expression, out))
+}
+
+/// Writes the scopes that see a declaration, given its place among the declaration rows from 0, and
+/// answers how many bytes were written. A place past the rows is refused.
+pub fn readers(text: &[u8], place: usize, out: &mut [u8]) -> Result<usize, Refusal> {
+    written(library::tewhoranu_readers(text, place, out))
 }
 
 #[cfg(test)]

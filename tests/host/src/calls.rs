@@ -239,10 +239,11 @@ impl Test {
         }
         self.summary(text);
         self.conversions(text);
-        let (queries, scopes, letters) = match plain::gym::Gym::parse(text) {
-            Ok(gym) => (gym.queries.len(), gym.scopes as usize, gym.labels.clone()),
-            Err(_) => (1, 5, b"AB".to_vec()),
+        let (queries, scopes, letters, declared) = match plain::gym::Gym::parse(text) {
+            Ok(gym) => (gym.queries.len(), gym.scopes as usize, gym.labels.clone(), gym.declarations.len()),
+            Err(_) => (1, 5, b"AB".to_vec(), 1),
         };
+        self.readers_of(text, declared);
         for _ in 0..2 {
             let drawn = expression(&mut self.rng, &letters);
             self.rules(text, &drawn);

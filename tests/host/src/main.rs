@@ -1,6 +1,6 @@
 //! The host test: the library, through its Rust wrapper, against the plain Rust implementation, on
 //! random and damaged files, graph tables and path rows, with lent memory of every length about the
-//! due one; its judge and its summary against the enumerator; then the C example and the program
+//! due one; its judge, its summary and its readers against the enumerator; then the C example and the program
 //! against the plain implementation.
 //!
 //! host_test FILES EXAMPLE PROGRAM RUNS [GYM..]: so many random files in process, and as many small
@@ -15,6 +15,7 @@ mod files;
 mod followed;
 mod judged;
 mod programs;
+mod readers;
 mod seen;
 
 use calls::{Tally, Test};
@@ -33,7 +34,7 @@ fn differ(call: &str, text: &[u8], detail: String) -> ! {
 }
 
 /// What each call must have answered at least once; and accepted files of each form.
-const DUE: [(&str, &[&str]); 14] = [
+const DUE: [(&str, &[&str]); 15] = [
     ("form", &["0", "1", "2"]),
     ("read", &["written", "refused 1", "refused 2", "refused 3", "refused 4", "refused 5", "refused 6", "refused 9"]),
     ("write", &["written", "refused 2", "refused 3", "refused 4", "refused 5", "refused 6", "refused 9"]),
@@ -44,6 +45,7 @@ const DUE: [(&str, &[&str]); 14] = [
     ("judge", &["visible", "shadowed 0", "shadowed 1", "shadowed 2", "unreached", "refused 1", "refused 2", "refused 7", "refused 8", "refused 9"]),
     ("compare", &["first 0", "first 1", "second 0", "second 1", "neither 0", "neither 1", "neither 2", "refused 1", "refused 2", "refused 8", "refused 9"]),
     ("summary", &["written", "refused 1", "refused 2", "refused 3", "refused 4", "refused 5", "refused 6", "refused 9"]),
+    ("readers", &["written", "refused 1", "refused 2", "refused 3", "refused 4", "refused 5", "refused 6", "refused 11", "refused 9"]),
     ("rules", &["written", "refused 1", "refused 2", "refused 3", "refused 4", "refused 5", "refused 6", "refused 12", "refused 13", "refused 9"]),
     ("to_old", &["written", "refused 1", "refused 2", "refused 3", "refused 4", "refused 5", "refused 6", "refused 14", "refused 9"]),
     ("to_new", &["written", "refused 1", "refused 2", "refused 3", "refused 4", "refused 5", "refused 6", "refused 9"]),
@@ -78,7 +80,7 @@ fn run(args: &[String]) {
             test.followed(&text, query);
         }
     }
-    for (call, answers) in DUE.into_iter().chain(judged::DUE) {
+    for (call, answers) in DUE.into_iter().chain(judged::DUE).chain([readers::DUE]) {
         for answer in answers {
             let times = test.tally.0.get(&(call, answer.to_string())).copied().unwrap_or(0);
             if times == 0 {

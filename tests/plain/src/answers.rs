@@ -1,4 +1,5 @@
-//! Listing, judge and summary, a file in the other form, and one with the rules of an expression.
+//! Listing, judge and summary, a declaration's readers, a file in the other form, and one with the
+//! rules of an expression.
 
 use crate::gym::{
     in_form, push_end, push_name, push_number, with_rules, Form, Gym, Query, Refusal,
@@ -163,6 +164,25 @@ pub fn beginnings(text: &[u8], query: usize) -> Result<u64, Refusal> {
     let gym = Gym::parse(text)?;
     let query = *gym.queries.get(query).ok_or(7)?;
     Ok(Search::new(&Rules::new(&gym), query.start, query.name).beginnings())
+}
+
+/// Writes who reads a declaration, by its place among the rows (02, K5): the line `at`, then the
+/// scopes; answers the bytes written.
+pub fn readers(text: &[u8], place: usize, out: &mut [u8]) -> Result<usize, Refusal> {
+    let gym = Gym::parse(text)?;
+    let declaration = gym.declarations.get(place).ok_or(11)?;
+    let rules = Rules::new(&gym);
+    // what leads to the name is the same from every start
+    let mut search = Search::new(&rules, 0, declaration.name);
+    let mut listing = b"at\n".to_vec();
+    for start in 0..gym.scopes {
+        search.start = start;
+        if search.sees(declaration.at) {
+            push_number(&mut listing, u64::from(start));
+            listing.push(b'\n');
+        }
+    }
+    put(&listing, out)
 }
 
 pub fn summary(text: &[u8], out: &mut [u8]) -> Result<usize, Refusal> {

@@ -337,6 +337,21 @@ pub fn declarations(entries: &[Entry]) -> usize {
     seen.len()
 }
 
+/// Who reads the declaration at a place of the rows (02, K5): the line `at`, then each scope of whose
+/// query for its kind and name some entry ends in it.
+pub fn readers(gym: &Gym, place: usize) -> Vec<u8> {
+    let graph = Graph::of(gym);
+    let (at, name, mark) = &graph.declarations[place];
+    let mut out = "at\n".to_string();
+    for start in 0..graph.scopes {
+        let entries = graph.entries(start, name);
+        if entries.iter().any(|(p, m)| (p.last(), m) == (*at, mark)) {
+            out += &format!("{start}\n");
+        }
+    }
+    out.into_bytes()
+}
+
 /// A query's listing.
 pub fn listing(gym: &Gym, query: Query) -> Vec<u8> {
     let sought = name_of(query.name);

@@ -389,15 +389,20 @@ impl<'a> Search<'a> {
         Go::On
     }
 
-    /// The declarations at the scopes where visible paths end, counted up to `most`. A path may end
-    /// at a scope exactly if `$` is followed there, as at an open pair.
+    /// Does a visible path end at this scope, which declares the name? It may exactly if `$` is
+    /// followed there, as at an open pair.
+    pub fn sees(&self, scope: u8) -> bool {
+        self.decisive(scope, STOP)
+    }
+
+    /// The declarations at the scopes where visible paths end, counted up to `most`.
     pub fn declarations_seen(&self, most: usize) -> usize {
         let mut seen = 0;
         let mut left = self.declaring;
         while left != 0 && seen < most {
             let scope = left.trailing_zeros() as u8;
             left &= left - 1;
-            if self.decisive(scope, STOP) {
+            if self.sees(scope) {
                 seen += self.marks(scope).count();
             }
         }

@@ -473,3 +473,26 @@ fn beginnings() {
     assert_eq!(turned("2 I 1 3 / 2 I 1 4 / 2 P 0 1 / ", both), Ok(3));
     assert_eq!(turned("2 I 1 3 / 2 I 2 4 / 2 P 0 1 / ", ""), Ok(4));
 }
+
+/// Who reads a declaration (02, K5), by its place among the rows.
+#[test]
+fn readers() {
+    let read_by = |text: &str, place: usize| {
+        let mut out = [0; 200];
+        answers::readers(text.as_bytes(), place, &mut out)
+            .map(|len| String::from_utf8_lossy(&out[..len]).replace('\n', " "))
+    };
+    let text = lines(EXAMPLE);
+    for (place, due) in ["at 0 1 3 ", "at 1 3 ", "at 2 ", "at 2 4 "]
+        .iter()
+        .enumerate()
+    {
+        assert_eq!(read_by(&text, place).as_deref(), Ok(*due));
+    }
+    assert_eq!(read_by(&text, 4), Err(11));
+    assert_eq!(read_by(&text[1..], 4), Err(2));
+    let two = example("1 service 10 / ", "1 service 10 / 1 service 11 / ");
+    assert_eq!(read_by(&two, 2).as_deref(), Ok("at 1 3 "));
+    let nobody = example("accept / 0 / 1 / ", "accept / ");
+    assert_eq!(read_by(&nobody, 0).as_deref(), Ok("at "));
+}

@@ -11,6 +11,7 @@ them are its text, the next ROW its first path row, and the rest its second.
   j  the first row is judged for query NUMBER of the text, ROOM records lent for its steps
   l  the listing of query NUMBER of the text, in a lent buffer of ROOM bytes
   s  the summary of the text, in a lent buffer of ROOM bytes
+  d  the scopes that read declaration NUMBER of the text, in a lent buffer of ROOM bytes
   e  the text is cells in hexadecimal, edge rows: where the rows stand that leave scope NUMBER
   b  how many lawful beginnings query NUMBER of the text has
   f  the same beside the listing of query NUMBER of the text, in a lent buffer of ROOM bytes
@@ -23,7 +24,7 @@ them are its text, the next ROW its first path row, and the rest its second.
 """
 
 # the cases whose text is a gym file's, those of converting left out
-OF_FILES = b"rncjlsa"  # counts, b and f, have large files of their own
+OF_FILES = b"rncjlsa"  # counts and readers, b, f and d, have large files of their own
 
 CASES = []
 TITLES = set()

@@ -295,6 +295,7 @@ fn main() -> io::Result<()> {
             "o" => convert(text, room, answers::to_old, answers::to_new),
             "k" => convert(text, room, answers::to_new, answers::to_old),
             "x" => shown("ruled", room, |out| answers::rules(text, first, out)),
+            "d" => shown("readers", room, |out| answers::readers(text, number, out)),
             "a" => (0..number).map(listing).chain([summary()]).collect(),
             _ => "A KIND UNKNOWN HERE\n".to_string(),
         };

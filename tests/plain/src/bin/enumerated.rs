@@ -1,7 +1,7 @@
 //! Holds the search against the enumerator: `enumerated [COUNT [SEED]]`, 20,000 random gyms if not
 //! said.
 //!
-//! Same listing (entries, found, awaits), the same number of lawful beginnings, the same verdict on
+//! Same listing (entries, found, awaits), the same number of lawful beginnings, the same readers of each declaration, the same verdict on
 //! random path rows, comparison as the rules have it, both with their numbers of equal steps; a settled listing stays the same in random completions, and any listing in those
 //! that add at a pair that is not decisive; reading and writing are inverse, on damaged files and
 //! tables too; an old file, the same file with every kind `v` and that with every turn 0 give the
@@ -38,6 +38,12 @@ struct Counts {
     fewer_beginnings: usize,
     fewer_beginnings_by_turns: usize,
     one_edge_a_scope: usize,
+    /// Of all declarations.
+    readers: usize,
+    read_by_nobody: usize,
+    read_by_all: usize,
+    other_readers_by_turns: usize,
+    other_readers_of_the_name: usize,
     completions: usize,
     completions_at_one_pair: usize,
     visible: usize,
@@ -214,6 +220,48 @@ fn check_listing(
         if more.entries(query.start as usize, &sought) != entries {
             fail(seed, &format!("query {n} is not settled"), text);
         }
+    }
+}
+
+/// The readers of each declaration, in a buffer longer than they are, one of their length and one
+/// that is too short; and a place past the declarations.
+fn check_readers(seed: usize, text: &[u8], gym: &Gym, c: &mut Counts) {
+    let equal = without_turns(gym);
+    let all = |g: &Gym| -> Vec<Vec<u8>> {
+        let places = 0..g.declarations.len();
+        places.map(|place| enumerate::readers(g, place)).collect()
+    };
+    let (due, by_labels) = (all(gym), all(&equal));
+    for (place, due) in due.iter().enumerate() {
+        for room in [due.len() + 3, due.len()] {
+            let mut out = vec![b'#'; room];
+            if answers::readers(text, place, &mut out) != Ok(due.len())
+                || out[..due.len()] != *due
+                || out[due.len()..].iter().any(|&b| b != b'#')
+            {
+                let out = String::from_utf8_lossy(&out);
+                fail(seed, &format!("readers of {place}: {out}"), text);
+            }
+        }
+        let mut short = vec![b'#'; due.len() - 1];
+        if answers::readers(text, place, &mut short) != Err(9) || short.iter().any(|&b| b != b'#') {
+            fail(seed, "readers in a short buffer", text);
+        }
+        let count = due.iter().filter(|&&b| b == b'\n').count() - 1;
+        c.readers += 1;
+        c.read_by_nobody += usize::from(count == 0);
+        c.read_by_all += usize::from(count == gym.scopes as usize);
+    }
+    let named = |i: usize| gym.declarations[i].name;
+    let apart = |i: usize, j: usize| named(i) == named(j) && due[i] != due[j];
+    c.other_readers_by_turns += usize::from(due != by_labels);
+    c.other_readers_of_the_name += usize::from((1..due.len()).any(|i| apart(i - 1, i)));
+    let past = gym.declarations.len();
+    if [past, past + 1, 99_999]
+        .iter()
+        .any(|&p| answers::readers(text, p, &mut []) != Err(11))
+    {
+        fail(seed, "a place past the declarations", text);
     }
 }
 
@@ -498,6 +546,7 @@ fn check(seed: usize, c: &mut Counts) {
             fail(seed, "name sought", &text);
         }
     }
+    check_readers(seed, &text, &gym, c);
     match gym.form {
         Form::Old => {
             c.old += 1;
@@ -534,12 +583,17 @@ fn main() {
         check(n, &mut counts);
     }
     println!("{count} gyms agree\n{counts:#?}");
-    // so many gyms have each kind of query that the count is to be tried on
+    // so many gyms have each kind of query that the count is to be tried on, and of declaration that
+    // the readers are
     let met = [
         counts.no_beginning,
         counts.fewer_beginnings,
         counts.fewer_beginnings_by_turns,
         counts.one_edge_a_scope,
+        counts.read_by_nobody,
+        counts.read_by_all,
+        counts.other_readers_by_turns,
+        counts.other_readers_of_the_name,
     ];
     assert!(count < 10_000 || met.iter().all(|&n| n > 0), "{met:?}");
 }

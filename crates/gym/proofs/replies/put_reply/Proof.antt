@@ -1,6 +1,6 @@
 -- `gym::replies::put_reply` puts each reply, for its stream. Assumes nothing.
 use borrow.Author.Needs.{needs}
-use Rattle.gym.specs.declared.words.Reply.the-variants.{Old, New, Judge, Compare, Rules, Count, Help, Usage}
+use Rattle.gym.specs.declared.words.Reply.the-variants.{Old, New, Judge, Compare, Rules, Count, Readers, Help, Usage}
 use Rattle.gym.specs.Said.{answered}
 use Rattle.gym.specs.Handed.{replyMeaning}
 use Rattle.gym.proofs.ReplyLaws.{reply-is}
@@ -42,6 +42,12 @@ enum-known-q-2 c = search needs
 
 put-count-requires : tie.Need-put-count-requires
 put-count-requires c κs = search needs
+
+enum-known-q-3 : tie.Need-enum-known-q-3
+enum-known-q-3 c = search needs
+
+put-readers-requires : tie.Need-put-readers-requires
+put-readers-requires c κs = search needs
 
 enum-told-5 : tie.Need-enum-told-5
 enum-told-5 c = search needs
@@ -102,14 +108,21 @@ same-length-7 c = search needs
 
 returns-7 : tie.Need-returns-7
 unfolding answered replyMeaning
-returns-7 c = let a = c .before .before .before .before .before .before .before .before .before .before .args in reply-is _ _ _ (a .q) Help (a .first .now) (a .second .now) (a .text .now) (c .before .before .before .before .enum-told5 .given .1) (c .before .before .put-usage .ensures)
+returns-7 c = let a = c .before .before .before .before .before .before .before .before .before .before .before .args in reply-is _ _ _ (a .q) (Readers _) (a .first .now) (a .second .now) (a .text .now) (c .before .before .before .before .before .q3 .given .1) (c .before .before .put-readers .ensures)
 
 same-length-8 : tie.Need-same-length-8
 same-length-8 c = search needs
 
 returns-8 : tie.Need-returns-8
 unfolding answered replyMeaning
-returns-8 c = let a = c .before .before .before .before .before .before .before .before .before .before .args in reply-is _ _ _ (a .q) Usage (a .first .now) (a .second .now) (a .text .now) (c .before .before .before .before .enum-told6 .given .1) (c .before .before .put-usage2 .ensures)
+returns-8 c = let a = c .before .before .before .before .before .before .before .before .before .before .args in reply-is _ _ _ (a .q) Help (a .first .now) (a .second .now) (a .text .now) (c .before .before .before .before .enum-told5 .given .1) (c .before .before .put-usage .ensures)
+
+same-length-9 : tie.Need-same-length-9
+same-length-9 c = search needs
+
+returns-9 : tie.Need-returns-9
+unfolding answered replyMeaning
+returns-9 c = let a = c .before .before .before .before .before .before .before .before .before .before .args in reply-is _ _ _ (a .q) Usage (a .first .now) (a .second .now) (a .text .now) (c .before .before .before .before .enum-told6 .given .1) (c .before .before .put-usage2 .ensures)
 
 pub put-reply-spec : {M : Type 1} → statement M
 put-reply-spec =
@@ -127,6 +140,8 @@ put-reply-spec =
     put-rules-requires
     enum-known-q-2
     put-count-requires
+    enum-known-q-3
+    put-readers-requires
     enum-told-5
     put-usage-requires
     enum-told-6
@@ -146,4 +161,6 @@ put-reply-spec =
     same-length-7
     returns-7
     same-length-8
-    returns-8)
+    returns-8
+    same-length-9
+    returns-9)
