@@ -1,6 +1,7 @@
 // The graph table as the crates above `graph_file` read it: where rows stand, and what a row says.
-// `graph_file` itself, which makes, tests and writes the table, reads its own cells; the sections'
-// numbers and how a row is put are handed on from there.
+// `graph_file` itself, which makes, tests and writes the table, and `graph_change`, which moves its
+// cells, read cells of their own; the sections' numbers and how a row is put are handed on from
+// `graph_file`.
 mod edges;
 mod names;
 mod rows;

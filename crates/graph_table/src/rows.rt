@@ -1,6 +1,6 @@
 // The rows of a graph table by their values: the first cell is the section's number, then come the
-// values. The crates above `graph_file` read rows here; `graph_file` itself, which makes, tests and
-// writes the table, reads its own cells.
+// values. The crates above `graph_file` read rows here, but for `graph_change`, which compares keys
+// and moves cells; `graph_file` itself, which makes, tests and writes the table, reads its own.
 use crate::names::Name;
 use crate::names::same_name;
 use scope_graph::End;

@@ -59,7 +59,8 @@ pub fn ask_from(table: &[u64], block: &[u64], q: QueryRow, goal: u64) -> [u64; A
     ask
 }
 
-// The ask of a query of a table that was read.
+// The ask of a query of a table that was read. What is left open is as in `ask_from`: more places,
+// or other distances, cost time and change no answer.
 pub fn ask_of(table: &[u64], block: &[u64], q: QueryRow) -> [u64; ASKSIZE]
     requires made { ⌜ Made (now table) (now block) ⌝ }
     requires asked { ⌜ Asked (now table) (queryOn (now table) q) ⌝ }
