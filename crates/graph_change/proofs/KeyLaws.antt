@@ -9,8 +9,8 @@ use borrow.Author.Tests.{lt-ltb, le-ltb, eq-eqb, ne-eqb}
 use lib.ListN.{length, getD, take, drop, length-take}
 use lib.Seq.{getD-take}
 use Rattle.text_field.proofs.Steps.{drop-next, drop-end}
-use Rattle.graph_file.specs.Format.{labels, pairs, transitions, accepts, scopeCount, edges, declarations, openPairs, queries, pastLast, sections, sectionAt, edgeSection}
-use Rattle.graph_file.specs.Admission.{Row, value, rowOf, keyLess}
+use Rattle.graph_rows.specs.Format.{labels, pairs, transitions, accepts, scopeCount, edges, declarations, openPairs, queries, pastLast, sections, sectionAt, edgeSection}
+use Rattle.graph_rows.specs.Admission.{Row, value, rowOf, keyLess}
 use Rattle.graph_table.proofs.Parts.{value-cell}
 use Rattle.graph_change.specs.Place.{sameKey}
 

@@ -1,11 +1,11 @@
-// Rows compared by their section's key. A section's key stands in the format of `graph_file`; here
+// Rows compared by their section's key. A section's key stands in the format of `graph_rows`; here
 // it is once more, by numbers, and proved to be that.
 use graph_table::EDGES;
 ghost use mathlib.Core.Path.{_≡_};
 ghost use Prim.Native.Nat.{_+_, _≤_, _<_};
 ghost use lib.ListN.{length, getD, drop};
-ghost use Rattle.graph_file.specs.Format.{sectionAt, edgeSection};
-ghost use Rattle.graph_file.specs.Admission.{rowOf, keyLess};
+ghost use Rattle.graph_rows.specs.Format.{sectionAt, edgeSection};
+ghost use Rattle.graph_rows.specs.Admission.{rowOf, keyLess};
 ghost use Rattle.graph_change.specs.Place.{sameKey};
 
 // How many of a row's values are its section's key, by the section's number.

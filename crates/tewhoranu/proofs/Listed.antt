@@ -21,15 +21,18 @@ use Rattle.text_field.specs.declared.NameRead.the-variants.{Name, NoName}
 use Rattle.text_field.specs.Bytes.{isCapital}
 use Rattle.text_field.specs.Number.{numberHere, numberPlaced, numberMeaning}
 use Rattle.text_field.specs.Name.{nameHere, nameMeaning}
-use Rattle.graph_file.specs.Format.{Item, byte, field, state, scope, mark, count, letter, label, end, name, kind, plain, turn, sectionAt, shapeAt, oldForm}
+use Rattle.graph_rows.specs.Format.{Item, byte, field, state, scope, mark, count, letter, label, end, name, kind, plain, turn, sectionAt, shapeAt, oldForm}
 use Rattle.text_field.specs.Outcome.{Outcome, refused, done, andThen, refuseIf}
-use Rattle.graph_file.specs.Admission.{Row, Sofar, blank, rowOf, unless, inRange, follows, admission}
-use Rattle.graph_file.specs.Line.{Reading, numberTaken, nameTaken, byteTaken, place, endTaken, readField, startsWith, readItem, placeOf, readItems, lineText, formed}
-use Rattle.graph_file.specs.Order.{orderFault}
-use Rattle.graph_file.specs.File.{Piece, Way, Stage, ifAdmitted, afterRow, oneRow, throughRows, afterNames, enough, throughSection, isEmpty, throughSections, ordered, atStart, whole, readNames, readRow, reading, formOf, readStage, madeOf, readCells, writeNames, writeRow, writing, hasForm, formIn, writeText}
+use Rattle.graph_rows.specs.Admission.{Row, Sofar, blank, rowOf, unless, inRange, follows, admission, place}
+use Rattle.graph_file.specs.Line.{Reading, numberTaken, nameTaken, byteTaken, endTaken, readField, readItem, placeOf, readItems, lineText}
+use Rattle.graph_rows.specs.Way.{startsWith, Piece, Way, Stage, ifAdmitted, afterRow, oneRow, throughRows, afterNames, enough, throughSection, isEmpty, throughSections, ordered, atStart, whole}
+use Rattle.graph_rows.specs.Values.{formed}
+use Rattle.graph_rows.specs.Order.{orderFault}
+use Rattle.graph_file.specs.File.{readNames, readRow, reading, formOf, readStage, madeOf, readCells, writeNames, writeRow, writing, writeText}
+use Rattle.graph_rows.specs.Tested.{hasForm, formIn}
 use Rattle.text_field.specs.Answer.{answer}
-use Rattle.graph_file.specs.Decode.{rulesOf, graphOf}
-use Rattle.graph_file.specs.Formed.{inForm}
+use Rattle.graph_rows.specs.Decode.{rulesOf, graphOf}
+use Rattle.graph_rows.specs.Formed.{inForm}
 use Rattle.path_row.specs.Form.{PathRow, mostMark, mostScope, numberUpTo, Front, startBy, spaceBy, markBy, headHere, rowBy, rowHere}
 use Rattle.comparison.specs.Compare.{Told, compareRows, compareAnswer}
 use Rattle.comparison.proofs.FewSteps.{compare-few}

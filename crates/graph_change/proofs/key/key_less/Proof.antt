@@ -4,8 +4,8 @@ use mathlib.Core.Path.{_≡_, refl, subst, _∙_}
 use native.Mathlib.Omega.{arith}
 use borrow.Author.Needs.{needs}
 use lib.ListN.{length, drop}
-use Rattle.graph_file.specs.Format.{sectionAt}
-use Rattle.graph_file.specs.Admission.{rowOf, keyLess}
+use Rattle.graph_rows.specs.Format.{sectionAt}
+use Rattle.graph_rows.specs.Admission.{rowOf, keyLess}
 use Rattle.graph_change.proofs.KeyLaws.{less-end, less-yes, less-no, less-on}
 use Rattle.graph_change.proofs.key.key_less.Statement.{statement}
 use Rattle.graph_change.proofs.key.key_less.Tie as tie

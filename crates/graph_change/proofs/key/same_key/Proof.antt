@@ -4,8 +4,8 @@ use mathlib.Core.Path.{_≡_, refl, subst, _∙_}
 use native.Mathlib.Omega.{arith}
 use borrow.Author.Needs.{needs}
 use lib.ListN.{length, drop}
-use Rattle.graph_file.specs.Format.{sectionAt}
-use Rattle.graph_file.specs.Admission.{rowOf}
+use Rattle.graph_rows.specs.Format.{sectionAt}
+use Rattle.graph_rows.specs.Admission.{rowOf}
 use Rattle.graph_change.specs.Place.{sameKey}
 use Rattle.graph_change.proofs.KeyLaws.{same-end, same-no, same-on}
 use Rattle.graph_change.proofs.key.same_key.Statement.{statement}
