@@ -29,7 +29,7 @@ use Rattle.graph_rows.specs.Way.{startsWith, Piece, Way, Stage, ifAdmitted, aft
 use Rattle.graph_rows.specs.Values.{formed}
 use Rattle.graph_rows.specs.Order.{orderFault}
 use Rattle.graph_file.specs.File.{readNames, readRow, reading, formOf, readStage, madeOf, readCells, writeNames, writeRow, writing, writeText}
-use Rattle.graph_rows.specs.Tested.{hasForm, formIn}
+use Rattle.graph_rows.specs.Tested.{testRow, hasForm, formIn}
 use Rattle.text_field.specs.Answer.{answer}
 use Rattle.graph_rows.specs.Decode.{rulesOf, graphOf}
 use Rattle.graph_rows.specs.Formed.{inForm}
@@ -189,9 +189,13 @@ write-names : (form k : ℕ) (rest : List ℕ) → Listed (writing form .names k
 unfolding writing writeNames
 write-names form k rest = carried _
 
+test-row : (form k : ℕ) (letters rest : List ℕ) → Listed (testRow form k letters rest)
+unfolding testRow
+test-row form k letters rest = if-listed _ 2 _ (omega arith) (omega arith) (if-listed _ 2 _ (omega arith) (omega arith) (carried _))
+
 write-row : (form k : ℕ) (letters rest : List ℕ) → Listed (writing form .row k letters rest)
 unfolding writing writeRow
-write-row form k letters rest = if-listed _ 2 _ (omega arith) (omega arith) (if-listed _ 2 _ (omega arith) (omega arith) (carried _))
+write-row form k letters rest = then-listed (testRow form k letters rest) _ (test-row form k letters rest) (λ p. carried _)
 
 write-listed : (cells : List ℕ) → Listed (writeText cells)
 unfolding writeText
