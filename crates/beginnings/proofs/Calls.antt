@@ -10,7 +10,7 @@ use Rattle.text_field.specs.Outcome.{Outcome, refused, done, andThen, refuseIf}
 use Rattle.text_field.specs.Answer.{answer}
 use Rattle.text_field.proofs.OutcomeLaws.{not-done}
 use Rattle.graph_file.specs.File.{readCells}
-use Rattle.graph_file.specs.Decode.{queriesOf}
+use Rattle.graph_rows.specs.Decode.{queriesOf}
 use Rattle.graph_file.proofs.TableLaws.{ReadInto}
 use Rattle.block.specs.Block.{scopesCell}
 use Rattle.block.specs.Ask.{askStart, askGoal}

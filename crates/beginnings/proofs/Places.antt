@@ -15,8 +15,8 @@ use Rattle.scope_graph.specs.Rows.{language}
 use Rattle.scope_graph.specs.Turns.{Turned, labelEnd}
 use Rattle.scope_graph.specs.Computed.{NodeOf, keep, leadsOn, nodes, cut}
 use Rattle.scope_graph.proofs.Nodes.{hopsAt-elim}
-use Rattle.graph_file.specs.Decode.{rulesOf, graphOf, scopesOf}
-use Rattle.graph_file.specs.Accepted.{AcceptedTable}
+use Rattle.graph_rows.specs.Decode.{rulesOf, graphOf, scopesOf}
+use Rattle.graph_rows.specs.Accepted.{AcceptedTable}
 use Rattle.block.specs.Sets.{hasState}
 use Rattle.block.specs.Block.{scopesCell, blockHops}
 use Rattle.block.specs.Ask.{askStart, askGoal}

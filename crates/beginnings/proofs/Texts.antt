@@ -21,9 +21,9 @@ use Rattle.scope_graph.proofs.Lists.{Two, pairwise-weaken, map-pairwise}
 use Rattle.scope_graph.proofs.Rows.{nextBy-row}
 use Rattle.text_field.specs.Outcome.{refused, done, andThen, refuseIf}
 use Rattle.graph_file.specs.File.{readCells}
-use Rattle.graph_file.specs.Decode.{rulesOf, graphOf, opensOf, queriesOf, scopesOf}
-use Rattle.graph_file.specs.Accepted.{AcceptedTable}
-use Rattle.graph_file.proofs.DecodeAccepted.{read-accepted}
+use Rattle.graph_rows.specs.Decode.{rulesOf, graphOf, opensOf, queriesOf, scopesOf}
+use Rattle.graph_rows.specs.Accepted.{AcceptedTable}
+use Rattle.graph_file.proofs.Promises.{read-accepted}
 use Rattle.board.specs.Queries.{queryAt}
 use Rattle.board.proofs.Queries.{getD-in}
 use Rattle.beginnings.specs.Beginnings.{MOST, capped, OneEdge, beginnings, followedCount, countOf, countFor}

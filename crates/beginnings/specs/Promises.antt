@@ -16,7 +16,7 @@ use Rattle.scope_graph.specs.Listing.{Pairwise, Accepted}
 use Rattle.text_field.specs.Outcome.{refused, done}
 use Rattle.text_field.specs.Answer.{answer}
 use Rattle.graph_file.specs.File.{readCells}
-use Rattle.graph_file.specs.Decode.{rulesOf, graphOf, queriesOf, scopesOf}
+use Rattle.graph_rows.specs.Decode.{rulesOf, graphOf, queriesOf, scopesOf}
 use Rattle.board.specs.Example.{exampleText}
 use Rattle.board.specs.Queries.{queryAt}
 use Rattle.resolution.specs.Listing.{listingFor}

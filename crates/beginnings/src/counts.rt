@@ -15,7 +15,7 @@ ghost use mathlib.Core.Path.{_≡_};
 ghost use lib.ListN.{length};
 ghost use Rattle.text_field.specs.Outcome.{done};
 ghost use Rattle.text_field.specs.Answer.{answer, leaves, answerOf};
-ghost use Rattle.graph_file.specs.Decode.{WasRead};
+ghost use Rattle.graph_file.specs.File.{WasRead};
 ghost use Rattle.graph_file.specs.Reader.{TextRoom};
 ghost use Rattle.board.specs.Made.{Made};
 ghost use Rattle.resolution.specs.Listing.{listingFor};

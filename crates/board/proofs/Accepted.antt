@@ -8,13 +8,12 @@ use lib.ListN.{length, drop}
 use Rattle.scope_graph.specs.Language.{End, stop, by}
 use Rattle.scope_graph.specs.Graph.{InRange, Query}
 use Rattle.scope_graph.specs.Rows.{language}
-use Rattle.graph_file.specs.Admission.{Row, Sofar, nothing, begun, taken}
-use Rattle.graph_file.specs.Decode.{rowsIn, rulesOf, graphOf}
-use Rattle.graph_file.specs.Accepted.{EndListed, AcceptedTable}
-use Rattle.graph_file.specs.Format.{edges, sections, sectionAt, edgeSection}
-use Rattle.graph_file.proofs.DecodeWay.{AdmittedRows, takenAll, cellsOf, tableCells, AdmittedSections, AdmittedTable}
-use Rattle.graph_file.proofs.DecodeWritten.{read-admitted, written-admitted}
-use Rattle.graph_file.proofs.DecodeAccepted.{read-accepted, written-accepted}
+use Rattle.graph_rows.specs.Admission.{Row, Sofar, nothing, begun, taken}
+use Rattle.graph_rows.specs.Decode.{rowsIn, rulesOf, graphOf}
+use Rattle.graph_rows.specs.Accepted.{EndListed, AcceptedTable}
+use Rattle.graph_rows.specs.Format.{edges, sections, sectionAt, edgeSection}
+use Rattle.graph_rows.proofs.DecodeWay.{AdmittedRows, takenAll, cellsOf, tableCells, AdmittedSections, AdmittedTable}
+use Rattle.graph_file.proofs.Promises.{read-admitted, written-admitted, read-accepted, written-accepted}
 use Rattle.graph_table.proofs.Promises.{ascending-all}
 use Rattle.search.specs.Tables.{endNumber}
 use Rattle.graph_table.specs.Sections.{SectionsAscend, partOf}

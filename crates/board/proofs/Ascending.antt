@@ -9,12 +9,12 @@ use lib.ListN.{drop}
 use Rattle.scope_graph.specs.Language.{_∈_}
 use Rattle.scope_graph.specs.Listing.{Pairwise}
 use Rattle.scope_graph.proofs.Lists.{here, pairwise-weaken}
-use Rattle.graph_file.specs.Format.{edges, declarations, sections, sectionAt, edgeSection, declarationSection}
-use Rattle.graph_file.specs.Admission.{Row, value}
-use Rattle.graph_file.specs.Decode.{rowsIn}
-use Rattle.graph_file.proofs.DecodeWay.{AdmittedTable}
-use Rattle.graph_file.proofs.KeyLaws.{KeyBefore}
-use Rattle.graph_file.proofs.DecodeTable.{table-ascends}
+use Rattle.graph_rows.specs.Format.{edges, declarations, sections, sectionAt, edgeSection, declarationSection}
+use Rattle.graph_rows.specs.Admission.{Row, value}
+use Rattle.graph_rows.specs.Decode.{rowsIn}
+use Rattle.graph_rows.proofs.DecodeWay.{AdmittedTable}
+use Rattle.graph_rows.proofs.KeyLaws.{KeyBefore}
+use Rattle.graph_rows.proofs.DecodeTable.{table-ascends}
 use Rattle.graph_table.specs.Rows.{RowsAscend}
 use Rattle.graph_table.specs.Sections.{partOf, rowsOf, SectionsAscend}
 use Rattle.board.proofs.SectionLaws.{rows-in-part}

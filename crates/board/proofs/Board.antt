@@ -20,9 +20,9 @@ use Rattle.scope_graph.proofs.Lists.{not-true, and-left, anyOf-false, map-intro
 use Rattle.scope_graph.proofs.Rows.{preferredBy-row}
 use Rattle.scope_graph.proofs.Turns.{step-above}
 use Rattle.scope_graph.proofs.Nodes.{hopsAt-elim}
-use Rattle.graph_file.specs.Admission.{Row, value, blank}
-use Rattle.graph_file.specs.Format.{labelSection, pairSection, transitionSection, acceptSection, edgeSection, declarationSection}
-use Rattle.graph_file.specs.Decode.{rowsIn, lettersOf, rulesOf, nameAt, edgeOf, declarationOf, graphOf}
+use Rattle.graph_rows.specs.Admission.{Row, value, blank}
+use Rattle.graph_rows.specs.Format.{labelSection, pairSection, transitionSection, acceptSection, edgeSection, declarationSection}
+use Rattle.graph_rows.specs.Decode.{rowsIn, lettersOf, rulesOf, nameAt, edgeOf, declarationOf, graphOf}
 use Rattle.graph_table.specs.Rows.{rowHops}
 use Rattle.graph_table.proofs.Promises.{ascending-all}
 use Rattle.block.specs.Sets.{hasScope, hasState, placesOf}

@@ -8,12 +8,12 @@ use Rattle.scope_graph.specs.Language.{_∈_}
 use Rattle.scope_graph.proofs.Lists.{here}
 use Rattle.text_field.specs.Bytes.{isCapital}
 use Rattle.text_field.specs.Outcome.{done}
-use Rattle.graph_file.specs.Format.{letter, field, shapesOf, shapeAt, labelSection}
-use Rattle.graph_file.specs.Admission.{Row, value}
-use Rattle.graph_file.specs.Line.{fieldFormed, itemFormed}
+use Rattle.graph_rows.specs.Format.{letter, field, shapesOf, shapeAt, labelSection}
+use Rattle.graph_rows.specs.Admission.{Row, value}
+use Rattle.graph_rows.specs.Values.{fieldFormed, itemFormed}
 use Rattle.graph_file.specs.File.{readCells}
-use Rattle.graph_file.specs.Decode.{rowsIn}
-use Rattle.graph_file.proofs.DecodeFormed.{items-formed}
+use Rattle.graph_rows.specs.Decode.{rowsIn}
+use Rattle.graph_file.proofs.Promises.{items-formed}
 
 pub capitals : (text cells : List ℕ) → readCells text ≡ done cells → (row : Row) → row ∈ rowsIn labelSection cells → isCapital (value row 0) ≡ true
 unfolding shapeAt shapesOf itemFormed fieldFormed

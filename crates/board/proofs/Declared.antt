@@ -9,7 +9,7 @@ use native.Mathlib.Nat.{sub-zero}
 use lib.ListN.{length, take, drop, length-drop}
 use lib.Seq.{take-nil, take-take, drop-drop, take-add, length-take-le}
 use Rattle.scope_graph.specs.Rows.{PackedName}
-use Rattle.graph_file.specs.Format.{declarationSection}
+use Rattle.graph_rows.specs.Format.{declarationSection}
 use Rattle.graph_table.specs.Rows.{RowsAscend}
 use Rattle.block.specs.Block.{declaredPart}
 use Rattle.graph_table.specs.Sections.{leading, startOf, partOf, rowsOf}

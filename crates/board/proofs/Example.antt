@@ -5,12 +5,13 @@ use mathlib.Core.List.{List, [], _∷_}
 use Rattle.text_field.specs.Bytes.{within, isDigit, isCapital, isLower, isNameByte}
 use Rattle.text_field.specs.Number.{growing, digitsFrom, numberHere, numberMeaning}
 use Rattle.text_field.specs.Name.{packed, packHigh, packLow, nameRun, nameOf, nameHere, nameMeaning}
-use Rattle.graph_file.specs.Format.{labels, pairs, transitions, accepts, scopeCount, edges, declarations, openPairs, queries, sections, sectionAt, hasKinds, hasTurns, edgeShape, declarationShape, queryShape, shapesOf, shapeAt, everyItem}
+use Rattle.graph_rows.specs.Format.{labels, pairs, transitions, accepts, scopeCount, edges, declarations, openPairs, queries, sections, sectionAt, hasKinds, hasTurns, edgeShape, declarationShape, queryShape, shapesOf, shapeAt, everyItem}
 use Rattle.text_field.specs.Outcome.{done, andThen, refuseIf}
-use Rattle.graph_file.specs.Admission.{nothing, begun, joined, counted, taken, contentInRange, itemInRange, inRange, keyLess, listed, ascends, sameSource, sameEdge, repeats, follows, unless, admission}
-use Rattle.graph_file.specs.Line.{numberTaken, nameTaken, byteTaken, place, endTaken, readField, startsWith, readItem, placeOf, readItems}
-use Rattle.graph_file.specs.Order.{someRow, sameEnds, gap, pairFault, orderFault}
-use Rattle.graph_file.specs.File.{ifAdmitted, afterRow, oneRow, throughRows, afterNames, enough, throughSection, isEmpty, throughSections, ordered, atStart, whole, readNames, rowFollows, readRow, reading, throughSome, formShown, formAfter, turnsIn, kindsIn, formWith, formOf, readStage, madeOf, readCells}
+use Rattle.graph_rows.specs.Admission.{nothing, begun, joined, counted, taken, contentInRange, itemInRange, inRange, keyLess, listed, ascends, sameSource, sameEdge, repeats, follows, unless, admission, place}
+use Rattle.graph_file.specs.Line.{numberTaken, nameTaken, byteTaken, endTaken, readField, readItem, placeOf, readItems}
+use Rattle.graph_rows.specs.Way.{startsWith, ifAdmitted, afterRow, oneRow, throughRows, afterNames, enough, throughSection, isEmpty, throughSections, ordered, atStart, whole, throughSome}
+use Rattle.graph_rows.specs.Order.{someRow, sameEnds, gap, pairFault, orderFault}
+use Rattle.graph_file.specs.File.{readNames, rowFollows, readRow, reading, formShown, formAfter, turnsIn, kindsIn, formWith, formOf, readStage, madeOf, readCells}
 use Rattle.board.specs.Example.{exampleText}
 
 -- what reading a text computes with: named alone on an `unfolding` line

@@ -8,9 +8,9 @@ use native.Mathlib.Omega.{arith}
 use lib.ListN.{length, getD, set, length-set}
 use lib.Seq.{getD-set-same, getD-set-other}
 use Rattle.scope_graph.specs.Rows.{nextBy}
-use Rattle.graph_file.specs.Format.{labelSection, transitionSection, acceptSection, countSection, pairSection, edgeSection, declarationSection}
-use Rattle.graph_file.specs.Admission.{Row, value, blank}
-use Rattle.graph_file.specs.Decode.{transitionOf}
+use Rattle.graph_rows.specs.Format.{labelSection, transitionSection, acceptSection, countSection, pairSection, edgeSection, declarationSection}
+use Rattle.graph_rows.specs.Admission.{Row, value, blank}
+use Rattle.graph_rows.specs.Decode.{transitionOf}
 use Rattle.block.specs.Sets.{hasBit, hasState}
 use Rattle.block.specs.Layout.{DELTA, BETTER, ACCEPT, SCOPES, USABLE, LETTER, START, FIRST, EDGE, DECL, STATES, TURN, HINT, SIZE, IsBlock}
 use Rattle.block.specs.Block.{nextCell, statesCell, turnCell, turnOf, acceptSet, usableSet, letterCell, scopesCell, firstEdge, edgeCell, blockHops, firstDeclaration}

@@ -11,7 +11,7 @@ use Rattle.scope_graph.specs.Language.{_∈_}
 use Rattle.scope_graph.specs.Path.{HopOf}
 use Rattle.scope_graph.specs.Turns.{Turned}
 use Rattle.scope_graph.proofs.Lists.{here, there}
-use Rattle.graph_file.specs.Admission.{Row, value}
+use Rattle.graph_rows.specs.Admission.{Row, value}
 use Rattle.graph_table.specs.Rows.{hopTo, byScope, rowHops}
 use Rattle.graph_table.proofs.Laws.{by-later, by-own, by-earlier, rows-none, compare}
 use Rattle.graph_table.specs.Sections.{rowsOf}

@@ -10,12 +10,12 @@ use Rattle.scope_graph.specs.Language.{_∈_}
 use Rattle.scope_graph.proofs.Lists.{and-right}
 use Rattle.text_field.specs.Bytes.{within, isLower}
 use Rattle.text_field.specs.Outcome.{done}
-use Rattle.graph_file.specs.Format.{querySection}
-use Rattle.graph_file.specs.Admission.{Row, value}
+use Rattle.graph_rows.specs.Format.{querySection}
+use Rattle.graph_rows.specs.Admission.{Row, value}
 use Rattle.graph_file.specs.File.{readCells}
-use Rattle.graph_file.specs.Decode.{rowsIn}
-use Rattle.graph_file.proofs.DecodeWritten.{read-admitted}
-use Rattle.graph_file.proofs.DecodeKinds.{sought-lower}
+use Rattle.graph_rows.specs.Decode.{rowsIn}
+use Rattle.graph_file.proofs.Promises.{read-admitted}
+use Rattle.graph_rows.proofs.DecodeKinds.{sought-lower}
 use Rattle.graph_table.proofs.RowLaws.{rowQuery}
 
 module _ (text cells : List ℕ) (e : readCells text ≡ done cells) (row : Row) (m : row ∈ rowsIn querySection cells) where

@@ -6,7 +6,7 @@ use mathlib.Core.List.{List, [], _∷_}
 use native.Mathlib.Omega.{arith}
 use lib.ListN.{length, drop}
 use Rattle.scope_graph.specs.Rows.{PackedName}
-use Rattle.graph_file.specs.Admission.{Row, rowOf}
+use Rattle.graph_rows.specs.Admission.{Row, rowOf}
 use Rattle.graph_table.specs.Sections.{rowsOf}
 use Rattle.graph_table.specs.Values.{declarationRow, rowDeclared, declares}
 use Rattle.graph_table.specs.declared.rows.DeclarationRow.{DeclarationRow}

@@ -19,9 +19,9 @@ use Rattle.scope_graph.specs.declared.Turn.{Turn}
 use Rattle.scope_graph.specs.declared.End.{End}
 use Rattle.scope_graph.specs.declared.End.the-variants.{Stop, Label}
 use Rattle.scope_graph.proofs.Lists.{Two, and-left, and-right, not-true}
-use Rattle.graph_file.specs.Admission.{Row, value, rowOf}
-use Rattle.graph_file.specs.Decode.{orderPairOf, transitionOf}
-use Rattle.graph_file.proofs.RowLaws.{row-cells}
+use Rattle.graph_rows.specs.Admission.{Row, value, rowOf}
+use Rattle.graph_rows.specs.Decode.{orderPairOf, transitionOf}
+use Rattle.graph_rows.proofs.RowLaws.{row-cells}
 use Rattle.block.specs.Sets.{hasBit, hasState}
 use Rattle.block.proofs.SetLaws.{bits-or, bits-none, bits-one, one-shifted, states-none, states-or, states-one}
 use Rattle.graph_table.specs.Sections.{rowsOf}

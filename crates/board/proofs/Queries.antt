@@ -8,11 +8,12 @@ use Rattle.scope_graph.specs.Language.{_∈_}
 use Rattle.scope_graph.specs.Graph.{Query}
 use Rattle.scope_graph.specs.Rows.{language}
 use Rattle.scope_graph.proofs.Lists.{here, there}
-use Rattle.graph_file.specs.Format.{querySection}
-use Rattle.graph_file.specs.Admission.{Row, rowOf, blank}
-use Rattle.graph_file.specs.Decode.{rowsIn, rulesOf, scopesOf, nameAt, queryOf, queriesOf, WasRead}
-use Rattle.graph_file.specs.Accepted.{AcceptedTable}
-use Rattle.graph_file.proofs.DecodeAccepted.{read-accepted}
+use Rattle.graph_rows.specs.Format.{querySection}
+use Rattle.graph_rows.specs.Admission.{Row, rowOf, blank}
+use Rattle.graph_rows.specs.Decode.{rowsIn, rulesOf, scopesOf, nameAt, queryOf, queriesOf}
+use Rattle.graph_file.specs.File.{WasRead}
+use Rattle.graph_rows.specs.Accepted.{AcceptedTable}
+use Rattle.graph_file.proofs.Promises.{read-accepted}
 use Rattle.graph_table.specs.declared.rows.QueryRow.{QueryRow}
 use Rattle.graph_table.specs.Sections.{partOf, rowsOf}
 use Rattle.graph_table.specs.Values.{queryRow}

@@ -15,8 +15,8 @@ use Rattle.scope_graph.specs.Path.{HopOf}
 use Rattle.scope_graph.specs.Turns.{Turned}
 use Rattle.scope_graph.specs.Rows.{Rules, language}
 use Rattle.scope_graph.specs.Computed.{keep, hopsAt}
-use Rattle.graph_file.specs.Admission.{Row}
-use Rattle.graph_file.specs.Decode.{keptIf, rowsAmong, rowsIn, edgeOf}
+use Rattle.graph_rows.specs.Admission.{Row}
+use Rattle.graph_rows.specs.Decode.{keptIf, rowsAmong, rowsIn, edgeOf}
 use Rattle.graph_table.specs.Rows.{hopTo, ifOwn, allHops}
 use Rattle.graph_table.specs.Sections.{leading, startOf, partOf, rowsOf, SectionsAscend}
 use Rattle.board.specs.Promises.{PartIs}

@@ -14,8 +14,8 @@ use Rattle.scope_graph.specs.Order.{endOf}
 use Rattle.scope_graph.specs.Graph.{Graph, Query}
 use Rattle.scope_graph.specs.Computed.{anyBelow, leadsOn, usable, openEnd}
 use Rattle.scope_graph.proofs.Rows.{nextBy-row}
-use Rattle.graph_file.specs.Admission.{Row}
-use Rattle.graph_file.specs.Decode.{transitionOf}
+use Rattle.graph_rows.specs.Admission.{Row}
+use Rattle.graph_rows.specs.Decode.{transitionOf}
 use Rattle.block.specs.Sets.{hasState}
 use Rattle.block.specs.Block.{stateOf, nextCell}
 use Rattle.block.proofs.SetLaws.{state-past, states-none}

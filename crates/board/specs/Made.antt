@@ -7,9 +7,9 @@ use mathlib.Core.List.{List, map}
 use lib.ListN.{length, getD}
 use Rattle.scope_graph.specs.Rows.{preferredBy, nextBy}
 use Rattle.scope_graph.specs.Order.{endOf}
-use Rattle.graph_file.specs.Format.{labelSection, pairSection, transitionSection, acceptSection, countSection, edgeSection, declarationSection}
-use Rattle.graph_file.specs.Admission.{Row, value, blank}
-use Rattle.graph_file.specs.Decode.{orderPairOf, transitionOf}
+use Rattle.graph_rows.specs.Format.{labelSection, pairSection, transitionSection, acceptSection, countSection, edgeSection, declarationSection}
+use Rattle.graph_rows.specs.Admission.{Row, value, blank}
+use Rattle.graph_rows.specs.Decode.{orderPairOf, transitionOf}
 use Rattle.block.specs.Sets.{hasBit, hasState}
 use Rattle.block.specs.Layout.{DELTA, BETTER, ACCEPT, SCOPES, USABLE, LETTER, START, DECL, STATES, IsBlock}
 use Rattle.block.specs.Block.{nextCell, acceptSet, usableSet, letterCell, scopesCell, Bounds, turnCell, turnOf, firstEdge, edgeCell, blockHops, firstDeclaration}

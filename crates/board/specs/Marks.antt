@@ -5,7 +5,7 @@ use mathlib.Core.Path.{_≡_}
 use mathlib.Core.Bool.{Bool, true, false}
 use mathlib.Core.List.{List, [], _∷_, map}
 use Rattle.scope_graph.specs.Rows.{PackedName, anyOf}
-use Rattle.graph_file.specs.Admission.{Row}
+use Rattle.graph_rows.specs.Admission.{Row}
 use Rattle.block.specs.Sets.{hasScope}
 use Rattle.graph_table.specs.Sections.{leading, rowsOf}
 use Rattle.graph_table.specs.Values.{rowDeclared, declares}

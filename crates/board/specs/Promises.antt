@@ -15,11 +15,11 @@ use Rattle.scope_graph.specs.Rows.{OrderPair, Transition, PackedName, language}
 use Rattle.scope_graph.specs.Order.{endOf}
 use Rattle.scope_graph.specs.Graph.{Edge, Declaration, Query}
 use Rattle.scope_graph.specs.Computed.{hopsAt, leadsOn, usable, openEnd}
-use Rattle.graph_file.specs.Format.{turnCount, countSection, edgeSection, declarationSection}
-use Rattle.graph_file.specs.Admission.{value, blank}
+use Rattle.graph_rows.specs.Format.{turnCount, countSection, edgeSection, declarationSection}
+use Rattle.graph_rows.specs.Admission.{value, blank}
 use Rattle.text_field.specs.Outcome.{done}
 use Rattle.graph_file.specs.File.{readCells, writeText}
-use Rattle.graph_file.specs.Decode.{rowsIn, lettersOf, rulesOf, graphOf}
+use Rattle.graph_rows.specs.Decode.{rowsIn, lettersOf, rulesOf, graphOf}
 use Rattle.graph_table.specs.Rows.{rowHops, allHops, RowsAscend}
 use Rattle.block.specs.Sets.{hasState, placesOf}
 use Rattle.block.specs.Block.{letterCell, scopesCell, nextCell, acceptSet, usableSet, blockHops, declaredPart}

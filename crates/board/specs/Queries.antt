@@ -5,7 +5,8 @@ use mathlib.Core.List.{List}
 use lib.ListN.{getD}
 use Rattle.scope_graph.specs.Graph.{Query}
 use Rattle.scope_graph.specs.Rows.{PackedName, language}
-use Rattle.graph_file.specs.Decode.{rulesOf, queriesOf, scopesOf, WasRead}
+use Rattle.graph_rows.specs.Decode.{rulesOf, queriesOf, scopesOf}
+use Rattle.graph_file.specs.File.{WasRead}
 use Rattle.graph_table.specs.declared.rows.QueryRow.{QueryRow}
 use Rattle.graph_table.specs.Values.{packed}
 

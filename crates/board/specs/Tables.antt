@@ -12,8 +12,8 @@ use Rattle.scope_graph.specs.Order.{endOf}
 use Rattle.scope_graph.specs.declared.End.{End}
 use Rattle.scope_graph.specs.declared.End.the-variants.{Stop, Label}
 use Rattle.scope_graph.specs.Computed.{anyBelow}
-use Rattle.graph_file.specs.Admission.{Row, value, blank}
-use Rattle.graph_file.specs.Decode.{orderPairOf, transitionOf}
+use Rattle.graph_rows.specs.Admission.{Row, value, blank}
+use Rattle.graph_rows.specs.Decode.{orderPairOf, transitionOf}
 use Rattle.block.specs.Sets.{hasBit, hasState}
 
 -- the cells f 0, f 1 and on, n of them

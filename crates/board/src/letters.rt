@@ -5,7 +5,7 @@ ghost use mathlib.Core.Path.{_≡_};
 ghost use mathlib.Core.List.{List};
 ghost use Prim.Native.Nat.{ℕ, _%_};
 ghost use lib.ListN.{getD};
-ghost use Rattle.graph_file.specs.Admission.{Row, value, blank};
+ghost use Rattle.graph_rows.specs.Admission.{Row, value, blank};
 ghost use Rattle.graph_table.specs.Sections.{rowsOf};
 ghost use Rattle.board.specs.Tables.{tabulate, letterOf};
 

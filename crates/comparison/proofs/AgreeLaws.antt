@@ -9,7 +9,7 @@ use native.Mathlib.Omega.{arith}
 use borrow.Author.Tests.{eqb-true, eq-eqb}
 use lib.Dec.{eqb}
 use lib.ListN.{getD, take, drop}
-use Rattle.graph_file.specs.Decode.{lettersOf, rulesOf, graphOf}
+use Rattle.graph_rows.specs.Decode.{lettersOf, rulesOf, graphOf}
 use Rattle.scope_graph.specs.Language.{Language}
 use Rattle.scope_graph.specs.Rows.{Rules, language}
 use Rattle.scope_graph.specs.Path.{HopOf}

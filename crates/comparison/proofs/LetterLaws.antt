@@ -10,9 +10,10 @@ use Rattle.text_field.specs.Bytes.{isCapital}
 use Rattle.text_field.proofs.ByteLaws.{within-bounds}
 use Rattle.scope_graph.specs.Language.{_∈_}
 use Rattle.scope_graph.proofs.Lists.{here, there, map-elim}
-use Rattle.graph_file.specs.Format.{labelSection}
-use Rattle.graph_file.specs.Admission.{Row, value}
-use Rattle.graph_file.specs.Decode.{rowsIn, lettersOf, rulesOf, WasRead}
+use Rattle.graph_rows.specs.Format.{labelSection}
+use Rattle.graph_rows.specs.Admission.{Row, value}
+use Rattle.graph_rows.specs.Decode.{rowsIn, lettersOf, rulesOf}
+use Rattle.graph_file.specs.File.{WasRead}
 use Rattle.block.specs.Block.{letterCell}
 use Rattle.board.specs.Made.{Made}
 use Rattle.board.proofs.Capitals.{capitals}

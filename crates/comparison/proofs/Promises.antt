@@ -9,8 +9,8 @@ use lib.ListN.{length}
 use borrow.Author.Tests.{le-ltb}
 use Rattle.text_field.specs.Outcome.{done, andThen, refuseIf}
 use Rattle.graph_file.specs.File.{readCells}
-use Rattle.graph_file.specs.Decode.{rulesOf}
-use Rattle.graph_file.proofs.DecodeAccepted.{read-accepted}
+use Rattle.graph_rows.specs.Decode.{rulesOf}
+use Rattle.graph_file.proofs.Promises.{read-accepted}
 use Rattle.scope_graph.specs.Language.{Language}
 use Rattle.scope_graph.specs.Rows.{language}
 use Rattle.scope_graph.specs.Promises.{OrderPromises}

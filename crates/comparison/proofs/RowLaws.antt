@@ -8,7 +8,8 @@ use Prim.Native.Nat.{ℕ, _≤_, _<_}
 use borrow.Author.Tests.{ne-eqb, eq-eqb, eqb-true, lt-ltb, le-ltb}
 use lib.Dec.{eqb, ltb}
 use Rattle.text_field.specs.Outcome.{Outcome, refused, done, andThen, refuseIf}
-use Rattle.graph_file.specs.Decode.{lettersOf, rulesOf, graphOf, WasRead}
+use Rattle.graph_rows.specs.Decode.{lettersOf, rulesOf, graphOf}
+use Rattle.graph_file.specs.File.{WasRead}
 use Rattle.scope_graph.specs.Language.{Language, End, stop, by}
 use Rattle.scope_graph.specs.Rows.{language}
 use Rattle.scope_graph.specs.Path.{Hop}

@@ -8,7 +8,7 @@ use lib.Dec.{ltb}
 use lib.ListN.{length}
 use Rattle.text_field.specs.Outcome.{Outcome, refused, done, andThen, refuseIf}
 use Rattle.graph_file.specs.File.{readCells}
-use Rattle.graph_file.specs.Decode.{rulesOf}
+use Rattle.graph_rows.specs.Decode.{rulesOf}
 use Rattle.scope_graph.specs.Rows.{language}
 use Rattle.scope_graph.specs.Computed.{moreSpecific}
 use Rattle.scope_graph.specs.Agree.{agree}

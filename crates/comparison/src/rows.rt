@@ -11,7 +11,7 @@ use path_row::taken::steps_of;
 ghost use mathlib.Core.Path.{_≡_};
 ghost use mathlib.Core.List.{[]};
 ghost use Rattle.text_field.specs.Outcome.{done};
-ghost use Rattle.graph_file.specs.Decode.{WasRead};
+ghost use Rattle.graph_file.specs.File.{WasRead};
 ghost use Rattle.block.specs.Layout.{IsBlock};
 ghost use Rattle.path_row.specs.Form.{stepsTaken, stepsHeld};
 ghost use Rattle.comparison.specs.Compare.{asTold, meaning, toldOf, compareRows, HandsOut};

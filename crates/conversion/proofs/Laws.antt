@@ -8,15 +8,16 @@ use lib.ListN.{length, take, drop}
 use Rattle.text_field.specs.Outcome.{Outcome, refused, done, andThen, refuseIf}
 use Rattle.text_field.specs.Answer.{answer, leaves}
 use Rattle.text_field.proofs.AnswerLaws.{answer-refused, leaves-refused}
-use Rattle.graph_file.specs.File.{readCells, formIn, writeText}
-use Rattle.graph_file.specs.Accepted.{AcceptedTable}
-use Rattle.graph_file.specs.Decode.{sectionPlace}
+use Rattle.graph_file.specs.File.{readCells, writeText}
+use Rattle.graph_rows.specs.Tested.{formIn}
+use Rattle.graph_rows.specs.Accepted.{AcceptedTable}
+use Rattle.graph_rows.specs.Decode.{sectionPlace}
 use Rattle.graph_file.proofs.TableLaws.{ReadInto, refused-then, made-then}
-use Rattle.graph_file.proofs.DecodeAccepted.{read-accepted}
+use Rattle.graph_file.proofs.Promises.{read-accepted}
 use Rattle.graph_table.specs.declared.sections.Form.{Form}
 use Rattle.graph_table.specs.declared.sections.Form.the-variants.{Old, Kinds}
 use Rattle.graph_table.specs.Sections.{formNumber, withForm}
-use Rattle.graph_file.specs.Formed.{inForm}
+use Rattle.graph_rows.specs.Formed.{inForm}
 use Rattle.conversion.specs.Conversion.{oldText, newText, textIn, textOf}
 use Rattle.conversion.specs.Rows.{unfit}
 

@@ -10,15 +10,15 @@ use Rattle.text_field.specs.Outcome.{Outcome, refused, done, andThen, refuseIf}
 use Rattle.text_field.specs.Answer.{answer}
 use Rattle.text_field.proofs.OutcomeLaws.{not-done, went, passed}
 use Rattle.text_field.proofs.AnswerLaws.{answer-refused}
-use Rattle.graph_file.specs.Format.{oldForm, kindForm, turnForm, hasKinds, textBytes}
-use Rattle.graph_file.specs.File.{formOf, readCells, formIn, writeText}
-use Rattle.graph_file.specs.Decode.{rowsIn}
-use Rattle.graph_file.specs.Formed.{FormedTable, FormsOf, otherKinds, otherTurns, inForm}
-use Rattle.graph_file.proofs.DecodeOrder.{or-false}
+use Rattle.graph_rows.specs.Format.{oldForm, kindForm, turnForm, hasKinds, textBytes}
+use Rattle.graph_file.specs.File.{formOf, readCells, writeText}
+use Rattle.graph_rows.specs.Tested.{formIn}
+use Rattle.graph_rows.specs.Decode.{rowsIn}
+use Rattle.graph_rows.specs.Formed.{FormedTable, FormsOf, otherKinds, otherTurns, inForm}
+use Rattle.graph_rows.proofs.DecodeOrder.{or-false}
 use Rattle.graph_file.proofs.InverseFile.{read-then-written, written-then-read, form-read, form-written}
-use Rattle.graph_file.proofs.FormedTable.{formed-written, read-formed}
-use Rattle.graph_file.proofs.FormedForms.{form-changed}
-use Rattle.graph_file.proofs.FormedChanges.{nothing-but-nine}
+use Rattle.graph_file.proofs.Promises.{formed-written, read-formed, nothing-but-nine}
+use Rattle.graph_rows.proofs.FormedForms.{form-changed}
 use Rattle.graph_table.specs.declared.sections.Form.{Form}
 use Rattle.graph_table.specs.declared.sections.Form.the-variants.{Old, Kinds}
 use Rattle.graph_table.specs.Sections.{formNumber}

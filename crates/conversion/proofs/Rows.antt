@@ -8,12 +8,12 @@ use borrow.Author.Tests.{eqb-true}
 use lib.Dec.{eqb}
 use lib.ListN.{length, getD, drop, length-drop}
 use lib.Seq.{drop-drop, getD-drop}
-use Rattle.graph_file.specs.Format.{plainKind, edgeSection, declarationSection, querySection}
-use Rattle.graph_file.specs.Admission.{Row, value, rowOf}
-use Rattle.graph_file.specs.Line.{startsWith}
-use Rattle.graph_file.specs.Order.{someRow}
-use Rattle.graph_file.specs.Decode.{keptIf, rowsAmong, rowsIn}
-use Rattle.graph_file.specs.Formed.{otherKind, otherKinds, otherTurn, otherTurns}
+use Rattle.graph_rows.specs.Format.{plainKind, edgeSection, declarationSection, querySection}
+use Rattle.graph_rows.specs.Admission.{Row, value, rowOf}
+use Rattle.graph_rows.specs.Way.{startsWith}
+use Rattle.graph_rows.specs.Order.{someRow}
+use Rattle.graph_rows.specs.Decode.{keptIf, rowsAmong, rowsIn}
+use Rattle.graph_rows.specs.Formed.{otherKind, otherKinds, otherTurn, otherTurns}
 use Rattle.graph_table.specs.Sections.{firstRow}
 use Rattle.graph_table.specs.Values.{edgeRow, declarationRow, queryRow}
 use Rattle.graph_table.specs.declared.rows.EdgeRow.{EdgeRow}

@@ -7,8 +7,8 @@ use mathlib.Core.List.{List}
 use Rattle.scope_graph.specs.Graph.{OpenPair}
 use Rattle.scope_graph.specs.Rows.{language}
 use Rattle.scope_graph.specs.Computed.{awaits}
-use Rattle.graph_file.specs.Decode.{rowsIn, lettersOf, rulesOf, scopesOf, graphOf, opensOf, queriesOf}
-use Rattle.graph_file.specs.Formed.{inForm}
+use Rattle.graph_rows.specs.Decode.{rowsIn, lettersOf, rulesOf, scopesOf, graphOf, opensOf, queriesOf}
+use Rattle.graph_rows.specs.Formed.{inForm}
 use Rattle.board.specs.Queries.{queryAt}
 use Rattle.resolution.specs.Listing.{awaitsText, foundFor, entriesText}
 use Rattle.conversion.specs.Promises.{SameListings}

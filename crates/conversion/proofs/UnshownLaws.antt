@@ -10,12 +10,12 @@ use lib.Dec.{eqb}
 use borrow.Author.Tests.{eqb-false, ne-eqb}
 use Rattle.scope_graph.specs.Language.{_∈_}
 use Rattle.scope_graph.proofs.Lists.{Two, true-false, or-cases, or-left, or-right, not-is, is-not, map-intro, map-elim}
-use Rattle.graph_file.specs.Format.{plainKind, edgeSection, declarationSection, querySection}
-use Rattle.graph_file.specs.Admission.{Row, value}
-use Rattle.graph_file.specs.Order.{someRow}
-use Rattle.graph_file.specs.Decode.{rowsIn, rulesOf, nameAt, edgeOf, declarationOf, queryOf, graphOf, queriesOf}
-use Rattle.graph_file.specs.Formed.{otherKind, otherKinds, otherTurn, otherTurns}
-use Rattle.graph_file.proofs.DecodeOrder.{some-row, some-none}
+use Rattle.graph_rows.specs.Format.{plainKind, edgeSection, declarationSection, querySection}
+use Rattle.graph_rows.specs.Admission.{Row, value}
+use Rattle.graph_rows.specs.Order.{someRow}
+use Rattle.graph_rows.specs.Decode.{rowsIn, rulesOf, nameAt, edgeOf, declarationOf, queryOf, graphOf, queriesOf}
+use Rattle.graph_rows.specs.Formed.{otherKind, otherKinds, otherTurn, otherTurns}
+use Rattle.graph_rows.proofs.DecodeOrder.{some-row, some-none}
 use Rattle.conversion.specs.Conversion.{unshown}
 use Rattle.conversion.specs.Promises.{Unshown, declared, sought, turned}
 

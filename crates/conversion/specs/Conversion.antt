@@ -4,9 +4,10 @@ use Prim.Native.Nat.{ℕ}
 use mathlib.Core.Bool.{Bool, _||_}
 use mathlib.Core.List.{List}
 use Rattle.text_field.specs.Outcome.{Outcome, andThen, refuseIf}
-use Rattle.graph_file.specs.Format.{oldForm}
-use Rattle.graph_file.specs.File.{readCells, formIn, writeText}
-use Rattle.graph_file.specs.Formed.{otherKinds, otherTurns, inForm}
+use Rattle.graph_rows.specs.Format.{oldForm}
+use Rattle.graph_file.specs.File.{readCells, writeText}
+use Rattle.graph_rows.specs.Tested.{formIn}
+use Rattle.graph_rows.specs.Formed.{otherKinds, otherTurns, inForm}
 use Rattle.graph_table.specs.Sections.{formNumber}
 use Rattle.graph_table.specs.declared.sections.Form.{Form}
 use Rattle.graph_table.specs.declared.sections.Form.the-variants.{Old, Kinds}

@@ -13,10 +13,10 @@ use Rattle.scope_graph.specs.Rows.{language}
 use Rattle.scope_graph.specs.Computed.{awaits}
 use Rattle.text_field.specs.Outcome.{refused, done}
 use Rattle.text_field.specs.Answer.{answer}
-use Rattle.graph_file.specs.Format.{plainKind, oldForm, kindForm, turnForm, hasKinds, textBytes}
+use Rattle.graph_rows.specs.Format.{plainKind, oldForm, kindForm, turnForm, hasKinds, textBytes}
 use Rattle.graph_file.specs.File.{formOf, readCells}
-use Rattle.graph_file.specs.Decode.{rowsIn, rulesOf, graphOf, opensOf, queriesOf}
-use Rattle.graph_file.specs.Formed.{inForm}
+use Rattle.graph_rows.specs.Decode.{rowsIn, rulesOf, graphOf, opensOf, queriesOf}
+use Rattle.graph_rows.specs.Formed.{inForm}
 use Rattle.graph_table.specs.Sections.{formNumber}
 use Rattle.graph_table.specs.declared.sections.Form.the-variants.{Kinds}
 use Rattle.board.specs.Queries.{queryAt}

@@ -3,10 +3,10 @@
 use Prim.Native.Nat.{ℕ}
 use mathlib.Core.List.{List}
 use mathlib.Core.Bool.{Bool, true, false, _&&_, _||_}
-use Rattle.graph_file.specs.Format.{edgeSection, declarationSection, querySection}
-use Rattle.graph_file.specs.Admission.{rowOf}
-use Rattle.graph_file.specs.Line.{startsWith}
-use Rattle.graph_file.specs.Formed.{otherKind, otherTurn}
+use Rattle.graph_rows.specs.Format.{edgeSection, declarationSection, querySection}
+use Rattle.graph_rows.specs.Admission.{rowOf}
+use Rattle.graph_rows.specs.Way.{startsWith}
+use Rattle.graph_rows.specs.Formed.{otherKind, otherTurn}
 use Rattle.graph_table.specs.declared.sections.Form.{Form}
 use Rattle.graph_table.specs.declared.sections.Form.the-variants.{Old, Kinds}
 use Rattle.conversion.specs.Conversion.{unshown}

@@ -1,5 +1,5 @@
 // Whether a graph table has something that the wanted form cannot show.
-use graph_file::PLAIN_KIND;
+use graph_rows::PLAIN_KIND;
 use graph_table::DECLARATIONS;
 use graph_table::EDGES;
 use graph_table::EdgeRow;
@@ -17,7 +17,7 @@ ghost use mathlib.Core.Bool.{not};
 ghost use Prim.Native.Nat.{_+_, _≤_};
 ghost use lib.Dec.{eqb};
 ghost use lib.ListN.{length, drop};
-ghost use Rattle.graph_file.specs.Format.{plainKind};
+ghost use Rattle.graph_rows.specs.Format.{plainKind};
 ghost use Rattle.conversion.specs.Conversion.{unshown};
 ghost use Rattle.conversion.specs.Rows.{otherHere, unfit};
 

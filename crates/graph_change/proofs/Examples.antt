@@ -3,9 +3,9 @@
 use Prim.Native.Nat.{ℕ}
 use mathlib.Core.Path.{_≡_, refl}
 use mathlib.Core.List.{List, [], _∷_, _++_}
-use Rattle.graph_file.specs.Format.{labels, pairs, transitions, accepts, scopeCount, edges, declarations, openPairs, queries, sections, sectionAt, edgeSection, openSection}
-use Rattle.graph_file.specs.Admission.{Row, rowOf, keyLess}
-use Rattle.graph_file.specs.Line.{startsWith}
+use Rattle.graph_rows.specs.Format.{labels, pairs, transitions, accepts, scopeCount, edges, declarations, openPairs, queries, sections, sectionAt, edgeSection, openSection}
+use Rattle.graph_rows.specs.Admission.{Row, rowOf, keyLess}
+use Rattle.graph_rows.specs.Way.{startsWith}
 use Rattle.graph_table.specs.Sections.{leading, startOf}
 use Rattle.graph_change.specs.declared.place.Place.the-variants.{There, Free}
 use Rattle.graph_change.specs.Cells.{spliced}

@@ -6,14 +6,14 @@ use mathlib.Core.Bool.{false}
 use native.Mathlib.Omega.{arith}
 use borrow.Author.Tests.{eq-eqb, ne-eqb}
 use lib.ListN.{length}
-use Rattle.graph_file.specs.Format.{Sequence, ascending, apart, once, free, labels, pairs, transitions, accepts, scopeCount, edges, declarations, openPairs, queries, sections, sectionAt, shapeAt, labelSection, pairSection, countSection}
-use Rattle.graph_file.specs.Admission.{Row, keyLess}
-use Rattle.graph_file.specs.Order.{orderFault}
-use Rattle.graph_file.specs.File.{formIn}
-use Rattle.graph_file.specs.Decode.{rowsIn}
-use Rattle.graph_file.specs.Formed.{cellsOf, tableOf, InTurn, FormedRow, FormedRows, FormedSection, FormedTable, replaced, MayJoin}
-use Rattle.graph_file.proofs.FormedTable.{table-formed}
-use Rattle.graph_file.proofs.FormedChanges.{section-replaced, row-added, rows-kept}
+use Rattle.graph_rows.specs.Format.{Sequence, ascending, apart, once, free, labels, pairs, transitions, accepts, scopeCount, edges, declarations, openPairs, queries, sections, sectionAt, shapeAt, labelSection, pairSection, countSection}
+use Rattle.graph_rows.specs.Admission.{Row, keyLess}
+use Rattle.graph_rows.specs.Order.{orderFault}
+use Rattle.graph_rows.specs.Tested.{formIn}
+use Rattle.graph_rows.specs.Decode.{rowsIn}
+use Rattle.graph_rows.specs.Formed.{cellsOf, tableOf, InTurn, FormedRow, FormedRows, FormedSection, FormedTable, replaced, MayJoin}
+use Rattle.graph_rows.proofs.FormedTable.{table-formed}
+use Rattle.graph_rows.proofs.FormedChanges.{section-replaced, row-added, rows-kept}
 use Rattle.graph_change.specs.Place.{placeIn}
 use Rattle.graph_change.specs.Changed.{inserted, removed, withRow, withoutRow, withRows}
 use Rattle.graph_change.specs.Promises.{Ascending, NoneLike, Found, FiveValues, ChangedAt, scopesAt, Ascends, FormedPut, FormedTaken, FormedReplaced, FormedFound}

@@ -8,8 +8,8 @@ use native.Mathlib.Omega.{arith}
 use lib.ListN.{length, length-append}
 use Rattle.scope_graph.specs.Language.{_∈_}
 use Rattle.scope_graph.proofs.Lists.{here}
-use Rattle.graph_file.specs.Admission.{Row}
-use Rattle.graph_file.specs.Formed.{cellsOf, cellsFrom}
+use Rattle.graph_rows.specs.Admission.{Row}
+use Rattle.graph_rows.specs.Formed.{cellsOf, cellsFrom}
 use Rattle.graph_change.specs.Place.{leadingRows}
 use Rattle.graph_change.proofs.Leading.{stop-row, stop-none, pass-rows}
 

@@ -12,11 +12,11 @@ use lib.Seq.{take-at, drop-at}
 use borrow.Author.Tests.{eq-eqb, ne-eqb, lt-ltb, le-ltb, le-leb}
 use Rattle.scope_graph.specs.Language.{_∈_}
 use Rattle.scope_graph.proofs.Lists.{Two, here, true-false}
-use Rattle.graph_file.specs.Format.{sectionAt}
-use Rattle.graph_file.specs.Admission.{Row, rowOf, keyLess}
-use Rattle.graph_file.specs.Formed.{cellsOf, cellsFrom, tableOf, replaced}
-use Rattle.graph_file.proofs.DecodePlaces.{row-first}
-use Rattle.graph_file.specs.Line.{startsWith}
+use Rattle.graph_rows.specs.Format.{sectionAt}
+use Rattle.graph_rows.specs.Admission.{Row, rowOf, keyLess}
+use Rattle.graph_rows.specs.Formed.{cellsOf, cellsFrom, tableOf, replaced}
+use Rattle.graph_rows.proofs.DecodePlaces.{row-first}
+use Rattle.graph_rows.specs.Way.{startsWith}
 use Rattle.graph_table.specs.Sections.{leading, startOf}
 use Rattle.graph_change.specs.declared.place.Place.the-variants.{There, Free}
 use Rattle.graph_change.specs.Cells.{spliced}

@@ -8,12 +8,12 @@ use mathlib.Core.Logic.{_⊎_, _↔_}
 use lib.ListN.{length}
 use Rattle.scope_graph.specs.Language.{_∈_}
 use Rattle.scope_graph.specs.Listing.{Pairwise}
-use Rattle.graph_file.specs.Format.{Sequence, ascending, apart, once, free, sectionAt, shapeAt, labelSection, pairSection, countSection}
-use Rattle.graph_file.specs.Admission.{Row, keyLess}
-use Rattle.graph_file.specs.Order.{orderFault}
-use Rattle.graph_file.specs.File.{formIn}
-use Rattle.graph_file.specs.Decode.{rowsIn}
-use Rattle.graph_file.specs.Formed.{cellsOf, tableOf, scopesIn, FormedRow, FormedSection, FormedTable, replaced, MayJoin}
+use Rattle.graph_rows.specs.Format.{Sequence, ascending, apart, once, free, sectionAt, shapeAt, labelSection, pairSection, countSection}
+use Rattle.graph_rows.specs.Admission.{Row, keyLess}
+use Rattle.graph_rows.specs.Order.{orderFault}
+use Rattle.graph_rows.specs.Tested.{formIn}
+use Rattle.graph_rows.specs.Decode.{rowsIn}
+use Rattle.graph_rows.specs.Formed.{cellsOf, tableOf, scopesIn, FormedRow, FormedSection, FormedTable, replaced, MayJoin}
 use Rattle.graph_change.specs.declared.place.Place.{Place}
 use Rattle.graph_change.specs.declared.place.Place.the-variants.{There, Free}
 use Rattle.graph_change.specs.Place.{sameKey, placeIn}
@@ -87,7 +87,7 @@ abbrev pub PlaceFound : Type 0
 PlaceFound = (form : ℕ) (rows : ℕ → List Row) → FiveValues rows → (k : ℕ) → k < 9 → (row : Row) → Ascending (sectionAt k .key) (rows k)
     → Found (sectionAt k .key) row (rows k) (placeIn k row (tableOf form rows))
 
--- A formed table (graph_file/specs/Formed) whose section k was given other rows: it is formed, with
+-- A formed table (graph_rows/specs/Formed) whose section k was given other rows: it is formed, with
 -- these rows there and all else as it was.
 pub record ChangedAt (k : ℕ) (new : List Row) (cells changed : List ℕ) : Type 0 where
   pub formed : FormedTable changed

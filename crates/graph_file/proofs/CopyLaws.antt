@@ -8,7 +8,7 @@ use lib.ListN.{length, getD, take, drop, length-take, drop-of-length-le}
 use lib.Seq.{drop-cons, getD-take}
 use Rattle.text_field.specs.Buffer.{Buf, puts}
 use Rattle.text_field.proofs.BufferLaws.{puts-none}
-use Rattle.graph_file.specs.declared.rows.Part.{Part}
+use Rattle.graph_file.specs.declared.reader.Part.{Part}
 use Rattle.text_field.specs.Outcome.{refused, done, andThen}
 use Rattle.graph_file.specs.File.{readStage, madeOf, readCells}
 use Rattle.graph_file.specs.Reader.{stageAt, partOutcome}

@@ -6,10 +6,10 @@ use mathlib.Core.List.{[], _∷_}
 use Rattle.scope_graph.specs.Language.{stop, by}
 use Rattle.scope_graph.specs.Rows.{PackedName}
 use Rattle.scope_graph.specs.Order.{endOf}
-use Rattle.graph_file.specs.Decode.{keptIf, rowsAmong, rowsIn, lettersOf, orderPairOf, transitionOf, rulesOf, nameAt, edgeOf, declarationOf, openPairOf, queryOf, scopesOf, graphOf, opensOf, queriesOf}
-use Rattle.graph_file.specs.Accepted.{AcceptedTable}
+use Rattle.graph_rows.specs.Decode.{keptIf, rowsAmong, rowsIn, lettersOf, orderPairOf, transitionOf, rulesOf, nameAt, edgeOf, declarationOf, openPairOf, queryOf, scopesOf, graphOf, opensOf, queriesOf}
+use Rattle.graph_rows.specs.Accepted.{AcceptedTable}
 use Rattle.graph_file.proofs.Examples.{exampleText, exampleCells, example-read, kindsText, kindsCells, kinds-read}
-use Rattle.graph_file.proofs.DecodeAccepted.{read-accepted}
+use Rattle.graph_file.proofs.Promises.{read-accepted}
 
 -- `hours` and `service`, of the kind `v`
 hours : PackedName

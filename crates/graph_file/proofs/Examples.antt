@@ -2,17 +2,19 @@
 -- back, and the names that their queries seek. Assumes nothing.
 use Prim.Native.Nat.{ℕ}
 use mathlib.Core.Path.{_≡_, refl}
-use mathlib.Core.List.{List, [], _∷_, _++_}
+use mathlib.Core.List.{List, [], _∷_}
 use Rattle.text_field.specs.Bytes.{within, isDigit, isCapital, isLower, isNameByte}
 use Rattle.text_field.specs.Number.{digitsOf, numberText, growing, digitsFrom, numberHere, numberMeaning}
 use Rattle.text_field.specs.Name.{allNameBytes, isName, packed, packHigh, packLow, bytesOf, beforeZero, nameText, isNameCells, nameRun, nameOf, nameHere, nameMeaning}
-use Rattle.graph_file.specs.Format.{labels, pairs, transitions, accepts, scopeCount, edges, declarations, openPairs, queries, sections, sectionAt, hasKinds, hasTurns, edgeShape, declarationShape, queryShape, shapesOf, shapeAt, valuesOf, everyItem}
-use Rattle.text_field.specs.Outcome.{Outcome, refused, done, andThen, refuseIf}
-use Rattle.graph_file.specs.Admission.{nothing, begun, joined, counted, taken, contentInRange, itemInRange, inRange, rowOf, keyLess, listed, ascends, sameSource, sameEdge, repeats, follows, unless, admission}
-use Rattle.graph_file.specs.Line.{numberTaken, nameTaken, byteTaken, place, endTaken, readField, startsWith, readItem, placeOf, readItems, endByte, fieldText, itemText, lineText, fieldFormed, itemFormed, sparesPlace, idleZero, idleZeros, formed}
-use Rattle.graph_file.specs.Order.{someRow, sameEnds, gap, pairFault, orderFault}
-use Rattle.graph_file.specs.File.{ifAdmitted, afterRow, oneRow, throughRows, afterNames, enough, throughSection, isEmpty, throughSections, throughSome, ordered, atStart, whole, readNames, rowFollows, readRow, reading, formShown, formAfter, turnsIn, kindsIn, formWith, formOf, readStage, madeOf, readCells, writeNames, cellsFollow, writeRow, writing, hasForm, formIn, writeText}
-use Rattle.text_field.specs.Answer.{answer, written, leaves}
+use Rattle.graph_rows.specs.Format.{labels, pairs, transitions, accepts, scopeCount, edges, declarations, openPairs, queries, sections, sectionAt, hasKinds, hasTurns, edgeShape, declarationShape, queryShape, shapesOf, shapeAt, valuesOf, everyItem}
+use Rattle.text_field.specs.Outcome.{done, andThen, refuseIf}
+use Rattle.graph_rows.specs.Admission.{nothing, begun, joined, counted, taken, contentInRange, itemInRange, inRange, rowOf, keyLess, listed, ascends, sameSource, sameEdge, repeats, follows, unless, admission, place}
+use Rattle.graph_file.specs.Line.{numberTaken, nameTaken, byteTaken, endTaken, readField, readItem, placeOf, readItems, endByte, fieldText, itemText, lineText}
+use Rattle.graph_rows.specs.Way.{startsWith, ifAdmitted, afterRow, oneRow, throughRows, afterNames, enough, throughSection, isEmpty, throughSections, throughSome, ordered, atStart, whole}
+use Rattle.graph_rows.specs.Values.{formed, fieldFormed, itemFormed, sparesPlace, idleZero, idleZeros}
+use Rattle.graph_rows.specs.Order.{someRow, sameEnds, gap, pairFault, orderFault}
+use Rattle.graph_file.specs.File.{readNames, rowFollows, readRow, reading, formShown, formAfter, turnsIn, kindsIn, formWith, formOf, readStage, madeOf, readCells, writeNames, writeRow, writing, writeText}
+use Rattle.graph_rows.specs.Tested.{hasForm, formIn, testRow}
 use Rattle.graph_file.specs.NameSought.{afterLines, lineCount, namePart, restOf, isNameField, fromName, queryFrom, fromWithin, fromSought, nameFront, nameSought}
 
 abbrev pub exampleText : List ℕ
@@ -26,7 +28,7 @@ unfolding labels pairs transitions accepts scopeCount edges declarations openPai
 example-read = refl
 
 pub example-written : writeText exampleCells ≡ done exampleText
-unfolding labels pairs transitions accepts scopeCount edges declarations openPairs queries sections sectionAt hasKinds hasTurns edgeShape declarationShape queryShape shapesOf shapeAt andThen refuseIf nothing begun joined counted taken everyItem contentInRange itemInRange inRange keyLess listed ascends sameSource sameEdge repeats follows unless admission someRow sameEnds gap pairFault orderFault ifAdmitted afterRow oneRow throughRows afterNames enough throughSection isEmpty throughSections ordered atStart whole madeOf within isDigit isCapital isLower isNameByte digitsOf numberText allNameBytes isName packed packHigh packLow bytesOf beforeZero nameText isNameCells endByte fieldText itemText lineText fieldFormed itemFormed valuesOf sparesPlace idleZero idleZeros formed rowOf writeNames cellsFollow writeRow writing hasForm formIn writeText
+unfolding labels pairs transitions accepts scopeCount edges declarations openPairs queries sections sectionAt hasKinds hasTurns edgeShape declarationShape queryShape shapesOf shapeAt andThen refuseIf nothing begun joined counted taken everyItem contentInRange itemInRange inRange keyLess listed ascends sameSource sameEdge repeats follows unless admission someRow sameEnds gap pairFault orderFault ifAdmitted afterRow oneRow throughRows afterNames enough throughSection isEmpty throughSections ordered atStart whole madeOf within isDigit isCapital isLower isNameByte digitsOf numberText allNameBytes isName packed packHigh packLow bytesOf beforeZero nameText isNameCells endByte fieldText itemText lineText fieldFormed itemFormed valuesOf sparesPlace idleZero idleZeros formed rowOf writeNames startsWith testRow writeRow writing hasForm formIn writeText
 example-written = refl
 
 -- the last query's name is `hours`
@@ -51,7 +53,7 @@ unfolding labels pairs transitions accepts scopeCount edges declarations openPai
 kinds-read = refl
 
 pub kinds-written : writeText kindsCells ≡ done kindsText
-unfolding labels pairs transitions accepts scopeCount edges declarations openPairs queries sections sectionAt hasKinds hasTurns edgeShape declarationShape queryShape shapesOf shapeAt andThen refuseIf nothing begun joined counted taken everyItem contentInRange itemInRange inRange keyLess listed ascends sameSource sameEdge repeats follows unless admission someRow sameEnds gap pairFault orderFault ifAdmitted afterRow oneRow throughRows afterNames enough throughSection isEmpty throughSections ordered atStart whole madeOf within isDigit isCapital isLower isNameByte digitsOf numberText allNameBytes isName packed packHigh packLow bytesOf beforeZero nameText isNameCells endByte fieldText itemText lineText fieldFormed itemFormed valuesOf sparesPlace idleZero idleZeros formed rowOf writeNames cellsFollow writeRow writing hasForm formIn writeText
+unfolding labels pairs transitions accepts scopeCount edges declarations openPairs queries sections sectionAt hasKinds hasTurns edgeShape declarationShape queryShape shapesOf shapeAt andThen refuseIf nothing begun joined counted taken everyItem contentInRange itemInRange inRange keyLess listed ascends sameSource sameEdge repeats follows unless admission someRow sameEnds gap pairFault orderFault ifAdmitted afterRow oneRow throughRows afterNames enough throughSection isEmpty throughSections ordered atStart whole madeOf within isDigit isCapital isLower isNameByte digitsOf numberText allNameBytes isName packed packHigh packLow bytesOf beforeZero nameText isNameCells endByte fieldText itemText lineText fieldFormed itemFormed valuesOf sparesPlace idleZero idleZeros formed rowOf writeNames startsWith testRow writeRow writing hasForm formIn writeText
 kinds-written = refl
 
 -- the name sought is the name alone

@@ -12,13 +12,15 @@ use borrow.Author.Tests.{eqb-true, eqb-false}
 use Rattle.scope_graph.proofs.Lists.{Two}
 use Rattle.text_field.specs.Outcome.{Outcome, refused, done, andThen}
 use Rattle.text_field.proofs.OutcomeLaws.{done-same, not-done}
-use Rattle.graph_file.specs.Format.{oldForm, kindForm, turnForm, labelSection, edgeSection, declarationSection, sectionAt, hasKinds, hasTurns, edgeShape, declarationShape, shapesOf, shapeAt}
-use Rattle.graph_file.specs.Admission.{nothing, admission}
-use Rattle.graph_file.specs.File.{Piece, Way, Stage, oneRow, throughRows, afterNames, enough, throughSection, throughSections, throughSome, atStart, whole, readNames, rowFollows, readRow, reading, formShown, formAfter, turnsIn, kindsIn, formWith, formOf}
+use Rattle.graph_rows.specs.Format.{oldForm, kindForm, turnForm, labelSection, edgeSection, declarationSection, sectionAt, hasKinds, hasTurns, edgeShape, declarationShape, shapesOf, shapeAt}
+use Rattle.graph_rows.specs.Admission.{nothing, admission}
+use Rattle.graph_rows.specs.Way.{Piece, Way, Stage, oneRow, throughRows, afterNames, enough, throughSection, throughSections, throughSome, atStart, whole}
+use Rattle.graph_file.specs.File.{readNames, rowFollows, readRow, reading, formShown, formAfter, turnsIn, kindsIn, formWith, formOf}
 use Rattle.graph_file.specs.Forms.{ReadAlike, EdgesAlike}
-use Rattle.graph_file.proofs.DecodeWay.{andThen-done, section-split, whole-split}
+use Rattle.graph_rows.proofs.DecodeWay.{andThen-done, section-split, whole-split}
 use Rattle.graph_file.proofs.InverseReading.{names-read}
-use Rattle.graph_file.proofs.PourLaws.{after, mapped, onward-some, rows-on, rows-off}
+use Rattle.graph_file.proofs.PourLaws.{after, mapped, onward-some}
+use Rattle.graph_rows.proofs.WayLaws.{rows-on, rows-off}
 
 -- the sections above edges have one shape
 same-shape : (form k : ℕ) → k < edgeSection → shapeAt form k ≡ shapeAt oldForm k

@@ -19,10 +19,11 @@ use Rattle.text_field.specs.Name.{nameText, nameHere, isNameCells, nameMeaning}
 use Rattle.text_field.proofs.ByteLaws.{clash, within-bounds}
 use Rattle.text_field.proofs.NumberLaws.{number-back, number-found}
 use Rattle.text_field.proofs.NameLaws.{name-back, name-found}
-use Rattle.graph_file.specs.Format.{Content, state, scope, mark, count, letter, label, end, name, kind, plain, turn, plainKind, valuesOf}
+use Rattle.graph_rows.specs.Format.{Content, state, scope, mark, count, letter, label, end, name, kind, plain, turn, plainKind, valuesOf}
 use Rattle.text_field.specs.Outcome.{Outcome, done, andThen}
-use Rattle.graph_file.specs.Admission.{contentInRange}
-use Rattle.graph_file.specs.Line.{Reading, numberTaken, nameTaken, byteTaken, place, endTaken, first, readField, asByte, endByte, fieldText, fieldFormed}
+use Rattle.graph_rows.specs.Admission.{contentInRange, place}
+use Rattle.graph_file.specs.Line.{Reading, numberTaken, nameTaken, byteTaken, endTaken, first, readField, asByte, endByte, fieldText}
+use Rattle.graph_rows.specs.Values.{fieldFormed}
 use Rattle.text_field.proofs.OutcomeLaws.{done-same, not-done}
 use Rattle.graph_file.proofs.InverseLetters.{Letters, letter-there}
 use Rattle.graph_file.proofs.InverseTable.{closes}

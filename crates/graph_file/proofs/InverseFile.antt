@@ -8,9 +8,11 @@ use native.Mathlib.Omega.{arith}
 use lib.Dec.{ltb, leb}
 use lib.ListN.{length, drop}
 use borrow.Author.Tests.{leb-true, le-ltb}
-use Rattle.graph_file.specs.Format.{turnForm}
+use Rattle.graph_rows.specs.Format.{turnForm}
 use Rattle.text_field.specs.Outcome.{Outcome, refused, done, andThen}
-use Rattle.graph_file.specs.File.{Stage, whole, reading, writing, formOf, readStage, madeOf, readCells, hasForm, formIn, writeText}
+use Rattle.graph_rows.specs.Way.{Stage, whole}
+use Rattle.graph_file.specs.File.{reading, writing, formOf, readStage, madeOf, readCells, writeText}
+use Rattle.graph_rows.specs.Tested.{hasForm, formIn}
 use Rattle.graph_file.specs.Inverse.{ReadThenWritten, WrittenThenRead}
 use Rattle.graph_file.specs.Forms.{FormRead, FormWritten}
 use Rattle.text_field.proofs.OutcomeLaws.{done-same, not-done, went}
@@ -19,7 +21,7 @@ use Rattle.graph_file.proofs.InverseWays.{whole-back}
 use Rattle.graph_file.proofs.InverseReading.{reading-mirrored}
 use Rattle.graph_file.proofs.InverseWriting.{writing-mirrored, written-fits}
 use Rattle.graph_file.proofs.FormLaws.{form-told, form-known}
-use Rattle.graph_file.proofs.DecodeWay.{form-first, known-form}
+use Rattle.graph_rows.proofs.DecodeWay.{form-first, known-form}
 
 stage-long : (text : List ℕ) → ltb 32768 (length text) ≡ true → readStage text ≡ refused 1
 unfolding readStage

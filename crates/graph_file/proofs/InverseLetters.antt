@@ -11,8 +11,7 @@ use lib.Seq.{getD-at}
 use borrow.Author.Tests.{eqb-true, eq-eqb, ltb-true, ltb-false}
 use Rattle.text_field.specs.Bytes.{isCapital}
 use Rattle.text_field.proofs.ByteLaws.{clash}
-use Rattle.graph_file.specs.Admission.{listed}
-use Rattle.graph_file.specs.Line.{place}
+use Rattle.graph_rows.specs.Admission.{listed, place}
 
 pub record Letters (ls : List ℕ) : Type 0 where
   pub capital : (v : ℕ) → v < length ls → isCapital (getD ls v 0) ≡ true

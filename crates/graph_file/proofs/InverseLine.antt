@@ -10,10 +10,12 @@ use lib.ListN.{length}
 use lib.Seq.{sets, length-sets}
 use borrow.Author.Tests.{eqb-true, eq-eqb}
 use Rattle.text_field.proofs.ByteLaws.{both, clash}
-use Rattle.graph_file.specs.Format.{Content, Item, byte, field, valuesOf, everyItem}
+use Rattle.graph_rows.specs.Format.{Content, Item, byte, field, valuesOf, everyItem}
 use Rattle.text_field.specs.Outcome.{done, andThen}
-use Rattle.graph_file.specs.Admission.{Row, value, blank, contentInRange, itemInRange, inRange}
-use Rattle.graph_file.specs.Line.{Reading, first, readField, startsWith, readItem, placeOf, readItems, fieldText, itemText, lineText, itemFormed, sparesPlace, idleZeros, formed}
+use Rattle.graph_rows.specs.Admission.{Row, value, blank, contentInRange, itemInRange, inRange}
+use Rattle.graph_file.specs.Line.{Reading, first, readField, readItem, placeOf, readItems, fieldText, itemText, lineText}
+use Rattle.graph_rows.specs.Way.{startsWith}
+use Rattle.graph_rows.specs.Values.{formed, itemFormed, sparesPlace, idleZeros}
 use Rattle.text_field.proofs.OutcomeLaws.{done-same, not-done, went}
 use Rattle.graph_file.proofs.InverseLetters.{Letters}
 use Rattle.graph_file.proofs.InverseTable.{closes, ends-closes, bounded, lastPlace, clear, orderly, Clear, field-clear}

@@ -4,10 +4,11 @@ use Prim.Native.Nat.{ℕ}
 use mathlib.Core.Path.{_≡_, refl, ap, _∙_}
 use mathlib.Core.List.{List, [], _∷_, _++_, map}
 use mathlib.Core.Bool.{true}
-use Rattle.graph_file.specs.Format.{byte}
+use Rattle.graph_rows.specs.Format.{byte}
 use Rattle.text_field.specs.Outcome.{done}
-use Rattle.graph_file.specs.Admission.{Row, blank, itemInRange, inRange}
-use Rattle.graph_file.specs.Line.{Reading, readItems, itemText, lineText, itemFormed, formed}
+use Rattle.graph_rows.specs.Admission.{Row, blank, itemInRange, inRange}
+use Rattle.graph_file.specs.Line.{Reading, readItems, itemText, lineText}
+use Rattle.graph_rows.specs.Values.{formed, itemFormed}
 use Rattle.graph_file.proofs.InverseLetters.{no-letters}
 use Rattle.graph_file.proofs.InverseTable.{bytes-orderly, bytes-every}
 use Rattle.graph_file.proofs.InversePlaces.{idle-all, blank-zero}

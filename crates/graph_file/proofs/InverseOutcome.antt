@@ -5,8 +5,8 @@ use mathlib.Core.Bool.{Bool, true, false}
 use native.Mathlib.Omega.{arith}
 use Rattle.text_field.specs.Outcome.{Outcome, done}
 use Rattle.text_field.proofs.OutcomeLaws.{not-done}
-use Rattle.graph_file.specs.Admission.{unless}
-use Rattle.graph_file.specs.File.{Stage, ifAdmitted}
+use Rattle.graph_rows.specs.Admission.{unless}
+use Rattle.graph_rows.specs.Way.{Stage, ifAdmitted}
 
 -- the row was admitted
 pub admitted : (n : ℕ) (next : Outcome Stage) (g : Stage) → ifAdmitted n next ≡ done g → (n ≡ 0) × (next ≡ done g)

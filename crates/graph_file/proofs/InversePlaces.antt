@@ -9,9 +9,10 @@ use lib.ListN.{length, getD, take, set, length-set}
 use lib.Seq.{sets, length-sets, getD-set-same, getD-set-other, ext-getD}
 use borrow.Author.Tests.{ltb-true, ltb-false, leb-true, leb-false, eqb-true, eq-eqb}
 use Rattle.text_field.proofs.ByteLaws.{both, clash}
-use Rattle.graph_file.specs.Format.{Content, state, scope, mark, count, letter, label, end, name, kind, plain, turn, Item, byte, field, valuesOf, everyItem}
-use Rattle.graph_file.specs.Admission.{Row, value, blank}
-use Rattle.graph_file.specs.Line.{placeOf, sparesPlace, idleZero, idleZeros}
+use Rattle.graph_rows.specs.Format.{Content, state, scope, mark, count, letter, label, end, name, kind, plain, turn, Item, byte, field, valuesOf, everyItem}
+use Rattle.graph_rows.specs.Admission.{Row, value, blank}
+use Rattle.graph_file.specs.Line.{placeOf}
+use Rattle.graph_rows.specs.Values.{sparesPlace, idleZero, idleZeros}
 use Rattle.graph_file.proofs.InverseTable.{lastPlace, clear, orderly, field-clear}
 
 -- a field has one value or two

@@ -7,11 +7,14 @@ use mathlib.Core.Bool.{true, false}
 use native.Mathlib.Omega.{arith}
 use lib.ListN.{length}
 use borrow.Author.Tests.{eq-eqb, ne-eqb, le-ltb}
-use Rattle.graph_file.specs.Format.{byte, shapeAt}
-use Rattle.text_field.specs.Outcome.{done, refuseIf}
-use Rattle.graph_file.specs.Admission.{Row, rowOf, blank, Sofar}
-use Rattle.graph_file.specs.Line.{Reading, readItems, lineText, formed}
-use Rattle.graph_file.specs.File.{Piece, readNames, readRow, reading, writeNames, cellsFollow, writeRow, writing}
+use Rattle.graph_rows.specs.Format.{byte, shapeAt}
+use Rattle.text_field.specs.Outcome.{done, refuseIf, andThen}
+use Rattle.graph_rows.specs.Admission.{Row, rowOf, blank, Sofar}
+use Rattle.graph_file.specs.Line.{Reading, readItems, lineText}
+use Rattle.graph_rows.specs.Values.{formed}
+use Rattle.graph_rows.specs.Way.{Piece, startsWith}
+use Rattle.graph_file.specs.File.{readNames, readRow, reading, writeNames, writeRow, writing}
+use Rattle.graph_rows.specs.Tested.{testRow}
 use Rattle.text_field.proofs.OutcomeLaws.{done-same, went}
 use Rattle.graph_file.proofs.InverseTable.{section-fine}
 use Rattle.graph_file.proofs.InverseLine.{line-found}
@@ -22,7 +25,7 @@ use Rattle.graph_file.proofs.InverseWays.{RowBack, Mirror}
 -- six cells that hold a row which can be written are written as its line
 row-written : (form k : ℕ) (letters : List ℕ) (row : Row) (t : List ℕ) → length row ≡ 5 → formed (shapeAt form k .row) row ≡ true
     → writeRow form k letters ((k ∷ row) ++ t) ≡ done (record { row = row; made = lineText letters (shapeAt form k .row) row; rest = t })
-unfolding writeRow rowOf refuseIf
+unfolding writeRow testRow andThen rowOf refuseIf
 row-written form k letters [] t h f = absurd (omega arith)
 row-written form k letters (a ∷ []) t h f = absurd (omega arith)
 row-written form k letters (a ∷ b ∷ []) t h f = absurd (omega arith)
@@ -57,10 +60,10 @@ row-read form k letters s p e =
 
 -- no row of a section before section k comes next
 abbrev Later : ℕ → List ℕ → Type 0
-Later k t = (j : ℕ) → j < k → cellsFollow j t ≡ false
+Later k t = (j : ℕ) → j < k → startsWith j t ≡ false
 
 pub reading-mirrored : (form : ℕ) → Mirror (reading form) (writing form)
-unfolding reading writing writeNames cellsFollow
+unfolding reading writing writeNames startsWith
 reading-mirrored form = record {
   same = refl;
   Outer = λ left k t. Later k t;

@@ -12,9 +12,10 @@ use Rattle.text_field.specs.Bytes.{isCapital}
 use Rattle.text_field.proofs.ByteLaws.{both}
 use Rattle.text_field.proofs.NumberLaws.{length-below, length-most}
 use Rattle.text_field.proofs.CellLaws.{name-length}
-use Rattle.graph_file.specs.Format.{Content, state, scope, mark, count, letter, label, end, name, kind, plain, turn, Item, byte, field, everyItem, labels, sections, sectionAt, shapesOf, shapeAt, labelSection, countSection}
-use Rattle.graph_file.specs.Admission.{Row, value, Sofar, nothing, begun, joined, counted, taken, contentInRange, itemInRange, inRange, listed, follows, unless, admission}
-use Rattle.graph_file.specs.Line.{fieldText, itemText, lineText, fieldFormed, itemFormed, idleZeros, formed}
+use Rattle.graph_rows.specs.Format.{Content, state, scope, mark, count, letter, label, end, name, kind, plain, turn, Item, byte, field, everyItem, labels, sections, sectionAt, shapesOf, shapeAt, labelSection, countSection}
+use Rattle.graph_rows.specs.Admission.{Row, value, Sofar, nothing, begun, joined, counted, taken, contentInRange, itemInRange, inRange, listed, follows, unless, admission}
+use Rattle.graph_file.specs.Line.{fieldText, itemText, lineText}
+use Rattle.graph_rows.specs.Values.{formed, fieldFormed, itemFormed, idleZeros}
 use Rattle.graph_file.proofs.InverseOutcome.{held}
 use Rattle.graph_file.proofs.InverseLetters.{Letters, no-letters, letters-joined}
 use Rattle.graph_file.proofs.InverseTable.{widest, longest}

@@ -10,8 +10,8 @@ use lib.ListN.{length, getD}
 use borrow.Author.Tests.{ltb-true}
 use Rattle.text_field.specs.Bytes.{within, isDigit, isLower, isNameByte}
 use Rattle.text_field.proofs.ByteLaws.{both, clash}
-use Rattle.graph_file.specs.Format.{Content, state, scope, mark, count, letter, label, end, name, kind, plain, turn, Item, byte, field, valuesOf, everyItem, Shape, labels, pairs, transitions, accepts, scopeCount, edges, declarations, openPairs, queries, sections, sectionAt, hasKinds, hasTurns, edgeShape, declarationShape, queryShape, shapesOf, shapeAt}
-use Rattle.graph_file.specs.Line.{sparesPlace}
+use Rattle.graph_rows.specs.Format.{Content, state, scope, mark, count, letter, label, end, name, kind, plain, turn, Item, byte, field, valuesOf, everyItem, Shape, labels, pairs, transitions, accepts, scopeCount, edges, declarations, openPairs, queries, sections, sectionAt, hasKinds, hasTurns, edgeShape, declarationShape, queryShape, shapesOf, shapeAt}
+use Rattle.graph_rows.specs.Values.{sparesPlace}
 
 -- Does the byte end a field of what it holds: could it be no byte of it?
 unfoldable pub closes : Content → ℕ → Bool

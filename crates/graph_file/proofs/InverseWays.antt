@@ -8,15 +8,16 @@ use mathlib.Core.Bool.{Bool, true, false, not}
 use native.Mathlib.Omega.{arith}
 use lib.Dec.{ltb}
 use Rattle.text_field.proofs.ByteLaws.{clash}
-use Rattle.graph_file.specs.Format.{sectionAt, shapeAt}
+use Rattle.graph_rows.specs.Format.{sectionAt, shapeAt}
 use Rattle.text_field.specs.Outcome.{done, andThen, refuseIf}
-use Rattle.graph_file.specs.Admission.{blank, Sofar, nothing, taken, admission}
-use Rattle.graph_file.specs.Line.{formed}
-use Rattle.graph_file.specs.Order.{orderFault}
-use Rattle.graph_file.specs.File.{Piece, Way, Stage, ifAdmitted, afterRow, oneRow, throughRows, afterNames, enough, throughSection, isEmpty, throughSections, ordered, atStart, whole}
+use Rattle.graph_rows.specs.Admission.{blank, Sofar, nothing, taken, admission}
+use Rattle.graph_rows.specs.Values.{formed}
+use Rattle.graph_rows.specs.Order.{orderFault}
+use Rattle.graph_rows.specs.Way.{Piece, Way, Stage, ifAdmitted, afterRow, oneRow, throughRows, afterNames, enough, throughSection, isEmpty, throughSections, ordered, atStart, whole}
 use Rattle.graph_file.proofs.InverseOutcome.{admitted}
 use Rattle.text_field.proofs.OutcomeLaws.{done-same, not-done, went, passed}
 use Rattle.graph_file.proofs.InverseSofar.{Sound, sound-nothing, sound-begun, Admitted, row-admitted, sound-taken}
+use Rattle.graph_rows.proofs.WayLaws.{at, rows-off, rows-take}
 
 -- A row gone through one way: what it used up, that it can be written, and that the other way goes
 -- from what it made to what it used up.
@@ -51,17 +52,6 @@ pub record Mirror (w v : Way) : Type 1 where
   pub row-inner : (left k n : ℕ) (st : Sofar) (s : List ℕ) (p : Piece) (t : List ℕ) → Sound st → w .more k s ≡ true
       → w .row k (st .letters) s ≡ done p → Admitted (w .form) k st (p .row) → Inner left k n t → Inner left k (suc n) (p .made ++ t)
 
--- One turn of the rows, by what the way finds there: no row, or a row that was admitted. Nothing
--- below looks into `throughRows`.
-pub rows-stop : (w : Way) (n k : ℕ) (g : Stage) → w .more k (g .rest) ≡ false → throughRows w (suc n) k g ≡ done g
-unfolding throughRows
-rows-stop w n k g h = rw (h, throughRows)
-
-pub rows-take : (w : Way) (n k : ℕ) (g : Stage) (p : Piece) → w .more k (g .rest) ≡ true → w .row k (g .sofar .letters) (g .rest) ≡ done p
-    → admission (w .form) k (g .sofar) (p .row) ≡ 0 → throughRows w (suc n) k g ≡ throughRows w n k (afterRow k g p)
-unfolding throughRows oneRow andThen ifAdmitted
-rows-take w n k g p h e a = rw (h, throughRows) (rw (e, a))
-
 record RowTaken (w : Way) (n k : ℕ) (g g′ : Stage) : Type 0 where
   piece : Piece
   came : w .row k (g .sofar .letters) (g .rest) ≡ done piece
@@ -79,10 +69,6 @@ rows-taken w n k g g′ h e =
 rows-out : (w : Way) (k : ℕ) (g g′ : Stage) → throughRows w zero k g ≡ done g′ → ⊥
 unfolding throughRows
 rows-out w k g g′ e = not-done 5 g′ e
-
--- a stage that makes t of what is left
-abbrev pub at : Sofar → List ℕ → List ℕ → Stage
-at st m s = record { sofar = st; made = m; rest = s }
 
 module _ (w v : Way) (M : Mirror w v) where
   record RowsBack (left n k : ℕ) (g g′ : Stage) : Type 0 where
@@ -103,7 +89,7 @@ module _ (w v : Way) (M : Mirror w v) where
         grown = sym (ap (λ (z : Stage). z .made) e) ∙ sym (append-nil (g .made));
         sound = rw e at S;
         inner = λ t o. M .resting left k n t o;
-        back = λ m t o. rows-stop v n k (at (g .sofar) m t) (M .halts left k t o) ∙ rw (append-nil m, ← e);
+        back = λ m t o. rows-off v n k (at (g .sofar) m t) (M .halts left k t o) ∙ rw (append-nil m, ← e);
       }
 
   rows-one : (left n k : ℕ) (g g′ : Stage) (p : Piece) → k < 9 → Sound (g .sofar) → w .more k (g .rest) ≡ true
@@ -134,7 +120,7 @@ module _ (w v : Way) (M : Mirror w v) where
     where
       by : (t : Bool) → w .more k (g .rest) ≡ t → RowsBack left 0 k g g′
       by true t = let r = rows-taken w 0 k g g′ t e in absurd (rows-out w k (afterRow k g (r .piece)) g′ (r .further))
-      by false t = rows-none left 0 k g g′ S (done-same g g′ (sym (rows-stop w 0 k g t) ∙ e))
+      by false t = rows-none left 0 k g g′ S (done-same g g′ (sym (rows-off w 0 k g t) ∙ e))
   rows-back left (suc n) k g g′ l S e = by (w .more k (g .rest)) refl (λ h. rows-back left n k h g′ l)
     where
       by : (t : Bool) → w .more k (g .rest) ≡ t → ((h : Stage) → Sound (h .sofar) → throughRows w (suc n) k h ≡ done g′ → RowsBack left n k h g′)
@@ -142,7 +128,7 @@ module _ (w v : Way) (M : Mirror w v) where
       by true t next =
           let r = rows-taken w (suc n) k g g′ t e
           in rows-one left n k g g′ (r .piece) l S t (r .came) (r .allowed) (λ T. next (afterRow k g (r .piece)) (unfold afterRow in T) (r .further))
-      by false t next = rows-none left (suc n) k g g′ S (done-same g g′ (sym (rows-stop w (suc n) k g t) ∙ e))
+      by false t next = rows-none left (suc n) k g g′ S (done-same g g′ (sym (rows-off w (suc n) k g t) ∙ e))
 
   record SectionsBack (left k : ℕ) (g g′ : Stage) : Type 0 where
     made : List ℕ

@@ -1,7 +1,7 @@
 -- Reading mirrors writing: the text that cells were written as is read into those cells, and is
 -- short enough to be read. Assumes nothing.
 use Prim.Native.Nat.{ℕ, suc, _+_, _*_, _≤_, _<_}
-use mathlib.Core.Path.{_≡_, refl, sym, ap, _∙_}
+use mathlib.Core.Path.{_≡_, refl, sym, _∙_, ap}
 use mathlib.Core.List.{List, [], _∷_, _++_}
 use mathlib.Core.Bool.{Bool, true, false, not}
 use native.Mathlib.Nat.{suc-mul}
@@ -13,20 +13,25 @@ use Rattle.text_field.specs.Bytes.{within, isDigit, isCapital, isLower}
 use Rattle.text_field.specs.Number.{numberHere, numberMeaning}
 use Rattle.text_field.proofs.ByteLaws.{clash, within-bounds, within-below, digit-bounds}
 use Rattle.text_field.proofs.NumberLaws.{first-off}
-use Rattle.graph_file.specs.Format.{Content, state, scope, mark, count, letter, label, end, name, kind, plain, turn, Item, byte, field, sectionAt, shapeAt}
+use Rattle.graph_rows.specs.Format.{Content, state, scope, mark, count, letter, label, end, name, kind, plain, turn, Item, byte, field, sectionAt, shapeAt}
 use Rattle.text_field.specs.Outcome.{done, andThen, refuseIf}
-use Rattle.graph_file.specs.Admission.{Row, rowOf, blank, Sofar, inRange}
-use Rattle.graph_file.specs.Line.{Reading, numberTaken, byteTaken, place, endTaken, first, readField, readItem, placeOf, readItems, lineText, formed}
-use Rattle.graph_file.specs.File.{Piece, readNames, rowFollows, readRow, reading, writeNames, cellsFollow, writeRow, writing}
+use Rattle.graph_rows.specs.Admission.{Row, rowOf, blank, Sofar, inRange, place}
+use Rattle.graph_file.specs.Line.{Reading, numberTaken, byteTaken, endTaken, first, readField, readItem, placeOf, readItems, lineText}
+use Rattle.graph_rows.specs.Values.{formed}
+use Rattle.graph_rows.specs.Way.{Piece, startsWith}
+use Rattle.graph_file.specs.File.{readNames, rowFollows, readRow, reading, writeNames, writeRow, writing}
+use Rattle.graph_rows.specs.Tested.{testRow}
 use Rattle.text_field.proofs.OutcomeLaws.{done-same, not-done, went, passed}
 use Rattle.graph_file.proofs.InverseTable.{startsField, startsRow, startsNames, longest, room, section-fine}
 use Rattle.graph_file.proofs.InverseField.{end-label}
 use Rattle.graph_file.proofs.InverseLine.{byte-found, line-again}
 use Rattle.graph_file.proofs.InverseNames.{names-again}
 use Rattle.graph_file.proofs.InverseSofar.{Sound, Admitted, line-width}
-use Rattle.graph_file.proofs.DecodeWay.{split-six}
+use Rattle.graph_rows.proofs.DecodeWay.{split-six}
 use Rattle.graph_file.proofs.InverseWays.{RowBack, Mirror}
 use lib.Seq.{sets}
+use Rattle.graph_rows.proofs.RowLaws.{rowOf-five}
+use Rattle.graph_rows.proofs.TestedAdmitted.{row-tested}
 
 -- a digit, the end mark or a capital is no lower-case letter
 not-lower : (x : ℕ) → x < 97 → not (isLower x) ≡ true
@@ -101,17 +106,12 @@ pub record RowWritten (form k : ℕ) (letters s : List ℕ) (p : Piece) : Type 0
   pub proper : formed (shapeAt form k .row) (rowOf s) ≡ true
   pub piece : p ≡ record { row = rowOf s; made = lineText letters (shapeAt form k .row) (rowOf s); rest = drop 6 s }
 
-pub row-written : (form k : ℕ) (letters s : List ℕ) (p : Piece) → cellsFollow k s ≡ true → writeRow form k letters s ≡ done p → RowWritten form k letters s p
+pub row-written : (form k : ℕ) (letters s : List ℕ) (p : Piece) → startsWith k s ≡ true → writeRow form k letters s ≡ done p → RowWritten form k letters s p
 unfolding writeRow
 row-written form k letters s p h e =
-    let made : Piece = record { row = rowOf s; made = lineText letters (shapeAt form k .row) (rowOf s); rest = drop 6 s }
-    in let a = passed (ltb (length s) 6) 2 (refuseIf (not (formed (shapeAt form k .row) (rowOf s))) 2 (done made)) p e
-    in let b = passed (not (formed (shapeAt form k .row) (rowOf s))) 2 (done made) p (a .1)
-    in record { stands = split-six k s h (ltb-false (length s) 6 (a .0)); proper = not-false (formed (shapeAt form k .row) (rowOf s)) (b .0); piece = sym (done-same made p (b .1)) }
-
-pub rowOf-five : (s : List ℕ) → length (rowOf s) ≡ 5
-unfolding rowOf
-rowOf-five s = refl
+    let w = went (testRow form k letters s) (λ q. done (record { row = q .row; made = lineText letters (shapeAt form k .row) (q .row); rest = q .rest })) p e
+    in let t = row-tested form k letters s (w .gained) h (w .before)
+    in record { stands = t .stands; proper = t .proper; piece = sym (done-same _ p (w .after)) ∙ ap (λ (q : Piece). record { row = q .row; made = lineText letters (shapeAt form k .row) (q .row); rest = q .rest }) (t .piece) }
 
 names-piece : (form k : ℕ) (s : List ℕ) (p : Piece) → writeNames form k s ≡ done p → p ≡ record { row = blank; made = shapeAt form k .names; rest = s }
 unfolding writeNames
@@ -129,7 +129,7 @@ Outer form left k t = (rowFollows t ≡ false) × (length t ≤ room form left k
 abbrev Inner : ℕ → ℕ → ℕ → ℕ → List ℕ → Type 0
 Inner form left k n t = length t ≤ n * longest (shapeAt form k .row) + room form left (suc k)
 
-mirrored : (form k : ℕ) (st : Sofar) (s : List ℕ) (p : Piece) → k < 9 → Sound st → cellsFollow k s ≡ true → writeRow form k (st .letters) s ≡ done p
+mirrored : (form k : ℕ) (st : Sofar) (s : List ℕ) (p : Piece) → k < 9 → Sound st → startsWith k s ≡ true → writeRow form k (st .letters) s ≡ done p
     → Admitted form k st (p .row) → RowBack form (reading form) k (st .letters) s p
 unfolding reading readRow andThen
 mirrored form k st s p l S h e A =
@@ -145,7 +145,7 @@ mirrored form k st s p l S h e A =
       back = λ t. rw (back t);
     })
 
-line-inner : (form left k n : ℕ) (st : Sofar) (s : List ℕ) (p : Piece) (t : List ℕ) → Sound st → cellsFollow k s ≡ true
+line-inner : (form left k n : ℕ) (st : Sofar) (s : List ℕ) (p : Piece) (t : List ℕ) → Sound st → startsWith k s ≡ true
     → writeRow form k (st .letters) s ≡ done p → Admitted form k st (p .row) → Inner form left k n t → Inner form left k (suc n) (p .made ++ t)
 unfolding inRange
 line-inner form left k n st s p t S h e A i =

@@ -16,16 +16,17 @@ use Rattle.text_field.specs.Name.{namePlaced, nameMeaning}
 use Rattle.graph_file.specs.declared.line.Took.{Took}
 use Rattle.graph_file.specs.declared.line.Took.the-variants.{Nothing, Bare, One, Two}
 use Rattle.graph_file.specs.declared.line.Line.{Line}
-use Rattle.graph_file.specs.Format.{Item, byte}
+use Rattle.graph_rows.specs.Format.{Item, byte}
 use Rattle.text_field.specs.Outcome.{Outcome, refused, done, andThen}
 use native.Mathlib.Nat.{add-zero}
 use native.Mathlib.Numerals.{add-one}
 use borrow.Author.Tests.{eq-eqb, ne-eqb, ltb-true, ltb-false}
 use Rattle.text_field.specs.Bytes.{isCapital}
-use Rattle.graph_file.specs.Admission.{Row}
-use Rattle.graph_file.specs.Line.{Reading, numberTaken, nameTaken, byteTaken, place, endTaken, readField, startsWith, readItem, placeOf, readItems}
-use Rattle.graph_file.specs.Table.{contentOf, itemOf, formatBytes, itemsAt}
-use Rattle.graph_file.proofs.FormatLaws.{item-byte, item-field, items-step, line-more, line-last}
+use Rattle.graph_rows.specs.Admission.{Row, place}
+use Rattle.graph_file.specs.Line.{Reading, numberTaken, nameTaken, byteTaken, endTaken, readField, readItem, placeOf, readItems}
+use Rattle.graph_rows.specs.Way.{startsWith}
+use Rattle.graph_rows.specs.Table.{contentOf, itemOf, formatBytes, itemsAt}
+use Rattle.graph_rows.proofs.FormatLaws.{item-byte, item-field, items-step, line-more, line-last}
 use Rattle.graph_file.specs.Reader.{took, lineOutcome, itemPut, itemLine}
 
 -- a number as it is read, and none

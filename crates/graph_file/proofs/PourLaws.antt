@@ -7,12 +7,14 @@ use mathlib.Core.Bool.{Bool, true, false, not}
 use lib.Dec.{ltb}
 use Rattle.text_field.specs.Buffer.{Buf, puts}
 use Rattle.text_field.proofs.BufferLaws.{puts-append}
-use Rattle.graph_file.specs.Format.{sectionAt}
+use Rattle.graph_rows.specs.Format.{sectionAt}
 use Rattle.text_field.specs.Outcome.{Outcome, refused, done, andThen, refuseIf}
-use Rattle.graph_file.specs.Admission.{begun, taken, admission}
-use Rattle.graph_file.specs.Order.{orderFault}
-use Rattle.graph_file.specs.File.{Piece, Way, Stage, ifAdmitted, afterRow, oneRow, throughRows, afterNames, enough, throughSection, isEmpty, throughSections, throughSome, ordered}
-use Rattle.graph_file.specs.Writer.{stageFrom, poured, pour}
+use Rattle.graph_rows.specs.Admission.{begun, taken, admission}
+use Rattle.graph_rows.specs.Order.{orderFault}
+use Rattle.graph_rows.specs.Way.{Piece, Way, Stage, ifAdmitted, afterRow, oneRow, throughRows, afterNames, enough, throughSection, isEmpty, throughSections, throughSome, ordered}
+use Rattle.graph_rows.specs.Tested.{stageFrom}
+use Rattle.graph_file.specs.Writer.{poured, pour}
+use Rattle.graph_rows.proofs.WayLaws.{rows-off, rows-on}
 
 -- the stage with more made before it
 unfoldable pub after : List ℕ → Stage → Stage
@@ -47,16 +49,6 @@ onward-row w k m g = inner (w .row k (g .sofar .letters) (g .rest))
     inner : (o : Outcome Piece) → andThen o (λ p. ifAdmitted (admission (w .form) k (g .sofar) (p .row)) (done (afterRow k (after m g) p))) ≡ mapped m (andThen o (λ p. ifAdmitted (admission (w .form) k (g .sofar) (p .row)) (done (afterRow k g p))))
     inner (refused n) = refl
     inner (done p) = admit (admission (w .form) k (g .sofar) (p .row)) p
-
--- the rows of a section where one follows, and where none does
-module _ (w : Way) (turns k : ℕ) (g : Stage) where
-  pub rows-on : w .more k (g .rest) ≡ true → throughRows w (suc turns) k g ≡ andThen (oneRow w k g) (throughRows w turns k)
-  unfolding throughRows
-  rows-on e = rw (e, throughRows)
-
-  pub rows-off : w .more k (g .rest) ≡ false → throughRows w (suc turns) k g ≡ done g
-  unfolding throughRows
-  rows-off e = rw (e, throughRows)
 
 pub onward-rows : (w : Way) (turns k : ℕ) → Onward (throughRows w turns k)
 unfolding mapped andThen throughRows after

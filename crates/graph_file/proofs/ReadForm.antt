@@ -10,20 +10,24 @@ use native.Mathlib.Omega.{arith}
 use lib.ListN.{length, getD, take, drop, set, drop-of-length-le}
 use lib.Seq.{drop-cons}
 use Rattle.graph_file.specs.declared.line.Line.{Line}
-use Rattle.graph_file.specs.declared.rows.Counts.{Counts}
-use Rattle.graph_file.specs.declared.rows.Part.{Part}
+use Rattle.graph_rows.specs.declared.rows.Counts.{Counts}
+use Rattle.graph_file.specs.declared.reader.Part.{Part}
 use Rattle.text_field.specs.Outcome.{Outcome, refused, done, andThen, refuseIf}
-use Rattle.graph_file.specs.Format.{byte, Item, oldForm, kindForm, turnForm, hasTurns, labelSection, edgeSection, declarationSection, shapeAt}
-use Rattle.graph_file.specs.Admission.{blank}
+use Rattle.graph_rows.specs.Format.{byte, Item, oldForm, kindForm, turnForm, hasTurns, labelSection, edgeSection, declarationSection, shapeAt}
+use Rattle.graph_rows.specs.Admission.{blank}
 use Rattle.graph_file.specs.Line.{readItems}
-use Rattle.graph_file.specs.File.{Stage, isEmpty, throughSections, throughSome, atStart, readNames, reading, formShown, formAfter, turnsIn, kindsIn, formWith, formOf, formIn}
-use Rattle.graph_file.specs.Table.{itemsAt, namesPlace, rowsAt, lettersAt, pairsAt, rowsBack, sofarAt}
-use Rattle.graph_file.specs.Reader.{lineOutcome, stageAt, partOutcome, Placed, SomeTaken, roomBefore}
-use Rattle.graph_file.proofs.FormatLaws.{names-items}
-use Rattle.graph_file.proofs.TakenLaws.{noCounts}
+use Rattle.graph_rows.specs.Way.{Stage, isEmpty, throughSections, throughSome, atStart}
+use Rattle.graph_file.specs.File.{readNames, reading, formShown, formAfter, turnsIn, kindsIn, formWith, formOf}
+use Rattle.graph_rows.specs.Tested.{formIn}
+use Rattle.graph_rows.specs.Table.{itemsAt, namesPlace, rowsAt, lettersAt, pairsAt, rowsBack, sofarAt}
+use Rattle.graph_file.specs.Reader.{lineOutcome, stageAt, partOutcome, SomeTaken}
+use Rattle.graph_rows.specs.Counting.{Placed, roomBefore}
+use Rattle.graph_rows.proofs.FormatLaws.{names-items}
+use Rattle.graph_rows.proofs.TakenLaws.{noCounts}
 use Rattle.graph_file.proofs.LineLaws.{outcome-ok, outcome-not}
 use Rattle.graph_file.proofs.ReadLaws.{part-refused, part-done}
-use Rattle.graph_file.proofs.SectionLaws.{start-stage, placed-start}
+use Rattle.graph_file.proofs.SectionLaws.{start-stage}
+use Rattle.graph_rows.proofs.CountLaws.{placed-start}
 use Rattle.graph_file.proofs.PourLaws.{after, mapped, onward-some}
 use Rattle.graph_file.proofs.FormLaws.{read-alike, sections-split, some-split, some-made, mapped-done, mapped-refused, turn-byte, not-shown, shown-after, turns-either, form-turned, form-unturned, upper-alike}
 

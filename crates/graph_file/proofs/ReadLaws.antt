@@ -1,76 +1,32 @@
 -- Laws of reading a row into the table. Assumes nothing.
-use Prim.Native.Nat.{ℕ, zero, suc, _+_, _-_, _*_, _≤_, _<_}
+use Prim.Native.Nat.{ℕ, zero, suc, _+_, _-_, _≤_, _<_}
 use mathlib.Core.Path.{_≡_, refl, sym, ap, _∙_}
-use mathlib.Core.List.{List, [], _∷_, _++_, append-assoc}
-use mathlib.Core.Bool.{Bool, true, false, not}
+use mathlib.Core.List.{List, _∷_, append-assoc}
+use mathlib.Core.Bool.{true, false, not}
 use native.Mathlib.Omega.{arith}
-use borrow.Author.Tests.{eqb-true, eqb-false, ne-eqb, ltb-true, ltb-false}
-use lib.Dec.{eqb, ltb}
 use lib.ListN.{length, getD, take, drop, drop-of-length-le}
 use lib.Seq.{drop-cons}
 use Rattle.text_field.specs.Bytes.{isLower}
-use Rattle.text_field.specs.Buffer.{Buf, put, puts}
+use Rattle.text_field.specs.Buffer.{Buf, puts}
 use Rattle.text_field.proofs.BufferLaws.{puts-fits}
 use Rattle.graph_file.specs.declared.line.Line.{Line}
-use Rattle.graph_file.specs.declared.rows.Counts.{Counts}
-use Rattle.graph_file.specs.declared.rows.Part.{Part}
-use Rattle.graph_file.specs.Format.{sectionAt}
-use Rattle.text_field.specs.Outcome.{Outcome, refused, done, andThen}
-use Rattle.graph_file.specs.Admission.{Row, value, rowOf, blank, Sofar, counted, unless, admission}
-use Rattle.graph_file.specs.Line.{Reading, readItems}
-use Rattle.graph_file.specs.File.{Piece, Way, Stage, ifAdmitted, afterRow, oneRow, throughRows, rowFollows, readRow, reading}
-use Rattle.graph_file.specs.Table.{itemsAt, rowPlace, lettersAt, sofarAt}
-use Rattle.graph_file.specs.Reader.{lineOutcome, stageAt, refusedOr, partOutcome, Placed, countsAfter, RowTaken}
-use Rattle.graph_file.proofs.FormatLaws.{row-items}
+use Rattle.graph_rows.specs.declared.rows.Counts.{Counts}
+use Rattle.graph_file.specs.declared.reader.Part.{Part}
+use Rattle.graph_rows.specs.Format.{sectionAt}
+use Rattle.text_field.specs.Outcome.{refused, done, andThen}
+use Rattle.graph_rows.specs.Admission.{Row, value, rowOf, blank, admission}
+use Rattle.graph_file.specs.Line.{readItems}
+use Rattle.graph_rows.specs.Way.{Stage, ifAdmitted, afterRow, oneRow}
+use Rattle.graph_file.specs.File.{rowFollows, readRow, reading}
+use Rattle.graph_rows.specs.Table.{itemsAt, rowPlace, lettersAt, sofarAt}
+use Rattle.graph_file.specs.Reader.{lineOutcome, stageAt, partOutcome}
+use Rattle.graph_rows.specs.Tested.{refusedOr}
+use Rattle.graph_rows.specs.Counting.{Placed, countsAfter}
+use Rattle.graph_rows.proofs.FormatLaws.{row-items}
 use Rattle.graph_file.proofs.LineLaws.{outcome-ok, outcome-not}
 use Rattle.graph_file.proofs.StageLaws.{grown, grown-row, grown-kept, sofar-grown, made-grown}
-
--- the counts after a row, by the section
-module _ (k : ℕ) (c : Counts) (v : ℕ) where
-  pub after-label : k ≡ 0 → record { labels = c .labels + 1; pairs = c .pairs; scopes = c .scopes; rows = c .rows + 1 } ≡ countsAfter k c v
-  unfolding countsAfter counted
-  after-label e = rw e
-
-  pub after-pair : k ≡ 1 → record { labels = c .labels; pairs = c .pairs + 1; scopes = c .scopes; rows = c .rows + 1 } ≡ countsAfter k c v
-  unfolding countsAfter counted
-  after-pair e = rw e
-
-  pub after-count : k ≡ 4 → record { labels = c .labels; pairs = c .pairs; scopes = v; rows = c .rows + 1 } ≡ countsAfter k c v
-  unfolding countsAfter counted
-  after-count e = rw e
-
-  pub after-other : (k ≡ 0 → ⊥) → (k ≡ 1 → ⊥) → (k ≡ 4 → ⊥) → record { labels = c .labels; pairs = c .pairs; scopes = c .scopes; rows = c .rows + 1 } ≡ countsAfter k c v
-  unfolding countsAfter counted
-  after-other a b d = rw (ne-eqb k 0 a, ne-eqb k 1 b, ne-eqb k 4 d)
-
--- the counts still fit
-pub placed-after : (k n : ℕ) (c : Counts) (v : ℕ) → Placed k n c → Placed k (n + 6) (countsAfter k c v)
-unfolding countsAfter counted
-placed-after k n c v p = go (eqb k 0) (eqb k 1) refl refl
-  where
-    go : (a b : Bool) → eqb k 0 ≡ a → eqb k 1 ≡ b → Placed k (n + 6) (record { labels = counted a (c .labels + 1) (c .labels); pairs = counted b (c .pairs + 1) (c .pairs); scopes = counted (eqb k 4) v (c .scopes); rows = c .rows + 1 })
-    go true true d e = let x : k ≡ 0 = eqb-true k 0 d in let y : k ≡ 1 = eqb-true k 1 e in absurd (omega arith)
-    go true false d e =
-        let x : k ≡ 0 = eqb-true k 0 d in
-        let q : n ≡ 1 + 6 * c .labels + 6 * c .pairs = p .early (omega arith) in
-        record { early = λ h. omega arith; first = λ h. p .first h; within = omega arith; rowed = omega (arith, p .rowed) }
-    go false true d e =
-        let y : k ≡ 1 = eqb-true k 1 e in
-        let q : n ≡ 1 + 6 * c .labels + 6 * c .pairs = p .early (omega arith) in
-        record { early = λ h. omega arith; first = λ h. absurd (omega arith); within = omega arith; rowed = omega (arith, p .rowed) }
-    go false false d e =
-        let x : k ≡ 0 → ⊥ = eqb-false k 0 d in
-        let y : k ≡ 1 → ⊥ = eqb-false k 1 e in
-        record { early = λ h. absurd (omega arith); first = λ h. absurd (omega arith); within = omega (arith, p .within); rowed = omega (arith, p .rowed) }
-
--- an admitted row had room
-pub admitted-room : (form k : ℕ) (st : Sofar) (row : Row) → admission form k st row ≡ 0 → st .rows < sectionAt k .most
-unfolding admission unless
-admitted-room form k st row = go (ltb (st .rows) (sectionAt k .most)) refl
-  where
-    go : (b : Bool) → ltb (st .rows) (sectionAt k .most) ≡ b → admission form k st row ≡ 0 → st .rows < sectionAt k .most
-    go true e z = ltb-true (st .rows) (sectionAt k .most) e
-    go false e z = let f : admission form k st row ≡ 5 = rw e in absurd (omega arith)
+use Rattle.graph_rows.proofs.CountLaws.{admitted-room}
+use Rattle.graph_rows.proofs.WayLaws.{at}
 
 -- the table after a row was put
 pub put-grown : (k n : ℕ) (t u : List ℕ) (r : ℕ) (row : Row) → n + 6 ≤ length t → length row ≡ 5 → _≡_ {A = Buf} (u, r) (puts (t, n) (k ∷ row)) → u ≡ grown k n t row
@@ -137,21 +93,3 @@ part-refused r table text z = go (r .refusal) z
 pub part-done : (r : Part) (table text : List ℕ) → r .refusal ≡ 0 → partOutcome r table text ≡ done (stageAt table (r .cells) (r .counts) (drop (r .next) text))
 unfolding partOutcome refusedOr
 part-done r table text z = rw z
-
--- the rows of a section: a row is refused, a row is taken, no row follows
-module _ (w : Way) (k turns : ℕ) (g : Stage) where
-  pub rows-refused : (n : ℕ) → w .more k (g .rest) ≡ true → oneRow w k g ≡ refused n → throughRows w (suc turns) k g ≡ refused n
-  unfolding throughRows andThen
-  rows-refused n m e = rw (m, throughRows, e)
-
-  pub rows-next : (h : Stage) → w .more k (g .rest) ≡ true → oneRow w k g ≡ done h → throughRows w (suc turns) k g ≡ throughRows w turns k h
-  unfolding throughRows andThen
-  rows-next h m e = rw (m, throughRows, e)
-
-  pub rows-over : w .more k (g .rest) ≡ false → throughRows w (suc turns) k g ≡ done g
-  unfolding throughRows
-  rows-over m = rw (m, throughRows)
-
--- the turns that are left before the limit is passed
-pub rows-turn : (w : Way) (k most rows : ℕ) (g : Stage) → rows ≤ most → throughRows w (suc most - rows) k g ≡ throughRows w (suc (most - rows)) k g
-rows-turn w k most rows g h = let e : suc most - rows ≡ suc (most - rows) = omega arith in rw e

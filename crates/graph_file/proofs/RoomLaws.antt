@@ -19,16 +19,19 @@ use Rattle.text_field.specs.Number.{numberMeaning, numberHere}
 use Rattle.text_field.specs.Name.{nameMeaning, nameHere}
 use Rattle.text_field.specs.Outcome.{done, andThen}
 use Rattle.text_field.proofs.OutcomeLaws.{done-same, not-done}
-use Rattle.graph_file.specs.declared.rows.Counts.{Counts}
-use Rattle.graph_file.specs.Format.{Content, state, scope, mark, count, letter, label, end, name, kind, plain, turn, Item, byte, field, hasKinds, hasTurns, edgeShape, declarationShape, queryShape, sectionAt, shapesOf, shapeAt, ownCells}
-use Rattle.graph_file.specs.Admission.{Row, blank, begun, taken}
-use Rattle.graph_file.specs.Line.{Reading, numberTaken, nameTaken, byteTaken, place, endTaken, first, readField, startsWith, readItem, placeOf, readItems}
-use Rattle.graph_file.specs.File.{Piece, Stage, afterRow, oneRow, throughRows, afterNames, throughSection, readNames, readRow, reading}
-use Rattle.graph_file.specs.Table.{sofarAt}
+use Rattle.graph_rows.specs.declared.rows.Counts.{Counts}
+use Rattle.graph_rows.specs.Format.{Content, state, scope, mark, count, letter, label, end, name, kind, plain, turn, Item, byte, field, hasKinds, hasTurns, edgeShape, declarationShape, queryShape, sectionAt, shapesOf, shapeAt}
+use Rattle.graph_rows.specs.Admission.{Row, blank, begun, taken, place}
+use Rattle.graph_file.specs.Line.{Reading, numberTaken, nameTaken, byteTaken, endTaken, first, readField, readItem, placeOf, readItems}
+use Rattle.graph_rows.specs.Way.{startsWith, Piece, Stage, afterRow, oneRow, throughRows, afterNames, throughSection}
+use Rattle.graph_file.specs.File.{readNames, readRow, reading}
+use Rattle.graph_rows.specs.Table.{sofarAt}
 use Rattle.graph_file.specs.NameSought.{lineCount}
-use Rattle.graph_file.specs.Reader.{stageAt, roomBefore, RowsRoom, TextRoom}
-use Rattle.graph_file.proofs.DecodeWay.{andThen-done, done-is, either-done, row-split, section-split}
-use Rattle.graph_file.proofs.SectionLaws.{room-next, room-below, part-is}
+use Rattle.graph_file.specs.Reader.{stageAt, RowsRoom, TextRoom}
+use Rattle.graph_rows.specs.Counting.{roomBefore}
+use Rattle.graph_rows.proofs.DecodeWay.{andThen-done, done-is, either-done, row-split, section-split}
+use Rattle.graph_rows.proofs.CountLaws.{room-next, room-below}
+use Rattle.graph_file.proofs.SectionLaws.{part-is}
 use Rattle.graph_file.proofs.SoughtLaws.{count-step}
 
 -- a later part has no more lines

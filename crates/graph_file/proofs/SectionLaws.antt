@@ -1,35 +1,30 @@
 -- Laws of reading a section, and the sections one after the other. Assumes nothing.
-use Prim.Native.Nat.{ℕ, zero, suc, _+_, _-_, _*_, _≤_, _<_}
+use Prim.Native.Nat.{ℕ, suc, _+_, _-_, _≤_, _<_}
 use mathlib.Core.Path.{_≡_, refl, sym, ap, subst, _∙_}
-use mathlib.Core.List.{List, [], _∷_, _++_, map, append-nil}
-use mathlib.Core.Bool.{Bool, true, false, not}
+use mathlib.Core.List.{List, [], _∷_, map, append-nil}
+use mathlib.Core.Bool.{Bool, true, false}
 use native.Mathlib.Omega.{arith}
 use native.Mathlib.Numerals.{add-one}
 use borrow.Author.Tests.{lt-ltb, le-ltb}
-use lib.Dec.{eqb, ltb}
-use lib.ListN.{length, getD, take, drop, set, drop-of-length-le, length-drop}
+use lib.ListN.{length, take, drop, set, length-drop}
 use lib.Seq.{take-all, drop-drop}
 use Rattle.graph_file.specs.declared.line.Line.{Line}
-use Rattle.graph_file.specs.declared.rows.Counts.{Counts}
-use Rattle.graph_file.specs.declared.rows.Part.{Part}
-use Rattle.graph_file.specs.Format.{Item, byte, oldForm, labels, pairs, transitions, accepts, scopeCount, edges, declarations, openPairs, queries, pastLast, sections, sectionAt, shapeAt}
-use Rattle.text_field.specs.Outcome.{Outcome, refused, done, andThen, refuseIf}
-use Rattle.graph_file.specs.Admission.{Row, blank, Sofar, nothing, begun}
-use Rattle.graph_file.specs.Line.{Reading, readItems}
-use Rattle.graph_file.specs.File.{Piece, Way, Stage, throughRows, afterNames, enough, throughSection, isEmpty, throughSections, throughSome, atStart, ordered, whole, readNames, reading, formOf, readStage}
-use Rattle.graph_file.specs.Order.{orderFault}
-use Rattle.graph_file.specs.Table.{itemsAt, namesPlace, rowsAt, lettersAt, pairsAt, rowsBack, sofarAt}
-use Rattle.graph_file.specs.Reader.{lineOutcome, stageAt, refusedOr, partOutcome, Placed, RowsTaken, SectionTaken, SomeTaken, roomBefore}
-use Rattle.graph_file.proofs.FormatLaws.{names-items}
+use Rattle.graph_rows.specs.declared.rows.Counts.{Counts}
+use Rattle.graph_file.specs.declared.reader.Part.{Part}
+use Rattle.graph_rows.specs.Format.{Item, byte, oldForm, labels, pairs, sectionAt, shapeAt}
+use Rattle.text_field.specs.Outcome.{refused, done, andThen, refuseIf}
+use Rattle.graph_rows.specs.Admission.{blank, nothing, begun}
+use Rattle.graph_file.specs.Line.{readItems}
+use Rattle.graph_rows.specs.Way.{Way, Stage, throughRows, afterNames, enough, throughSection, throughSections, throughSome, atStart, ordered, whole}
+use Rattle.graph_file.specs.File.{readNames, reading, formOf, readStage}
+use Rattle.graph_rows.specs.Order.{orderFault}
+use Rattle.graph_rows.specs.Table.{itemsAt, namesPlace, rowsAt, lettersAt, pairsAt, rowsBack, sofarAt}
+use Rattle.graph_file.specs.Reader.{lineOutcome, stageAt, partOutcome, SomeTaken}
+use Rattle.graph_rows.proofs.FormatLaws.{names-items}
 use Rattle.graph_file.proofs.LineLaws.{outcome-ok, outcome-not}
 use Rattle.graph_file.proofs.ReadLaws.{part-refused, part-done}
-
--- the counts where a section begins
-abbrev pub fresh : Counts → Counts
-fresh c = record { labels = c .labels; pairs = c .pairs; scopes = c .scopes; rows = 0 }
-
-pub placed-fresh : (k n : ℕ) (c : Counts) → Placed k n c → Placed k n (fresh c)
-placed-fresh k n c p = record { early = p .early; first = p .first; within = p .within; rowed = omega (arith, p .within) }
+use Rattle.graph_rows.proofs.CountLaws.{fresh}
+use Rattle.graph_rows.proofs.WayLaws.{at}
 
 module _ (form k n : ℕ) (t part : List ℕ) (c : Counts) (l : Line) (e : lineOutcome l part ≡ readItems (lettersAt 0 (drop 1 t)) (itemsAt (namesPlace form k)) blank (drop 0 part)) where
   named : readItems [] (map byte (shapeAt form k .names)) blank part ≡ lineOutcome l part
@@ -66,28 +61,6 @@ module _ (form k n : ℕ) (t part : List ℕ) (c : Counts) (l : Line) (e : lineO
     unfolding enough refuseIf stageAt sofarAt
     section-done z f = sym (section-end z ∙ rw (le-ltb (r .counts .rows) (sectionAt k .least) f))
 
--- the sections one after the other
-module _ (w : Way) (k left : ℕ) (g : Stage) where
-  pub sections-refused : (n : ℕ) → throughSection w k g ≡ refused n → throughSections w (suc left) k g ≡ refused n
-  unfolding throughSections andThen
-  sections-refused n e = rw e
-
-  pub sections-next : (h : Stage) → throughSection w k g ≡ done h → throughSections w left (k + 1) h ≡ throughSections w (suc left) k g
-  unfolding throughSections andThen
-  sections-next h e = sym (rw (e, add-one k))
-
-pub sections-more : (w : Way) (k : ℕ) (g : Stage) → k < 9 → throughSections w (9 - k) k g ≡ throughSections w (suc (9 - (k + 1))) k g
-sections-more w k g h = let e : 9 - k ≡ suc (9 - (k + 1)) = omega arith in rw e
-
--- after the last section nothing is left, or something is
-pub sections-over : (w : Way) (k : ℕ) (g : Stage) → 9 ≤ k → g .rest ≡ [] → throughSections w (9 - k) k g ≡ done g
-unfolding throughSections refuseIf isEmpty
-sections-over w k g h e = let z : 9 - k ≡ 0 = omega arith in rw (z, throughSections, e)
-
-pub sections-left : (w : Way) (k : ℕ) (g : Stage) → 9 ≤ k → (x : ℕ) (xs : List ℕ) → g .rest ≡ x ∷ xs → throughSections w (9 - k) k g ≡ refused 2
-unfolding throughSections refuseIf isEmpty
-sections-left w k g h x xs e = let z : 9 - k ≡ 0 = omega arith in rw (z, throughSections, e)
-
 -- some sections one after the other, up to section `last`
 module _ (w : Way) (k left : ℕ) (g : Stage) where
   pub some-refused : (n : ℕ) → throughSection w k g ≡ refused n → throughSome w (suc left) k g ≡ refused n
@@ -108,37 +81,11 @@ some-over w k last g h = let z : last - k ≡ 0 = omega arith in rw (z, throughS
 pub some-taken : (k last : ℕ) (text : List ℕ) (r : Part) → k ≡ last → SomeTaken k text r → SomeTaken last text r
 some-taken k last text r e s = subst (λ (j : ℕ). SomeTaken j text r) e s
 
--- the counts fit the next section
-pub placed-next : (k n : ℕ) (c : Counts) → Placed k n c → Placed (k + 1) n c
-placed-next k n c p = record { early = λ h. p .early (omega arith); first = λ h. absurd (omega arith); within = p .within; rowed = p .rowed }
-
--- the room of the sections above
-pub room-next : (k : ℕ) → roomBefore (k + 1) ≡ roomBefore k + 6 * sectionAt k .most
-unfolding roomBefore
-room-next k = rw (add-one k)
-
-pub room-below : (k : ℕ) → k ≤ 9 → roomBefore k ≤ 12271
-unfolding roomBefore labels pairs transitions accepts scopeCount edges declarations openPairs queries pastLast sections sectionAt
-room-below zero h = omega arith
-room-below (suc zero) h = omega arith
-room-below (suc (suc zero)) h = omega arith
-room-below (suc (suc (suc zero))) h = omega arith
-room-below (suc (suc (suc (suc zero)))) h = omega arith
-room-below (suc (suc (suc (suc (suc zero))))) h = omega arith
-room-below (suc (suc (suc (suc (suc (suc zero)))))) h = omega arith
-room-below (suc (suc (suc (suc (suc (suc (suc zero))))))) h = omega arith
-room-below (suc (suc (suc (suc (suc (suc (suc (suc zero)))))))) h = omega arith
-room-below (suc (suc (suc (suc (suc (suc (suc (suc (suc zero))))))))) h = omega arith
-room-below (suc (suc (suc (suc (suc (suc (suc (suc (suc (suc k)))))))))) h = absurd (omega arith)
-
 -- the empty table's stage
 pub start-stage : (t text : List ℕ) → 0 < length t → stageAt (set t 0 0) 1 (record { labels = 0; pairs = 0; scopes = 0; rows = 0 }) text ≡ atStart (oldForm ∷ []) text
 unfolding stageAt atStart sofarAt nothing lettersAt pairsAt rowsAt rowsBack
 start-stage [] text h = absurd (omega arith)
 start-stage (x ∷ t) text h = refl
-
-pub placed-start : Placed 0 1 (record { labels = 0; pairs = 0; scopes = 0; rows = 0 })
-placed-start = record { early = λ h. refl; first = λ h. refl; within = omega arith; rowed = omega arith }
 
 -- the rest of the text from a place on
 pub part-is : (s : List ℕ) (at : ℕ) → take (length s - at) (drop at s) ≡ drop at s

@@ -13,12 +13,14 @@ use Rattle.text_field.specs.Number.{numberText, numberMeaning}
 use Rattle.text_field.specs.Name.{nameText, isNameCells, nameHere}
 use Rattle.text_field.proofs.NumberLaws.{number-back}
 use Rattle.text_field.proofs.NameLaws.{name-back, cells-name}
-use Rattle.graph_file.specs.Format.{valuesOf, hasKinds, queryShape, shapesOf, shapeAt, querySection}
+use Rattle.graph_rows.specs.Format.{valuesOf, hasKinds, queryShape, shapesOf, shapeAt, querySection}
 use Rattle.text_field.specs.Outcome.{Outcome, refused, done, andThen}
-use Rattle.graph_file.specs.Admission.{Row, value, blank}
-use Rattle.graph_file.specs.Line.{numberTaken, byteTaken, readField, startsWith, readItem}
-use Rattle.graph_file.specs.File.{Stage, formOf, readStage, madeOf, formIn, readCells}
-use Rattle.graph_file.specs.Decode.{rulesOf, nameAt, queryOf, rowsIn, queriesOf}
+use Rattle.graph_rows.specs.Admission.{Row, value, blank}
+use Rattle.graph_file.specs.Line.{numberTaken, byteTaken, readField, readItem}
+use Rattle.graph_rows.specs.Way.{startsWith, Stage}
+use Rattle.graph_file.specs.File.{formOf, readStage, madeOf, readCells}
+use Rattle.graph_rows.specs.Tested.{formIn}
+use Rattle.graph_rows.specs.Decode.{rulesOf, nameAt, queryOf, rowsIn, queriesOf}
 use Rattle.graph_file.specs.NameSought.{afterLines, lineCount, namePart, restOf, isNameField, fromName, queryFrom, fromWithin, fromSought, nameFront, nameSought, placeFrom, placeSought}
 use Rattle.graph_file.specs.Sought.{TableQuery, shownKind, seekText, kindText, queryLines, beforeLine, SoughtIn, SoughtRight, NothingSought, SoughtNone}
 use Rattle.graph_file.proofs.InverseFile.{form-read}

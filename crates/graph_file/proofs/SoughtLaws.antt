@@ -5,7 +5,6 @@ use mathlib.Core.List.{List, [], _∷_}
 use mathlib.Core.Bool.{Bool, true, false}
 use native.Mathlib.Omega.{arith}
 use native.Mathlib.Numerals.{add-one}
-use native.Mathlib.Nat.{add-comm}
 use borrow.Author.Tests.{eq-eqb, ne-eqb, lt-ltb, le-ltb, leb-true, leb-false}
 use lib.Dec.{eqb, ltb, leb}
 use lib.ListN.{length, getD, take, drop, length-drop, drop-of-length-le}
@@ -18,14 +17,17 @@ use Rattle.text_field.specs.declared.NameRead.the-variants.{Name, NoName}
 use Rattle.text_field.specs.Number.{numberHere, numberMeaning}
 use Rattle.text_field.specs.Name.{nameHere, namePlaced, nameMeaning}
 use Rattle.text_field.specs.Bytes.{isCapital, isLower}
-use Rattle.graph_file.specs.declared.rows.Part.{Part}
+use Rattle.graph_file.specs.declared.reader.Part.{Part}
 use Rattle.graph_file.specs.declared.sought.NamePlace.{NamePlace}
-use Rattle.graph_file.specs.Format.{Item, byte, field, state, scope, mark, count, letter, label, end, name, kind, plain, turn, shapeAt, querySection}
+use Rattle.graph_rows.specs.Format.{Item, byte, field, state, scope, mark, count, letter, label, end, name, kind, plain, turn, shapeAt, querySection}
 use Rattle.text_field.specs.Outcome.{Outcome, refused, done, andThen}
-use Rattle.graph_file.specs.Line.{Reading, numberTaken, nameTaken, byteTaken, place, endTaken, readField, startsWith, readItem}
-use Rattle.graph_file.specs.File.{Stage, formOf, readStage}
-use Rattle.graph_file.specs.Table.{sofarAt}
-use Rattle.graph_file.specs.Reader.{stageAt, refusedOr, partOutcome}
+use Rattle.graph_file.specs.Line.{Reading, numberTaken, nameTaken, byteTaken, endTaken, readField, readItem}
+use Rattle.graph_rows.specs.Way.{startsWith, Stage}
+use Rattle.graph_rows.specs.Admission.{place}
+use Rattle.graph_file.specs.File.{formOf, readStage}
+use Rattle.graph_rows.specs.Table.{sofarAt}
+use Rattle.graph_file.specs.Reader.{stageAt, partOutcome}
+use Rattle.graph_rows.specs.Tested.{refusedOr}
 use Rattle.graph_file.specs.NameSought.{afterLines, lineCount, namePart, restOf, isNameField, fromName, queryFrom, fromWithin, fromSought, nameFront, nameSought, placeFrom, placeSought}
 use Rattle.graph_file.specs.Sought.{SoughtThere}
 

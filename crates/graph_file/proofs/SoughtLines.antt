@@ -14,7 +14,7 @@ use Rattle.text_field.specs.Name.{allNameBytes, nameText, isNameCells}
 use Rattle.text_field.proofs.ByteLaws.{clash}
 use Rattle.text_field.proofs.NumberLaws.{number-short, number-long}
 use Rattle.text_field.proofs.NameLaws.{all-tail, name-form, cells-name}
-use Rattle.graph_file.specs.Admission.{Row, value}
+use Rattle.graph_rows.specs.Admission.{Row, value}
 use Rattle.graph_file.specs.NameSought.{afterLines, lineCount}
 use Rattle.graph_file.specs.Sought.{shownKind}
 use Rattle.graph_file.proofs.SoughtLaws.{count-step, count-end, count-other, after-step}

@@ -13,22 +13,27 @@ use Rattle.text_field.specs.Bytes.{isLower}
 use Rattle.text_field.specs.Number.{numberText}
 use Rattle.text_field.specs.Name.{nameText}
 use Rattle.scope_graph.proofs.Lists.{here, there, and-left}
-use Rattle.graph_file.specs.Format.{Item, field, scope, name, kind, plain, everyItem, sectionAt, hasKinds, queryShape, shapesOf, shapeAt, querySection}
+use Rattle.graph_rows.specs.Format.{Item, field, scope, name, kind, plain, everyItem, sectionAt, hasKinds, queryShape, shapesOf, shapeAt, querySection}
 use Rattle.text_field.specs.Outcome.{done}
-use Rattle.graph_file.specs.Admission.{Row, value, rowOf, blank, begun, taken}
-use Rattle.graph_file.specs.Line.{lineText, itemText, fieldText, itemFormed, fieldFormed, formed}
-use Rattle.graph_file.specs.File.{Piece, Stage, afterRow, oneRow, throughRows, afterNames, throughSection, throughSections, atStart, whole, reading, writing, writeNames, formOf, readStage, madeOf, formIn, readCells}
+use Rattle.graph_rows.specs.Admission.{Row, value, rowOf, blank, begun, taken}
+use Rattle.graph_file.specs.Line.{lineText, itemText, fieldText}
+use Rattle.graph_rows.specs.Values.{formed, itemFormed, fieldFormed}
+use Rattle.graph_rows.specs.Way.{Piece, Stage, afterRow, oneRow, throughRows, afterNames, throughSection, throughSections, atStart, whole}
+use Rattle.graph_file.specs.File.{reading, writing, writeNames, formOf, readStage, madeOf, readCells}
+use Rattle.graph_rows.specs.Tested.{formIn}
 use Rattle.graph_file.specs.Sought.{shownKind}
-use Rattle.graph_file.specs.Decode.{keptIf, rowsAmong, rowsIn}
-use Rattle.graph_file.proofs.DecodeWay.{andThen-done, refuseIf-done, done-is, either-done, row-split, section-split, empty-nil, whole-split}
-use Rattle.graph_file.proofs.DecodeSections.{joinedIf, among-row, kept-joined, joined-none}
-use Rattle.graph_file.proofs.DecodeRows.{item-in}
-use Rattle.graph_file.proofs.DecodeFormed.{items-formed, plain-lower}
+use Rattle.graph_rows.specs.Decode.{keptIf, rowsAmong, rowsIn}
+use Rattle.graph_rows.proofs.DecodeWay.{andThen-done, refuseIf-done, done-is, either-done, row-split, section-split, empty-nil, whole-split}
+use Rattle.graph_rows.proofs.DecodeSections.{joinedIf, among-row, kept-joined, joined-none}
+use Rattle.graph_rows.proofs.DecodeRows.{item-in}
+use Rattle.graph_file.proofs.Promises.{items-formed}
+use Rattle.graph_rows.proofs.DecodeKinds.{plain-lower}
 use Rattle.graph_file.proofs.InverseField.{lower-byte}
 use Rattle.graph_file.proofs.InverseFile.{form-read}
 use Rattle.graph_file.proofs.InverseWays.{whole-back}
 use Rattle.graph_file.proofs.InverseReading.{reading-mirrored}
-use Rattle.graph_file.proofs.InverseWriting.{row-written, rowOf-five}
+use Rattle.graph_file.proofs.InverseWriting.{row-written}
+use Rattle.graph_rows.proofs.RowLaws.{rowOf-five}
 use Rattle.graph_file.proofs.SoughtLines.{between, rowLine, rowLines, Named, AllNamed}
 
 -- what a query line's items say of the row, in either form

@@ -11,9 +11,10 @@ use Rattle.text_field.specs.declared.NumberRead.{NumberRead}
 use Rattle.text_field.specs.declared.NumberRead.the-variants.{Number, NoNumber}
 use Rattle.text_field.specs.Number.{numberHere, numberPlaced, numberMeaning}
 use Rattle.text_field.specs.Bytes.{within, isLower}
-use Rattle.graph_file.specs.Format.{Item, byte, field, kind, valuesOf, hasKinds, queryShape, shapesOf, shapeAt, querySection}
+use Rattle.graph_rows.specs.Format.{Item, byte, field, kind, valuesOf, hasKinds, queryShape, shapesOf, shapeAt, querySection}
 use Rattle.text_field.specs.Outcome.{andThen}
-use Rattle.graph_file.specs.Line.{numberTaken, byteTaken, readField, startsWith, readItem}
+use Rattle.graph_file.specs.Line.{numberTaken, byteTaken, readField, readItem}
+use Rattle.graph_rows.specs.Way.{startsWith}
 use Rattle.graph_file.specs.NameSought.{restOf, isNameField, fromName}
 use Rattle.graph_file.proofs.LineLaws.{byte-here, starts-at, first-at}
 

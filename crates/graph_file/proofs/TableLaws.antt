@@ -10,8 +10,7 @@ use Rattle.text_field.specs.declared.answer.Answer.{Answer}
 use Rattle.text_field.specs.declared.answer.Answer.the-variants.{Refused, Written}
 use Rattle.text_field.specs.Outcome.{Outcome, refused, done, andThen}
 use Rattle.text_field.specs.Answer.{answer, leaves}
-use Rattle.graph_file.specs.File.{readCells}
-use Rattle.graph_file.specs.Decode.{WasRead}
+use Rattle.graph_file.specs.File.{readCells, WasRead}
 use Rattle.graph_file.specs.Reader.{tableRead, WrittenIn}
 
 -- what an answer says it is

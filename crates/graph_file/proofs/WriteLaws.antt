@@ -3,38 +3,50 @@ use Prim.Native.Nat.{ℕ, zero, suc, _+_, _-_, _*_, _/_, _%_, _≤_, _<_}
 use mathlib.Core.Path.{_≡_, refl, sym, ap, _∙_}
 use mathlib.Core.List.{List, [], _∷_, _++_, map}
 use native.Mathlib.Omega.{arith}
-use borrow.Author.Tests.{lt-ltb, lt-leb, le-leb}
-use lib.Dec.{eqb, ltb, leb}
 use lib.ListN.{length, getD, drop, List·getD-eq-default}
 use lib.Seq.{getD-drop, drop-drop}
 use Rattle.text_field.specs.Number.{numberText}
 use Rattle.text_field.specs.Name.{nameText}
 use Rattle.text_field.specs.Buffer.{Buf, put, puts}
 use Rattle.text_field.proofs.BufferLaws.{puts-one}
-use Rattle.graph_file.specs.Format.{turn, Item, byte, everyItem}
-use Rattle.graph_file.specs.Admission.{Row, value, rowOf}
-use Rattle.graph_file.specs.Line.{endByte, fieldText, itemText, lineText, fieldFormed, sparesPlace, idleZero}
-use Rattle.graph_file.specs.Table.{contentOf, itemOf, formatBytes, itemsAt, rowsAt, lettersAt}
-use Rattle.graph_file.proofs.FormatLaws.{item-byte, item-field, items-step, line-more, line-last}
-use Rattle.graph_file.proofs.RowLaws.{letters-length}
+use Rattle.graph_rows.specs.Format.{turn, byte}
+use Rattle.graph_rows.specs.Admission.{Row, value, rowOf}
+use Rattle.graph_file.specs.Line.{endByte, fieldText, itemText, lineText}
+use Rattle.graph_rows.specs.Table.{contentOf, itemOf, formatBytes, itemsAt, rowsAt, lettersAt}
+use Rattle.graph_rows.proofs.FormatLaws.{item-byte, item-field, items-step, line-more, line-last}
+use Rattle.graph_rows.proofs.RowLaws.{letters-length}
+use mathlib.Core.Bool.{true, false, _||_}
+use mathlib.Core.Logic.{⊎-elim}
+use borrow.Author.Tests.{ltb-true, ltb-false, eqb-true, eqb-false}
+use Rattle.scope_graph.proofs.Lists.{or-cases, Two}
+use Rattle.graph_rows.proofs.ColumnLaws.{content-turn}
+use Rattle.graph_rows.proofs.DecodeOrder.{or-false}
+use lib.Dec.{eqb, ltb}
 
 -- the first four contents are numbers
-module _ (v w : ℕ) where
-  pub formed-number : (n : ℕ) → n < 4 → leb v 99999 ≡ fieldFormed (contentOf n) v w
-  unfolding fieldFormed contentOf
-  formed-number zero h = refl
-  formed-number (suc zero) h = refl
-  formed-number (suc (suc zero)) h = refl
-  formed-number (suc (suc (suc zero))) h = refl
-  formed-number (suc (suc (suc (suc n)))) h = absurd (omega arith)
+pub text-number : (v w : ℕ) (letters : List ℕ) (n : ℕ) → n < 4 → numberText v ≡ fieldText letters (contentOf n) v w
+unfolding fieldText contentOf
+text-number v w letters zero h = refl
+text-number v w letters (suc zero) h = refl
+text-number v w letters (suc (suc zero)) h = refl
+text-number v w letters (suc (suc (suc zero))) h = refl
+text-number v w letters (suc (suc (suc (suc n)))) h = absurd (omega arith)
 
-  pub text-number : (letters : List ℕ) (n : ℕ) → n < 4 → numberText v ≡ fieldText letters (contentOf n) v w
-  unfolding fieldText contentOf
-  text-number letters zero h = refl
-  text-number letters (suc zero) h = refl
-  text-number letters (suc (suc zero)) h = refl
-  text-number letters (suc (suc (suc zero))) h = refl
-  text-number letters (suc (suc (suc (suc n)))) h = absurd (omega arith)
+-- these and the turn are the contents whose text is a number
+pub number-text : (letters : List ℕ) (n v w : ℕ) → (ltb n 4 || ltb 9 n) ≡ true → numberText v ≡ fieldText letters (contentOf n) v w
+unfolding fieldText
+number-text letters n v w h =
+    ⊎-elim (λ l. text-number v w letters n (ltb-true n 4 l))
+    (λ l. sym (rw (content-turn n (let g = ltb-true 9 n l in omega arith))))
+    (or-cases (ltb n 4) (ltb 9 n) h)
+
+-- any other but a name and the plain kind has one byte
+pub one-byte : (n : ℕ) → (ltb n 4 || ltb 9 n) ≡ false → (n ≡ 7 → ⊥) → (n ≡ 9 → ⊥) → (4 ≤ n) × (n < 9) × (n ≡ 7 → ⊥)
+one-byte n h s p =
+    let c = or-false (ltb n 4) (ltb 9 n) h in
+    let least = ltb-false n 4 (c .0) in
+    let most = ltb-false 9 n (c .1) in
+    (least, omega arith, s)
 
 -- one byte that is the text
 pub put-text : (b b′ : Buf) (x y : ℕ) (l : List ℕ) → b′ ≡ put b x → x ≡ y → y ∷ [] ≡ l → b′ ≡ puts b l
@@ -62,6 +74,12 @@ module _ (letters : List ℕ) (n v w : ℕ) where
   unfolding fieldText contentOf
   text-kind e = sym (rw e)
 
+  -- a letter or a kind is its own byte
+  pub text-own : (4 ≤ n) × (n < 9) × (n ≡ 7 → ⊥) → (n ≡ 5 → ⊥) → (n ≡ 6 → ⊥) → (v % 256) ∷ [] ≡ fieldText letters (contentOf n) v w
+  text-own q five six =
+      let least = q .0 in let most = q .1 in let seven = q .2 in
+      ⊎-elim (λ e. text-letter (eqb-true n 4 e)) (λ e. let four : n ≡ 4 → ⊥ = eqb-false n 4 e in text-kind (omega arith)) (Two (eqb n 4))
+
   pub text-plain : n ≡ 9 → [] ≡ fieldText letters (contentOf n) v w
   unfolding fieldText contentOf
   text-plain e = sym (rw e)
@@ -69,16 +87,6 @@ module _ (letters : List ℕ) (n v w : ℕ) where
   pub text-turn : contentOf n ≡ turn → numberText v ≡ fieldText letters (contentOf n) v w
   unfolding fieldText
   text-turn e = sym (rw e)
-
--- a place that the items fill, and one that they leave alone, where they fill the first u places
-module _ (items : List Item) (row : Row) (d u : ℕ) (e : (d : ℕ) → everyItem (sparesPlace d) items ≡ leb u d) where
-  pub idle-used : d < u → ltb d u ≡ idleZero items row d
-  unfolding idleZero
-  idle-used h = rw (e d, lt-leb u d h, lt-ltb d u h)
-
-  pub idle-past : u ≤ d → (v : ℕ) → v ≡ value row d → eqb v 0 ≡ idleZero items row d
-  unfolding idleZero
-  idle-past h v f = rw (e d, le-leb u d h, f)
 
 -- the letter of label i, and none past the last
 pub letter-at : (n f i : ℕ) (t : List ℕ) → i < n → getD t (f + 6 * i + 1) 0 ≡ getD (lettersAt n (drop f t)) i 0

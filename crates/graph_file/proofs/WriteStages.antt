@@ -1,305 +1,256 @@
--- Laws of writing row by row and section by section into a buffer. Assumes nothing.
-use Prim.Native.Nat.{ℕ, zero, suc, _+_, _-_, _*_, _≤_, _<_}
+-- Laws of writing, row by row and section by section into a buffer, a table that its test refuses
+-- nothing of. Assumes nothing.
+use Prim.Native.Nat.{ℕ, suc, _+_, _-_, _≤_, _<_}
 use mathlib.Core.Path.{_≡_, refl, sym, ap, _∙_}
-use mathlib.Core.List.{List, [], _∷_}
-use mathlib.Core.Bool.{Bool, true, false, not, _&&_}
+use mathlib.Core.List.{List, [], append-nil}
+use mathlib.Core.Bool.{true, false, not}
 use native.Mathlib.Omega.{arith}
 use native.Mathlib.Numerals.{add-one}
-use lib.Dec.{eqb, ltb, leb}
-use lib.ListN.{length, getD, drop, length-drop, drop-of-length-le}
-use lib.Seq.{drop-drop, drop-cons}
-use borrow.Author.Tests.{lt-ltb, le-ltb}
+use lib.ListN.{length, drop, length-drop}
+use lib.Seq.{drop-drop}
 use Rattle.text_field.specs.Buffer.{Buf, puts}
-use Rattle.text_field.proofs.ByteLaws.{clash}
-use Rattle.graph_file.specs.declared.rows.Counts.{Counts}
-use Rattle.graph_file.specs.declared.rows.Part.{Part}
-use Rattle.graph_file.specs.Format.{Item, sectionAt, shapeAt}
-use Rattle.text_field.specs.Outcome.{Outcome, refused, done, andThen, refuseIf}
-use Rattle.graph_file.specs.Admission.{Row, value, rowOf, nothing, begun, admission}
-use Rattle.graph_file.specs.Line.{lineText, formed}
-use Rattle.graph_file.specs.Order.{orderFault}
-use Rattle.graph_file.specs.File.{Piece, Stage, ifAdmitted, afterRow, oneRow, throughRows, afterNames, enough, throughSection, throughSections, atStart, ordered, whole, writeNames, cellsFollow, writeRow, writing, hasForm, formIn}
-use Rattle.graph_file.specs.Table.{itemsAt, namesPlace, rowPlace, rowsAt, lettersAt, pairsAt, rowsBack, sofarAt}
-use Rattle.graph_file.specs.Reader.{Placed, countsAfter, roomBefore}
-use Rattle.graph_file.specs.Writer.{Poured, stageFrom, poured, pour, pouredAt, refusedOrPoured, partWritten, countsBegun}
-use Rattle.graph_file.proofs.ReadLaws.{admitted-room}
-use Rattle.graph_file.proofs.FormatLaws.{names-items, row-items}
+use Rattle.text_field.specs.Outcome.{Outcome, refused, done, andThen}
+use Rattle.text_field.proofs.OutcomeLaws.{done-same, not-done, went, passed}
+use Rattle.graph_rows.specs.declared.rows.Counts.{Counts}
+use Rattle.graph_file.specs.declared.writer.Put.{Put}
+use Rattle.graph_rows.specs.Format.{sectionAt, shapeAt}
+use Rattle.graph_rows.specs.Admission.{Row, value, rowOf, blank, nothing, begun, admission}
+use Rattle.graph_rows.specs.Way.{Piece, Stage, afterRow, oneRow, throughRows, afterNames, throughSection, isEmpty, throughSections, whole, startsWith}
+use Rattle.graph_rows.specs.Tested.{formIn, tested, tableRefusal, stageFrom}
+use Rattle.graph_rows.specs.Table.{itemsAt, namesPlace, rowPlace, rowsAt, lettersAt, pairsAt, rowsBack, sofarAt}
+use Rattle.graph_rows.specs.Counting.{Placed, countsAfter, countsBegun}
+use Rattle.graph_file.specs.Line.{lineText}
+use Rattle.graph_file.specs.File.{madeOf, writeNames, writing, writeText}
+use Rattle.graph_file.specs.Writer.{Poured, poured, pour, putAt, Passes, textIn, madeIn}
+use Rattle.graph_rows.proofs.FormatLaws.{names-items, row-items}
+use Rattle.graph_rows.proofs.TakenLaws.{noCounts, sofar-taken}
+use Rattle.graph_rows.proofs.CountLaws.{admitted-room}
+use Rattle.graph_rows.proofs.DecodeWay.{row-split, section-split, whole-split}
+use Rattle.graph_rows.proofs.WayLaws.{rows-on, rows-off}
+use Rattle.graph_rows.proofs.ProperLaws.{not-refused, tested-proper}
+use Rattle.graph_file.proofs.ForgetLaws.{tests-pass}
+use Rattle.graph_file.proofs.InverseWriting.{row-written}
 use Rattle.graph_file.proofs.WriteLaws.{text-bytes}
-use Rattle.graph_file.proofs.TakenLaws.{noCounts, sofar-taken}
-use Rattle.graph_file.proofs.SectionLaws.{placed-fresh, room-next, room-below, sections-over, sections-left}
-use Rattle.graph_file.proofs.PourLaws.{Onward, onward-then, onward-rows, onward-enough, onward-sections, onward-ordered, rows-on, rows-off, pour-from, pour-then}
+use Rattle.graph_file.proofs.PourLaws.{after, mapped, Onward, onward-rows, onward-sections, pour-from, pour-then}
 
--- whether a row follows
-pub no-cells : (k p : ℕ) (t : List ℕ) → length t ≤ p → false ≡ cellsFollow k (drop p t)
-unfolding cellsFollow
-no-cells k p t h = sym (rw (drop-of-length-le t {i = p} h))
+-- A step was poured and another follows: what is left passes, and pours what the two pour.
+mapped-passes : (m : List ℕ) (o : Outcome Stage) → Passes (mapped m o) → Passes o
+unfolding mapped andThen
+mapped-passes m (refused n) p = absurd (not-done n (p .0) (p .1))
+mapped-passes m (done g) p = (g, refl)
 
-pub next-cell : (k p : ℕ) (t : List ℕ) → p < length t → eqb (getD t p 0) k ≡ cellsFollow k (drop p t)
-unfolding cellsFollow
-next-cell k p t h = sym (rw (drop-cons t p 0 h))
+from-bare : (g : Stage) → g ≡ after (g .made) (stageFrom (g .sofar) (g .rest))
+unfolding after stageFrom
+from-bare g = λ i. record { sofar = g .sofar; made = sym (append-nil (g .made)) i; rest = g .rest }
 
--- whether the table has a form
-pub no-form : (t : List ℕ) → length t ≡ 0 → false ≡ hasForm t
-unfolding hasForm
-no-form [] e = refl
-no-form (x ∷ t) e = absurd (omega arith)
+module _ (h : Stage → Outcome Stage) (onward : Onward h) (q : Poured) (b : Buf) where
+  pub passes-on : (o : Outcome Stage) → done q ≡ pour b o → Passes (andThen o h) → Passes (h (stageFrom (q .sofar) (q .rest)))
+  unfolding pour poured andThen stageFrom
+  passes-on (refused n) e p = absurd (not-done n q (sym e))
+  passes-on (done g) e p =
+      let same : q ≡ poured b g = done-same q (poured b g) e in
+      rw same (mapped-passes (g .made) (h (stageFrom (g .sofar) (g .rest))) (p .0, sym (onward (g .made) (stageFrom (g .sofar) (g .rest))) ∙ ap h (sym (from-bare g)) ∙ p .1))
 
-pub form-cell : (t : List ℕ) → (length t ≡ 0 → ⊥) → leb (getD t 0 0) 2 ≡ hasForm t
-unfolding hasForm
-form-cell [] n = absurd (n refl)
-form-cell (x ∷ t) n = refl
-
--- what a part answers, by its refusal
-module _ (r : Part) (t out : List ℕ) where
-  pub written-refused : (r .refusal ≡ 0 → ⊥) → partWritten r t out ≡ refused (r .refusal)
-  unfolding partWritten refusedOrPoured
-  written-refused = inner (r .refusal) (pouredAt t (r .cells) (r .counts) out (r .next))
-    where
-      inner : (n : ℕ) (q : Poured) → (n ≡ 0 → ⊥) → refusedOrPoured n q ≡ refused n
-      inner zero q h = absurd (h refl)
-      inner (suc n) q h = refl
-
-  pub written-done : r .refusal ≡ 0 → partWritten r t out ≡ done (pouredAt t (r .cells) (r .counts) out (r .next))
-  unfolding partWritten refusedOrPoured
-  written-done e = rw e
-
--- a part was written, and another step follows
-module _ (r : Part) (t out : List ℕ) (b : Buf) (o : Outcome Stage) (h : Stage → Outcome Stage) (onward : Onward h) (e : partWritten r t out ≡ pour b o) where
-  pub part-refused : (r .refusal ≡ 0 → ⊥) → partWritten r t out ≡ pour b (andThen o h)
+  pub pour-on : (o : Outcome Stage) → done q ≡ pour b o → pour (q .buffer) (h (stageFrom (q .sofar) (q .rest))) ≡ pour b (andThen o h)
   unfolding andThen
-  part-refused n = written-refused r t out n ∙ sym (pour-then h onward b o ∙ ap (λ (x : Outcome Poured). andThen x (λ q. pour (q .buffer) (h (stageFrom (q .sofar) (q .rest))))) (sym e ∙ written-refused r t out n))
+  pour-on o e = sym (pour-then h onward b o ∙ ap (λ (x : Outcome Poured). andThen x (λ q. pour (q .buffer) (h (stageFrom (q .sofar) (q .rest))))) (sym e))
 
-  pub part-done : r .refusal ≡ 0 → pour (out, r .next) (h (stageFrom (sofarAt t (r .cells) (r .counts)) (drop (r .cells) t))) ≡ pour b (andThen o h)
-  unfolding andThen pouredAt
-  part-done n = sym (pour-then h onward b o ∙ ap (λ (x : Outcome Poured). andThen x (λ q. pour (q .buffer) (h (stageFrom (q .sofar) (q .rest))))) (sym e ∙ written-done r t out n))
+-- the first of two steps that pass, passes
+pub first-passes : (o : Outcome Stage) (h : Stage → Outcome Stage) → Passes (andThen o h) → Passes o
+first-passes o h p = let w = went o h (p .0) (p .1) in (w .gained, w .before)
 
 -- nothing more is poured
-pub pour-here : (t : List ℕ) (p : ℕ) (c : Counts) (out : List ℕ) (n : ℕ) → done (pouredAt t p c out n) ≡ pour (out, n) (done (stageFrom (sofarAt t p c) (drop p t)))
-unfolding pour poured pouredAt stageFrom puts
-pour-here t p c out n = refl
-
--- Do six cells stand there, and are they a row that can be written?
-unfoldable pub rowFormed : List Item → List ℕ → Bool
-rowFormed items cells = not (ltb (length cells) 6) && formed items (rowOf cells)
-
-pub row-short : (o : ℕ) (t : List ℕ) (p : ℕ) → length t < p + 6 → false ≡ rowFormed (itemsAt o) (drop p t)
-unfolding rowFormed
-row-short o t p h = let e : length (drop p t) ≡ length t - p = length-drop p t in sym (rw (lt-ltb (length (drop p t)) 6 (omega arith)))
-
-pub row-long : (form k : ℕ) (t : List ℕ) (p : ℕ) → p + 6 ≤ length t → (b : Bool) → b ≡ formed (shapeAt form k .row) (rowOf (drop p t)) → b ≡ rowFormed (itemsAt (rowPlace form k)) (drop p t)
-unfolding rowFormed
-row-long form k t p h b f =
-    let e : length (drop p t) ≡ length t - p = length-drop p t in
-    f ∙ sym (rw (le-ltb (length (drop p t)) 6 (omega arith), row-items form k))
-
--- a row's piece, where it can be written and where it cannot
-module _ (form k : ℕ) (letters cells : List ℕ) where
-  piece-none : rowFormed (itemsAt (rowPlace form k)) cells ≡ false → writeRow form k letters cells ≡ refused 2
-  unfolding rowFormed writeRow refuseIf
-  piece-none = inner (ltb (length cells) 6) (formed (shapeAt form k .row) (rowOf cells)) refl refl
-    where
-      inner : (a b : Bool) → ltb (length cells) 6 ≡ a → formed (shapeAt form k .row) (rowOf cells) ≡ b → rowFormed (itemsAt (rowPlace form k)) cells ≡ false → writeRow form k letters cells ≡ refused 2
-      inner true b d e f = rw d
-      inner false false d e f = rw (d, e)
-      inner false true d e f = let g : rowFormed (itemsAt (rowPlace form k)) cells ≡ true = rw (d, row-items form k, e) in absurd (clash g f)
-
-  piece-made : rowFormed (itemsAt (rowPlace form k)) cells ≡ true → writeRow form k letters cells ≡ done (record { row = rowOf cells; made = lineText letters (itemsAt (rowPlace form k)) (rowOf cells); rest = drop 6 cells })
-  unfolding rowFormed writeRow refuseIf
-  piece-made = inner (ltb (length cells) 6) (formed (itemsAt (rowPlace form k)) (rowOf cells)) refl refl
-    where
-      inner : (a b : Bool) → ltb (length cells) 6 ≡ a → formed (itemsAt (rowPlace form k)) (rowOf cells) ≡ b → rowFormed (itemsAt (rowPlace form k)) cells ≡ true → writeRow form k letters cells ≡ done (record { row = rowOf cells; made = lineText letters (itemsAt (rowPlace form k)) (rowOf cells); rest = drop 6 cells })
-      inner true b d e f = let g : rowFormed (itemsAt (rowPlace form k)) cells ≡ false = rw d in absurd (clash f g)
-      inner false false d e f = let g : rowFormed (itemsAt (rowPlace form k)) cells ≡ false = rw (d, e) in absurd (clash f g)
-      inner false true d e f = rw (d, ← row-items form k, e)
-
--- one row: not of its form, not admitted, taken
-module _ (form k : ℕ) (t : List ℕ) (p : ℕ) (c : Counts) (b : Buf) where
-  pub row-unformed : rowFormed (itemsAt (rowPlace form k)) (drop p t) ≡ false → refused 2 ≡ pour b (oneRow (writing form) k (stageFrom (sofarAt t p c) (drop p t)))
-  unfolding oneRow writing stageFrom andThen pour sofarAt
-  row-unformed f = sym (rw (piece-none form k (lettersAt (c .labels) (drop 1 t)) (drop p t) f))
-
-  module _ (f : rowFormed (itemsAt (rowPlace form k)) (drop p t) ≡ true) where
-    module _ (a : ℕ) (e : a ≡ admission form k (sofarAt t p c) (rowOf (drop p t))) where
-      piece : Piece
-      piece = record { row = rowOf (drop p t); made = lineText (lettersAt (c .labels) (drop 1 t)) (itemsAt (rowPlace form k)) (rowOf (drop p t)); rest = drop 6 (drop p t) }
-
-      row-piece : writeRow form k (lettersAt (c .labels) (drop 1 t)) (drop p t) ≡ done piece
-      unfolding piece
-      row-piece = piece-made form k (lettersAt (c .labels) (drop 1 t)) (drop p t) f
-
-      row-formed : oneRow (writing form) k (stageFrom (sofarAt t p c) (drop p t)) ≡ ifAdmitted a (done (afterRow k (stageFrom (sofarAt t p c) (drop p t)) piece))
-      unfolding oneRow writing stageFrom andThen sofarAt piece
-      row-formed =
-          ap (λ (o : Outcome Piece). andThen o (λ q. ifAdmitted (admission form k (sofarAt t p c) (q .row)) (done (afterRow k (stageFrom (sofarAt t p c) (drop p t)) q)))) row-piece
-          ∙ ap (λ (x : ℕ). ifAdmitted x (done (afterRow k (stageFrom (sofarAt t p c) (drop p t)) piece))) (sym e)
-
-      pub row-refused : (q : Poured) → (a ≡ 0 → ⊥) → refusedOrPoured a q ≡ pour b (oneRow (writing form) k (stageFrom (sofarAt t p c) (drop p t)))
-      unfolding refusedOrPoured ifAdmitted pour
-      row-refused q n = inner a n ∙ ap (pour b) (sym row-formed)
-        where
-          inner : (x : ℕ) → (x ≡ 0 → ⊥) → refusedOrPoured x q ≡ pour b (ifAdmitted x (done (afterRow k (stageFrom (sofarAt t p c) (drop p t)) piece)))
-          inner zero n = absurd (n refl)
-          inner (suc x) n = refl
-
-      pub row-taken : Placed k p c → a ≡ 0 → (out : List ℕ) (n : ℕ) → _≡_ {A = Buf} (out, n) (puts b (lineText (lettersAt (c .labels) (drop 1 t)) (itemsAt (rowPlace form k)) (rowOf (drop p t)))) → done (pouredAt t (p + 6) (countsAfter k c (value (rowOf (drop p t)) 0)) out n) ≡ pour b (oneRow (writing form) k (stageFrom (sofarAt t p c) (drop p t)))
-      unfolding ifAdmitted pour poured pouredAt afterRow stageFrom piece
-      row-taken d z out n w = sym (ap (pour b) row-formed ∙ rw z (λ i. done (record { sofar = sym (sofar-taken k p t c d) i; buffer = sym w i; rest = drop-drop 6 p t i })))
+pub pour-here : (r : Put) (t out : List ℕ) → done (putAt r t out) ≡ pour (out, r .next) (done (stageFrom (sofarAt t (r .cells) (r .counts)) (drop (r .cells) t)))
+unfolding pour poured putAt stageFrom puts
+pour-here r t out = refl
 
 -- the rows of section k: after d .rows of them, the turns left
-module _ (form k m : ℕ) (t : List ℕ) (d : Counts) (b : Buf) (few : d .rows ≤ sectionAt k .most) where
-  left-now : suc (sectionAt k .most) - d .rows ≡ suc (sectionAt k .most - d .rows)
-  left-now = omega arith
+module _ (form k m : ℕ) (t : List ℕ) (d : Counts) (few : d .rows ≤ sectionAt k .most) where
+  here : Stage
+  here = stageFrom (sofarAt t m d) (drop m t)
 
-  module _ (follows : cellsFollow k (drop m t) ≡ true) (r : Part) (out : List ℕ) (e : partWritten r t out ≡ pour b (oneRow (writing form) k (stageFrom (sofarAt t m d) (drop m t)))) where
-    turn : throughRows (writing form) (suc (sectionAt k .most) - d .rows) k (stageFrom (sofarAt t m d) (drop m t)) ≡ andThen (oneRow (writing form) k (stageFrom (sofarAt t m d) (drop m t))) (throughRows (writing form) (sectionAt k .most - d .rows) k)
-    unfolding writing stageFrom
-    turn = rw left-now (rows-on (writing form) (sectionAt k .most - d .rows) k (stageFrom (sofarAt t m d) (drop m t)) follows)
+  turns : ℕ
+  turns = sectionAt k .most - d .rows
 
-    pub rows-refused : (r .refusal ≡ 0 → ⊥) → partWritten r t out ≡ pour b (throughRows (writing form) (suc (sectionAt k .most) - d .rows) k (stageFrom (sofarAt t m d) (drop m t)))
-    rows-refused n = part-refused r t out b _ (throughRows (writing form) (sectionAt k .most - d .rows) k) (onward-rows (writing form) (sectionAt k .most - d .rows) k) e n ∙ ap (pour b) (sym turn)
+  left-now : throughRows (writing form) (suc (sectionAt k .most) - d .rows) k here ≡ throughRows (writing form) (suc turns) k here
+  unfolding turns
+  left-now = let e : suc (sectionAt k .most) - d .rows ≡ suc (sectionAt k .most - d .rows) = omega arith in rw e
 
-    pub rows-again : r .refusal ≡ 0 → r .counts .rows ≡ d .rows + 1 → pour (out, r .next) (throughRows (writing form) (suc (sectionAt k .most) - r .counts .rows) k (stageFrom (sofarAt t (r .cells) (r .counts)) (drop (r .cells) t))) ≡ pour b (throughRows (writing form) (suc (sectionAt k .most) - d .rows) k (stageFrom (sofarAt t m d) (drop m t)))
-    rows-again n s =
-        let z : suc (sectionAt k .most) - r .counts .rows ≡ sectionAt k .most - d .rows = omega arith in
-        rw z (part-done r t out b _ (throughRows (writing form) (sectionAt k .most - d .rows) k) (onward-rows (writing form) (sectionAt k .most - d .rows) k) e n) ∙ ap (pour b) (sym turn)
+  pub rows-stop : (out : List ℕ) (n : ℕ) → startsWith k (drop m t) ≡ false → done (putAt (record { next = n; cells = m; counts = d }) t out) ≡ pour (out, n) (throughRows (writing form) (suc (sectionAt k .most) - d .rows) k (stageFrom (sofarAt t m d) (drop m t)))
+  unfolding here writing stageFrom
+  rows-stop out n h =
+      pour-here (record { next = n; cells = m; counts = d }) t out ∙ ap (pour (out, n)) (sym (left-now ∙ rows-off (writing form) turns k here h))
 
-pub rows-stop : (form k m : ℕ) (t : List ℕ) (d : Counts) (out : List ℕ) (n : ℕ) → d .rows ≤ sectionAt k .most → cellsFollow k (drop m t) ≡ false → done (pouredAt t m d out n) ≡ pour (out, n) (throughRows (writing form) (suc (sectionAt k .most) - d .rows) k (stageFrom (sofarAt t m d) (drop m t)))
-unfolding writing stageFrom
-rows-stop form k m t d out n few h =
-    pour-here t m d out n ∙ ap (pour (out, n)) (sym (rw (left-now form k m t d (out, n) few) (rows-off (writing form) (sectionAt k .most - d .rows) k (stageFrom (sofarAt t m d) (drop m t)) h)))
+  -- a row follows: it is written, and the rest of the rows passes
+  module _ (follows : startsWith k (drop m t) ≡ true) (passes : Passes (throughRows (writing form) (suc (sectionAt k .most) - d .rows) k (stageFrom (sofarAt t m d) (drop m t)))) where
+    turn : throughRows (writing form) (suc (sectionAt k .most) - d .rows) k here ≡ andThen (oneRow (writing form) k here) (throughRows (writing form) turns k)
+    unfolding here writing stageFrom
+    turn = left-now ∙ rows-on (writing form) turns k here follows
 
-pub rows-start : (form k : ℕ) (g : Stage) (c : Counts) (b : Buf) → c .rows ≡ 0 → pour b (throughRows (writing form) (suc (sectionAt k .most) - c .rows) k g) ≡ pour b (throughRows (writing form) (suc (sectionAt k .most)) k g)
-rows-start form k g c b z = let e : suc (sectionAt k .most) - c .rows ≡ suc (sectionAt k .most) = omega arith in rw e
+    both-pass : Passes (andThen (oneRow (writing form) k here) (throughRows (writing form) turns k))
+    unfolding here
+    both-pass = (passes .0, sym turn ∙ passes .1)
+
+    row : Row
+    row = rowOf (drop m t)
+
+    line : List ℕ
+    line = lineText (lettersAt (d .labels) (drop 1 t)) (shapeAt form k .row) row
+
+    piece : Piece
+    piece = record { row = row; made = line; rest = drop 6 (drop m t) }
+
+    taken-row : (admission form k (sofarAt t m d) row ≡ 0) × (oneRow (writing form) k here ≡ done (afterRow k here piece))
+    unfolding here row line piece writing stageFrom sofarAt
+    taken-row =
+        let o = first-passes (oneRow (writing form) k here) (throughRows (writing form) turns k) both-pass in
+        let r = row-split (writing form) k here (o .0) (o .1) in
+        let w = row-written form k (lettersAt (d .labels) (drop 1 t)) (drop m t) (r .0) follows (r .1) in
+        (ap (λ (p : Piece). admission form k (sofarAt t m d) (p .row)) (sym (w .piece)) ∙ r .2, o .1 ∙ ap done (sym (r .3) ∙ ap (afterRow k here) (w .piece)))
+
+    -- the table holds all of the row
+    pub row-whole : m + 6 ≤ length t
+    unfolding here row line piece writing stageFrom sofarAt rowOf
+    row-whole =
+        let o = first-passes (oneRow (writing form) k here) (throughRows (writing form) turns k) both-pass in
+        let r = row-split (writing form) k here (o .0) (o .1) in
+        let w = row-written form k (lettersAt (d .labels) (drop 1 t)) (drop m t) (r .0) follows (r .1) in
+        let six : length (drop m t) ≡ suc (suc (suc (suc (suc (suc (length (drop 6 (drop m t)))))))) = ap length (w .stands) in
+        omega (arith, length-drop m t)
+
+    pub row-room : d .rows < sectionAt k .most
+    unfolding sofarAt row
+    row-room = admitted-room form k (sofarAt t m d) (rowOf (drop m t)) (taken-row .0)
+
+    -- the row's line was put, and the next row's place reached
+    module _ (placed : Placed k m d) (v : ℕ) (first : v ≡ value (rowOf (drop m t)) 0) (out out′ : List ℕ) (n n′ : ℕ)
+        (put : _≡_ {A = Buf} (out′, n′) (puts (out, n) (lineText (lettersAt (d .labels) (drop 1 t)) (itemsAt (rowPlace form k)) (rowOf (drop m t))))) where
+      there : Poured
+      there = putAt (record { next = n′; cells = m + 6; counts = countsAfter k d v }) t out′
+
+      row-poured : done there ≡ pour (out, n) (oneRow (writing form) k here)
+      unfolding there putAt here row line piece pour poured afterRow stageFrom
+      row-poured =
+          sym (ap (pour (out, n)) (taken-row .1) ∙ rw first (λ i. done (record { sofar = sym (sofar-taken k m t d placed) i; buffer = written i; rest = drop-drop 6 m t i })))
+        where
+          written : _≡_ {A = Buf} (puts (out, n) (lineText (lettersAt (d .labels) (drop 1 t)) (shapeAt form k .row) (rowOf (drop m t)))) (out′, n′)
+          written = sym (put ∙ rw (row-items form k))
+
+      left-then : suc (sectionAt k .most) - countsAfter k d v .rows ≡ turns
+      unfolding countsAfter turns
+      left-then = let r = row-room in omega arith
+
+      pub rows-pass : Passes (throughRows (writing form) (suc (sectionAt k .most) - countsAfter k d v .rows) k (stageFrom (sofarAt t (m + 6) (countsAfter k d v)) (drop (m + 6) t)))
+      unfolding there putAt
+      rows-pass = rw left-then (passes-on (throughRows (writing form) turns k) (onward-rows (writing form) turns k) there (out, n) (oneRow (writing form) k here) row-poured both-pass)
+
+      pub rows-again : pour (out′, n′) (throughRows (writing form) (suc (sectionAt k .most) - countsAfter k d v .rows) k (stageFrom (sofarAt t (m + 6) (countsAfter k d v)) (drop (m + 6) t))) ≡ pour (out, n) (throughRows (writing form) (suc (sectionAt k .most) - d .rows) k (stageFrom (sofarAt t m d) (drop m t)))
+      unfolding there putAt here
+      rows-again = rw left-then (pour-on (throughRows (writing form) turns k) (onward-rows (writing form) turns k) there (out, n) (oneRow (writing form) k here) row-poured ∙ ap (pour (out, n)) (sym turn))
+
+pub rows-start : (form k : ℕ) (g : Stage) (c : Counts) → c .rows ≡ 0 → throughRows (writing form) (suc (sectionAt k .most) - c .rows) k g ≡ throughRows (writing form) (suc (sectionAt k .most)) k g
+rows-start form k g c z = let e : suc (sectionAt k .most) - c .rows ≡ suc (sectionAt k .most) = omega arith in rw e
 
 -- the names line
-pub names-text : (form k : ℕ) (letters : List ℕ) (row : Row) → lineText letters (itemsAt (namesPlace form k)) row ≡ shapeAt form k .names
+names-text : (form k : ℕ) (letters : List ℕ) (row : Row) → lineText letters (itemsAt (namesPlace form k)) row ≡ shapeAt form k .names
 names-text form k letters row = rw (names-items form k) (text-bytes letters (shapeAt form k .names) row)
 
+pub names-put : (form k o : ℕ) (letters : List ℕ) (row : Row) (b b′ : Buf) → b′ ≡ puts b (lineText letters (itemsAt o) row) → o ≡ namesPlace form k → b′ ≡ puts b (shapeAt form k .names)
+names-put form k o letters row b b′ e f = e ∙ ap (puts b) (ap (λ (x : ℕ). lineText letters (itemsAt x) row) f ∙ names-text form k letters row)
+
 -- a section after its names line
-sofar-begun : (t : List ℕ) (p : ℕ) (c : Counts) → begun (sofarAt t p c) ≡ sofarAt t p (countsBegun c)
-unfolding begun sofarAt countsBegun rowsBack
-sofar-begun t p c = refl
+module _ (form k : ℕ) (t : List ℕ) (p : ℕ) (c : Counts) (passes : Passes (throughSection (writing form) k (stageFrom (sofarAt t p c) (drop p t)))) where
+  named : Stage
+  named = afterNames (stageFrom (sofarAt t p c) (drop p t)) (record { row = blank; made = shapeAt form k .names; rest = drop p t })
 
-pub section-begun : (form k : ℕ) (t : List ℕ) (p : ℕ) (c : Counts) (b : Buf) → pour (puts b (shapeAt form k .names)) (andThen (throughRows (writing form) (suc (sectionAt k .most)) k (stageFrom (sofarAt t p (countsBegun c)) (drop p t))) (enough k)) ≡ pour b (throughSection (writing form) k (stageFrom (sofarAt t p c) (drop p t)))
-unfolding throughSection writing writeNames andThen afterNames stageFrom
-section-begun form k t p c b = rw (← sofar-begun t p c) (sym (pour-from (λ g. andThen (throughRows (writing form) (suc (sectionAt k .most)) k g) (enough k)) (onward-then (throughRows (writing form) (suc (sectionAt k .most)) k) (enough k) (onward-rows (writing form) (suc (sectionAt k .most)) k) (onward-enough k)) b (record { sofar = begun (sofarAt t p c); made = shapeAt form k .names; rest = drop p t })))
+  rows-named : throughSection (writing form) k (stageFrom (sofarAt t p c) (drop p t)) ≡ throughRows (writing form) (suc (sectionAt k .most)) k named
+  unfolding throughSection writing writeNames andThen named stageFrom
+  rows-named =
+      let s = section-split (writing form) k (stageFrom (sofarAt t p c) (drop p t)) (passes .0) (passes .1) in
+      passes .1 ∙ sym (ap (throughRows (writing form) (suc (sectionAt k .most)) k) (ap (afterNames (stageFrom (sofarAt t p c) (drop p t))) (done-same _ _ (s .1))) ∙ s .2)
 
--- too few rows, and enough
-module _ (k : ℕ) (t : List ℕ) (p : ℕ) (c : Counts) (out : List ℕ) (n : ℕ) where
-  pub too-few : c .rows < sectionAt k .least → refused 2 ≡ pour (out, n) (enough k (stageFrom (sofarAt t p c) (drop p t)))
-  unfolding enough refuseIf pour stageFrom sofarAt
-  too-few h = sym (rw (lt-ltb (c .rows) (sectionAt k .least) h))
+  begun-here : named ≡ after (shapeAt form k .names) (stageFrom (sofarAt t p (countsBegun c)) (drop p t))
+  unfolding named after afterNames stageFrom begun sofarAt countsBegun rowsBack
+  begun-here = λ i. record { sofar = sofarAt t p (countsBegun c); made = sym (append-nil (shapeAt form k .names)) i; rest = drop p t }
 
-  pub not-few : sectionAt k .least ≤ c .rows → done (pouredAt t p c out n) ≡ pour (out, n) (enough k (stageFrom (sofarAt t p c) (drop p t)))
-  unfolding enough refuseIf stageFrom sofarAt
-  not-few h = pour-here t p c out n ∙ ap (pour (out, n)) (sym (rw (le-ltb (c .rows) (sectionAt k .least) h)))
+  pub section-passes : Passes (throughRows (writing form) (suc (sectionAt k .most)) k (stageFrom (sofarAt t p (countsBegun c)) (drop p t)))
+  section-passes =
+      mapped-passes (shapeAt form k .names) _
+      (passes .0, sym (onward-rows (writing form) (suc (sectionAt k .most)) k (shapeAt form k .names) (stageFrom (sofarAt t p (countsBegun c)) (drop p t))) ∙ ap (throughRows (writing form) (suc (sectionAt k .most)) k) (sym begun-here) ∙ sym rows-named ∙ passes .1)
+
+  pub section-poured : (b b′ : Buf) → b′ ≡ puts b (shapeAt form k .names) → pour b′ (throughRows (writing form) (suc (sectionAt k .most)) k (stageFrom (sofarAt t p (countsBegun c)) (drop p t))) ≡ pour b (throughSection (writing form) k (stageFrom (sofarAt t p c) (drop p t)))
+  unfolding named afterNames stageFrom begun sofarAt countsBegun rowsBack
+  section-poured b b′ e =
+      rw e (sym (ap (pour b) rows-named ∙ pour-from (throughRows (writing form) (suc (sectionAt k .most)) k) (onward-rows (writing form) (suc (sectionAt k .most)) k) b named))
 
 -- the sections from section k on
-module _ (form k : ℕ) (t : List ℕ) (p : ℕ) (c : Counts) (b : Buf) where
-  module _ (within : k < 9) (r : Part) (out : List ℕ) (e : partWritten r t out ≡ pour b (throughSection (writing form) k (stageFrom (sofarAt t p c) (drop p t)))) where
+module _ (form k : ℕ) (t : List ℕ) (p : ℕ) (c : Counts) where
+  module _ (within : k < 9) (passes : Passes (throughSections (writing form) (9 - k) k (stageFrom (sofarAt t p c) (drop p t)))) where
     next-section : throughSections (writing form) (9 - k) k (stageFrom (sofarAt t p c) (drop p t)) ≡ andThen (throughSection (writing form) k (stageFrom (sofarAt t p c) (drop p t))) (throughSections (writing form) (9 - (k + 1)) (k + 1))
     unfolding throughSections
     next-section = let z : 9 - k ≡ suc (9 - (k + 1)) = omega arith in rw (z, add-one k)
 
-    pub sections-refused : (r .refusal ≡ 0 → ⊥) → partWritten r t out ≡ pour b (throughSections (writing form) (9 - k) k (stageFrom (sofarAt t p c) (drop p t)))
-    sections-refused n = part-refused r t out b _ (throughSections (writing form) (9 - (k + 1)) (k + 1)) (onward-sections (writing form) (9 - (k + 1)) (k + 1)) e n ∙ ap (pour b) (sym next-section)
+    two-pass : Passes (andThen (throughSection (writing form) k (stageFrom (sofarAt t p c) (drop p t))) (throughSections (writing form) (9 - (k + 1)) (k + 1)))
+    two-pass = (passes .0, sym next-section ∙ passes .1)
 
-    pub sections-again : r .refusal ≡ 0 → pour (out, r .next) (throughSections (writing form) (9 - (k + 1)) (k + 1) (stageFrom (sofarAt t (r .cells) (r .counts)) (drop (r .cells) t))) ≡ pour b (throughSections (writing form) (9 - k) k (stageFrom (sofarAt t p c) (drop p t)))
-    sections-again n = part-done r t out b _ (throughSections (writing form) (9 - (k + 1)) (k + 1)) (onward-sections (writing form) (9 - (k + 1)) (k + 1)) e n ∙ ap (pour b) (sym next-section)
+    pub sections-first : Passes (throughSection (writing form) k (stageFrom (sofarAt t p c) (drop p t)))
+    sections-first = first-passes _ (throughSections (writing form) (9 - (k + 1)) (k + 1)) two-pass
 
-  -- after the last one something is left
-  pub sections-rest : 9 ≤ k → p < length t → refused 2 ≡ pour b (throughSections (writing form) (9 - k) k (stageFrom (sofarAt t p c) (drop p t)))
-  unfolding pour stageFrom
-  sections-rest h l = ap (pour b) (sym (sections-left (writing form) k (stageFrom (sofarAt t p c) (drop p t)) h (getD t p 0) (drop (suc p) t) (drop-cons t p 0 l)))
+    module _ (b : Buf) (r : Put) (out : List ℕ) (e : done (putAt r t out) ≡ pour b (throughSection (writing form) k (stageFrom (sofarAt t p c) (drop p t)))) where
+      pub sections-pass : Passes (throughSections (writing form) (9 - (k + 1)) (k + 1) (stageFrom (sofarAt t (r .cells) (r .counts)) (drop (r .cells) t)))
+      unfolding putAt
+      sections-pass = passes-on (throughSections (writing form) (9 - (k + 1)) (k + 1)) (onward-sections (writing form) (9 - (k + 1)) (k + 1)) (putAt r t out) b _ e two-pass
 
--- or nothing
-pub sections-end : (form k : ℕ) (t : List ℕ) (p : ℕ) (c : Counts) (out : List ℕ) (n : ℕ) → 9 ≤ k → length t ≤ p → done (pouredAt t p c out n) ≡ pour (out, n) (throughSections (writing form) (9 - k) k (stageFrom (sofarAt t p c) (drop p t)))
-unfolding stageFrom
-sections-end form k t p c out n h l =
-    pour-here t p c out n ∙ ap (pour (out, n)) (sym (sections-over (writing form) k (stageFrom (sofarAt t p c) (drop p t)) h (drop-of-length-le t {i = p} l)))
+      pub sections-again : pour (out, r .next) (throughSections (writing form) (9 - (k + 1)) (k + 1) (stageFrom (sofarAt t (r .cells) (r .counts)) (drop (r .cells) t))) ≡ pour b (throughSections (writing form) (9 - k) k (stageFrom (sofarAt t p c) (drop p t)))
+      unfolding putAt
+      sections-again = pour-on (throughSections (writing form) (9 - (k + 1)) (k + 1)) (onward-sections (writing form) (9 - (k + 1)) (k + 1)) (putAt r t out) b _ e ∙ ap (pour b) (sym next-section)
+
+  -- after the last one nothing is left
+  pub sections-end : 9 ≤ k → Passes (throughSections (writing form) (9 - k) k (stageFrom (sofarAt t p c) (drop p t))) → (out : List ℕ) (n : ℕ)
+      → done (putAt (record { next = n; cells = p; counts = c }) t out) ≡ pour (out, n) (throughSections (writing form) (9 - k) k (stageFrom (sofarAt t p c) (drop p t)))
+  unfolding throughSections
+  sections-end h passes out n =
+      let z : 9 - k ≡ 0 = omega arith in
+      let e : throughSections (writing form) 0 k (stageFrom (sofarAt t p c) (drop p t)) ≡ done (passes .0) = ap (λ (j : ℕ). throughSections (writing form) j k (stageFrom (sofarAt t p c) (drop p t))) (sym z) ∙ passes .1 in
+      let q = passed (not (isEmpty (stageFrom (sofarAt t p c) (drop p t) .rest))) 2 (done (stageFrom (sofarAt t p c) (drop p t))) (passes .0) e in
+      pour-here (record { next = n; cells = p; counts = c }) t out ∙ ap (pour (out, n)) (q .1 ∙ sym (passes .1))
 
 -- before any row
-pub sofar-none : (t : List ℕ) → sofarAt t 1 noCounts ≡ nothing
+sofar-none : (t : List ℕ) → sofarAt t 1 noCounts ≡ nothing
 unfolding sofarAt nothing lettersAt pairsAt rowsAt rowsBack
 sofar-none t = refl
 
-pub sections-start : (form : ℕ) (t : List ℕ) (b : Buf) → pour b (throughSections (writing form) 9 0 (stageFrom (sofarAt t 1 noCounts) (drop 1 t))) ≡ pour b (throughSections (writing form) 9 0 (stageFrom nothing (drop 1 t)))
-sections-start form t b = rw (sofar-none t)
+pub sections-start : (form : ℕ) (t : List ℕ) → throughSections (writing form) 9 0 (stageFrom (sofarAt t 1 noCounts) (drop 1 t)) ≡ throughSections (writing form) 9 0 (stageFrom nothing (drop 1 t))
+sections-start form t = rw (sofar-none t)
 
--- the order of the pairs, after the sections
-module _ (form : ℕ) (r : Part) (t out : List ℕ) (b : Buf) (e : partWritten r t out ≡ pour b (throughSections (writing form) 9 0 (stageFrom nothing (drop 1 t)))) where
-  pub graph-refused : (r .refusal ≡ 0 → ⊥) → partWritten r t out ≡ pour b (whole (writing form) [] (drop 1 t))
-  unfolding whole atStart stageFrom
-  graph-refused n = part-refused r t out b _ ordered onward-ordered e n
+-- the whole table: its sections pass, and what they pour is the text
+module _ (t : List ℕ) (graph : tableRefusal t ≡ 0) where
+  whole-passes : Passes (whole (writing (formIn t)) [] (drop 1 t))
+  unfolding tableRefusal
+  whole-passes = let g = not-refused (tested t) (tested-proper t) graph in let w = tests-pass t (g .0) (g .1) in (w .0, w .1)
 
-  module _ (n : r .refusal ≡ 0) where
-    graph-ordered : pour (out, r .next) (ordered (stageFrom (sofarAt t (r .cells) (r .counts)) (drop (r .cells) t))) ≡ pour b (whole (writing form) [] (drop 1 t))
-    unfolding whole atStart stageFrom
-    graph-ordered = part-done r t out b _ ordered onward-ordered e n
+  pub graph-passes : Passes (throughSections (writing (formIn t)) 9 0 (stageFrom nothing (drop 1 t)))
+  unfolding stageFrom
+  graph-passes = (whole-passes .0, whole-split (writing (formIn t)) [] (drop 1 t) (whole-passes .0) (whole-passes .1) .0)
 
-    pub graph-fault : orderFault (pairsAt (r .counts .labels) (r .counts .pairs) t) ≡ true → refused 6 ≡ pour b (whole (writing form) [] (drop 1 t))
-    unfolding ordered refuseIf pour stageFrom sofarAt
-    graph-fault f = inner ∙ graph-ordered
-      where
-        inner : refused 6 ≡ pour (out, r .next) (ordered (stageFrom (sofarAt t (r .cells) (r .counts)) (drop (r .cells) t)))
-        inner = sym (rw f)
+  pub text-written : writeText t ≡ done (textIn t)
+  unfolding textIn madeIn writeText madeOf andThen tableRefusal
+  text-written =
+      let g = not-refused (tested t) (tested-proper t) graph in
+      let w = tests-pass t (g .0) (g .1) in
+      let e : writeText t ≡ done (w .0 .made) = rw (w .2, writeText, w .1) in
+      e ∙ ap done (sym (ap madeIn e))
 
-    pub graph-done : orderFault (pairsAt (r .counts .labels) (r .counts .pairs) t) ≡ false → partWritten r t out ≡ pour b (whole (writing form) [] (drop 1 t))
-    unfolding ordered refuseIf stageFrom sofarAt
-    graph-done f = written-done r t out n ∙ pour-here t (r .cells) (r .counts) out (r .next) ∙ ap (pour (out, r .next)) (sym inner) ∙ graph-ordered
-      where
-        inner : ordered (stageFrom (sofarAt t (r .cells) (r .counts)) (drop (r .cells) t)) ≡ done (stageFrom (sofarAt t (r .cells) (r .counts)) (drop (r .cells) t))
-        inner = rw f
+  text-made : textIn t ≡ whole-passes .0 .made
+  unfolding textIn madeIn writeText madeOf andThen tableRefusal whole-passes
+  text-made =
+      let g = not-refused (tested t) (tested-proper t) graph in
+      let w = tests-pass t (g .0) (g .1) in
+      let e : writeText t ≡ done (w .0 .made) = rw (w .2, writeText, w .1) in
+      ap madeIn e
 
--- the form is the table's
-pub in-form : (t : List ℕ) (b : Buf) (form : ℕ) → form ≡ formIn t → pour b (whole (writing form) [] (drop 1 t)) ≡ pour b (whole (writing (formIn t)) [] (drop 1 t))
-in-form t b form e = ap (λ (f : ℕ). pour b (whole (writing f) [] (drop 1 t))) e
-
--- the counts fit where a section begins
-pub placed-begun : (k p : ℕ) (c : Counts) → Placed k p c → Placed k p (countsBegun c)
-unfolding countsBegun
-placed-begun k p c d = placed-fresh k p c d
-
--- the room of a section, and the cells before the next one
-pub section-room : (k p : ℕ) → k < 9 → p ≤ roomBefore k → p + 6 * sectionAt k .most ≤ 12271
-section-room k p h l = omega (arith, room-next k, room-below (k + 1) (omega arith))
-
-pub next-room : (k p cells rows : ℕ) → p ≤ roomBefore k → rows ≤ sectionAt k .most → cells ≡ p + 6 * rows → cells ≤ roomBefore (k + 1)
-next-room k p cells rows l m e = omega (arith, room-next k)
-
--- an admitted row had room, and is counted
-pub room-of : (form k : ℕ) (t : List ℕ) (p : ℕ) (c : Counts) → admission form k (sofarAt t p c) (rowOf (drop p t)) ≡ 0 → c .rows < sectionAt k .most
-unfolding sofarAt
-room-of form k t p c e = admitted-room form k (sofarAt t p c) (rowOf (drop p t)) e
-
-pub rows-after : (k : ℕ) (c : Counts) (v : ℕ) → countsAfter k c v .rows ≡ c .rows + 1
-unfolding countsAfter
-rows-after k c v = refl
-
--- the counts where a section begins have no row
-pub rows-begun : (c : Counts) → countsBegun c .rows ≡ 0
-unfolding countsBegun
-rows-begun c = refl
-
--- the names line written
-pub names-put : (form k o : ℕ) (letters : List ℕ) (row : Row) (b b′ : Buf) → b′ ≡ puts b (lineText letters (itemsAt o) row) → o ≡ namesPlace form k → b′ ≡ puts b (shapeAt form k .names)
-names-put form k o letters row b b′ e f = e ∙ ap (puts b) (ap (λ (x : ℕ). lineText letters (itemsAt x) row) f ∙ names-text form k letters row)
-
--- a section, by what its rows came to
-module _ (form k : ℕ) (t : List ℕ) (p : ℕ) (c d : Counts) (b b′ : Buf) (begin : d ≡ countsBegun c) (named : b′ ≡ puts b (shapeAt form k .names)) (r : Part) (out : List ℕ) (e : partWritten r t out ≡ pour b′ (throughRows (writing form) (suc (sectionAt k .most)) k (stageFrom (sofarAt t p d) (drop p t)))) where
-  section-whole : pour b′ (andThen (throughRows (writing form) (suc (sectionAt k .most)) k (stageFrom (sofarAt t p d) (drop p t))) (enough k)) ≡ pour b (throughSection (writing form) k (stageFrom (sofarAt t p c) (drop p t)))
-  section-whole = rw (begin, named) (section-begun form k t p c b)
-
-  pub section-refused : (r .refusal ≡ 0 → ⊥) → partWritten r t out ≡ pour b (throughSection (writing form) k (stageFrom (sofarAt t p c) (drop p t)))
-  section-refused n = part-refused r t out b′ _ (enough k) (onward-enough k) e n ∙ section-whole
-
-  pub section-few : r .refusal ≡ 0 → r .counts .rows < sectionAt k .least → refused 2 ≡ pour b (throughSection (writing form) k (stageFrom (sofarAt t p c) (drop p t)))
-  section-few n l = too-few k t (r .cells) (r .counts) out (r .next) l ∙ part-done r t out b′ _ (enough k) (onward-enough k) e n ∙ section-whole
-
-  pub section-done : r .refusal ≡ 0 → sectionAt k .least ≤ r .counts .rows → partWritten r t out ≡ pour b (throughSection (writing form) k (stageFrom (sofarAt t p c) (drop p t)))
-  section-done n l = written-done r t out n ∙ not-few k t (r .cells) (r .counts) out (r .next) l ∙ part-done r t out b′ _ (enough k) (onward-enough k) e n ∙ section-whole
-
--- the form stands before the sections
-pub first-room : 1 ≤ roomBefore 0
-unfolding roomBefore
-first-room = omega arith
+  pub text-poured : (r : Put) (out u : List ℕ) → done (putAt r t u) ≡ pour (out, 0) (throughSections (writing (formIn t)) 9 0 (stageFrom nothing (drop 1 t))) → _≡_ {A = Buf} (u, r .next) (puts (out, 0) (textIn t))
+  unfolding putAt pour poured graph-passes
+  text-poured r out u e =
+      let q : putAt r t u ≡ poured (out, 0) (whole-passes .0) = done-same _ _ (e ∙ ap (pour (out, 0)) (graph-passes .1)) in
+      ap (λ (x : Poured). x .buffer) q ∙ ap (puts (out, 0)) (sym text-made)

@@ -6,8 +6,10 @@ use mathlib.Core.Path.{_≡_}
 use mathlib.Core.List.{List, []}
 use Rattle.text_field.specs.Outcome.{done}
 use mathlib.Core.Bool.{false}
-use Rattle.graph_file.specs.Format.{oldForm, hasTurns, labelSection, edgeSection, declarationSection}
-use Rattle.graph_file.specs.File.{throughSome, atStart, reading, formOf, readCells, formIn, writeText}
+use Rattle.graph_rows.specs.Format.{oldForm, hasTurns, labelSection, edgeSection, declarationSection}
+use Rattle.graph_rows.specs.Way.{throughSome, atStart}
+use Rattle.graph_file.specs.File.{reading, formOf, readCells, writeText}
+use Rattle.graph_rows.specs.Tested.{formIn}
 
 -- what stands above the names line of edges is read the same way, whatever the form
 abbrev pub ReadAlike : Type 0

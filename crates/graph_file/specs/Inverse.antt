@@ -1,7 +1,7 @@
 -- The two promises that tie reading and writing together: what goes in one way comes back the other
 -- way. These are the statements; their proofs are in proofs/. Assumes nothing: these are
 -- definitions.
-use Prim.Native.Nat.{ℕ, _<_}
+use Prim.Native.Nat.{ℕ}
 use mathlib.Core.Path.{_≡_}
 use mathlib.Core.List.{List}
 use Rattle.text_field.specs.Outcome.{done}

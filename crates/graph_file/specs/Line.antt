@@ -1,20 +1,20 @@
 -- One line of the file against the items of its form, read and written (document 01, "The gym
 -- file"). Assumes nothing: these are definitions.
 use Prim.Native.Nat.{ℕ, zero, suc, _+_, _%_}
-use mathlib.Core.Path.{_≡_}
 use mathlib.Core.List.{List, [], _∷_, _++_}
-use mathlib.Core.Bool.{Bool, true, false, not, _&&_, _||_}
-use lib.Dec.{eqb, leb, ltb}
+use mathlib.Core.Bool.{Bool, true, false}
+use lib.Dec.{eqb}
 use lib.ListN.{getD, drop}
 use lib.Seq.{sets}
 use Rattle.text_field.specs.declared.NumberRead.{NumberRead}
 use Rattle.text_field.specs.declared.NameRead.{NameRead}
 use Rattle.text_field.specs.Bytes.{isCapital, isLower}
-use Rattle.text_field.specs.Number.{NumberFound, numberMeaning, numberText, numberHere}
-use Rattle.text_field.specs.Name.{NameFound, nameMeaning, nameText, nameHere, isNameCells}
-use Rattle.graph_file.specs.Format.{Content, state, scope, mark, count, letter, label, end, name, kind, plain, turn, plainKind, Item, byte, field, valuesOf, everyItem}
+use Rattle.text_field.specs.Number.{numberMeaning, numberText, numberHere}
+use Rattle.text_field.specs.Name.{nameMeaning, nameText, nameHere}
+use Rattle.graph_rows.specs.Format.{Content, state, scope, mark, count, letter, label, end, name, kind, plain, turn, plainKind, Item, byte, field}
 use Rattle.text_field.specs.Outcome.{Outcome, refused, done, andThen}
-use Rattle.graph_file.specs.Admission.{Row, value}
+use Rattle.graph_rows.specs.Admission.{Row, value, place}
+use Rattle.graph_rows.specs.Way.{startsWith}
 
 -- What reading takes from the front of the text: values, and the text after it.
 pub record Reading : Type 0 where
@@ -35,12 +35,6 @@ nameTaken n text =
 unfoldable pub byteTaken : Bool → ℕ → List ℕ → Outcome Reading
 byteTaken true v text = done (record { values = v ∷ []; rest = drop 1 text })
 byteTaken false v text = refused 2
-
--- a letter's number in the list; for a letter that is not listed, how many there are, which no
--- label's number is
-unfoldable pub place : ℕ → List ℕ → ℕ
-place x [] = 0
-place x (y ∷ ys) = elim (eqb y x) [ true ↦ 0 | false ↦ suc (place x ys) ]
 
 -- an end by its byte: 0 for the end mark `$`, else one more than the label's number
 unfoldable pub endTaken : List ℕ → ℕ → List ℕ → Outcome Reading
@@ -66,11 +60,6 @@ readField letters name text = nameTaken (nameHere text) text
 readField letters kind text = byteTaken (isLower (first text)) (first text) text
 readField letters plain text = done (record { values = plainKind ∷ []; rest = text })
 readField letters turn text = numberTaken (numberHere text) text
-
--- Does this byte come first?
-unfoldable pub startsWith : ℕ → List ℕ → Bool
-startsWith b [] = false
-startsWith b (x ∷ rest) = eqb x b
 
 -- One item at the front of the text: a byte that must stand there and has no value, or a field.
 unfoldable pub readItem : List ℕ → Item → List ℕ → Outcome Reading
@@ -121,46 +110,3 @@ itemText letters row (field k c) = fieldText letters k (value row c) (value row 
 unfoldable pub lineText : List ℕ → List Item → Row → List ℕ
 lineText letters [] row = []
 lineText letters (i ∷ items) row = itemText letters row i ++ lineText letters items row
-
--- Has the value a text of its form? A number has five digits at most, a letter is A to Z, a name's
--- two cells are a name's, a kind is a to z. A label's number is no text: without a label it is out
--- of range, refusal 3. A line without kinds can hold no kind but `v` (02, K8: a row of another kind
--- in a graph of the old form is 2).
-unfoldable pub fieldFormed : Content → ℕ → ℕ → Bool
-fieldFormed state v w = leb v 99999
-fieldFormed scope v w = leb v 99999
-fieldFormed mark v w = leb v 99999
-fieldFormed count v w = leb v 99999
-fieldFormed letter v w = isCapital v
-fieldFormed label v w = true
-fieldFormed end v w = true
-fieldFormed name v w = isNameCells v w
-fieldFormed kind v w = isLower v
-fieldFormed plain v w = eqb v plainKind
-fieldFormed turn v w = leb v 99999
-
-unfoldable pub itemFormed : Row → Item → Bool
-itemFormed row (byte b) = true
-itemFormed row (field k c) = fieldFormed k (value row c) (value row (c + 1))
-
--- Does the item leave place d alone? A field fills its place, and a name the next one too.
-unfoldable pub sparesPlace : ℕ → Item → Bool
-sparesPlace d (byte b) = true
-sparesPlace d (field k c) = ltb d c || leb (c + valuesOf k) d
-
--- A place that every item leaves alone holds 0. So a row whose line shows no turn must have turn 0,
--- and is refused by 2 if it has another (02, K12).
-unfoldable pub idleZero : List Item → Row → ℕ → Bool
-idleZero items row d = not (everyItem (sparesPlace d) items) || eqb (value row d) 0
-
-unfoldable pub idleZeros : List Item → Row → Bool
-idleZeros items row =
-    idleZero items row 0 && (idleZero items row 1 && (idleZero items row 2 && (idleZero items row 3 && idleZero items row 4)))
-
--- the items fill the first n places, and leave the others alone
-abbrev pub Fills : ℕ → List Item → Type 0
-Fills n items = (d : ℕ) → everyItem (sparesPlace d) items ≡ leb n d
-
--- Can the row be written in this form? If not, it is refused by 2.
-unfoldable pub formed : List Item → Row → Bool
-formed items row = everyItem (itemFormed row) items && idleZeros items row

@@ -9,10 +9,11 @@ use Rattle.text_field.specs.declared.NameRead.{NameRead}
 use Rattle.text_field.specs.declared.NameRead.the-variants.{Name, NoName}
 use Rattle.text_field.specs.Name.{nameHere}
 use Rattle.graph_file.specs.declared.sought.NamePlace.{NamePlace}
-use Rattle.graph_file.specs.Format.{Item, byte, field, valuesOf, shapeAt, querySection}
+use Rattle.graph_rows.specs.Format.{Item, byte, field, valuesOf, shapeAt, querySection}
 use Rattle.text_field.specs.Outcome.{Outcome, refused, done}
 use Rattle.graph_file.specs.Line.{Reading, readItem}
-use Rattle.graph_file.specs.File.{Stage, formOf, readStage}
+use Rattle.graph_rows.specs.Way.{Stage}
+use Rattle.graph_file.specs.File.{formOf, readStage}
 
 -- the part of the text after its first n lines
 unfoldable pub afterLines : ℕ → List ℕ → List ℕ

@@ -1,27 +1,28 @@
 -- What the reader's functions answer with, as the definitions of a line say it. Assumes nothing:
 -- these are definitions.
-use Prim.Native.Nat.{ℕ, zero, suc, _+_, _*_, _≤_, _<_}
+use Prim.Native.Nat.{ℕ, suc, _+_, _*_, _≤_, _<_}
 use mathlib.Core.Path.{_≡_}
 use mathlib.Core.List.{List, [], _∷_}
-use mathlib.Core.Bool.{Bool, true, false}
+use mathlib.Core.Bool.{true, false}
 use mathlib.Core.Logic.{_⊎_}
 use lib.ListN.{length, take, drop}
 use lib.Seq.{sets}
 use Rattle.graph_file.specs.declared.line.Took.{Took}
 use Rattle.graph_file.specs.declared.line.Took.the-variants.{Nothing, Bare, One, Two}
 use Rattle.graph_file.specs.declared.line.Line.{Line}
-use Rattle.graph_file.specs.declared.rows.Counts.{Counts}
-use Rattle.graph_file.specs.declared.rows.Part.{Part}
+use Rattle.graph_rows.specs.declared.rows.Counts.{Counts}
+use Rattle.graph_file.specs.declared.reader.Part.{Part}
 use Rattle.text_field.specs.declared.answer.Answer.{Answer}
 use Rattle.text_field.specs.declared.answer.Answer.the-variants.{Refused, Written}
-use lib.Dec.{eqb}
-use Rattle.graph_file.specs.Format.{Item, labelSection, pairSection, countSection, sectionAt, ownCells}
+use Rattle.graph_rows.specs.Format.{Item, sectionAt, ownCells}
 use Rattle.text_field.specs.Outcome.{Outcome, refused, done, andThen}
-use Rattle.graph_file.specs.Admission.{Row, counted}
+use Rattle.graph_rows.specs.Admission.{Row}
 use Rattle.graph_file.specs.Line.{Reading, readItem, placeOf}
-use Rattle.graph_file.specs.File.{Stage}
-use Rattle.graph_file.specs.Table.{sofarAt}
+use Rattle.graph_rows.specs.Way.{Stage}
+use Rattle.graph_rows.specs.Table.{sofarAt}
 use Rattle.graph_file.specs.NameSought.{lineCount}
+use Rattle.graph_rows.specs.Counting.{Placed, RowsTaken, roomBefore}
+use Rattle.graph_rows.specs.Tested.{refusedOr}
 
 -- what an item gives, with the place after it for the text from there on; nothing is refusal 2
 unfoldable pub took : Took → List ℕ → Outcome Reading
@@ -47,55 +48,22 @@ itemLine letters i row text = andThen (readItem letters i text) (λ r. done (ite
 unfoldable pub stageAt : List ℕ → ℕ → Counts → List ℕ → Stage
 stageAt table n c rest = record { sofar = sofarAt table n c; made = take n table; rest = rest }
 
-unfoldable pub refusedOr : ℕ → Stage → Outcome Stage
-refusedOr zero g = done g
-refusedOr (suc n) g = refused (suc n)
-
 -- what a part of reading answers: its refusal, or the stage that it leaves
 unfoldable pub partOutcome : Part → List ℕ → List ℕ → Outcome Stage
 partOutcome r table text = refusedOr (r .refusal) (stageAt table (r .cells) (r .counts) (drop (r .next) text))
 
--- The counts fit the table: labels stand first, order pairs after them, and while these are read
--- the table ends with them. A section's rows end the table.
-pub record Placed (k n : ℕ) (c : Counts) : Type 0 where
-  pub early : k < 2 → n ≡ 1 + 6 * c .labels + 6 * c .pairs
-  pub first : k < 1 → c .pairs ≡ 0
-  pub within : 1 + 6 * c .labels + 6 * c .pairs ≤ n
-  pub rowed : 1 + 6 * c .rows ≤ n
-
--- the counts after a row of section k whose first value is v
-unfoldable pub countsAfter : ℕ → Counts → ℕ → Counts
-countsAfter k c v = record {
-  labels = counted (eqb k labelSection) (c .labels + 1) (c .labels);
-  pairs = counted (eqb k pairSection) (c .pairs + 1) (c .pairs);
-  scopes = counted (eqb k countSection) v (c .scopes);
-  rows = c .rows + 1;
-}
-
--- A row was taken: the section had room, the table has six cells more and the section a row more,
--- and the counts fit.
+-- A row was read: the section had room, the table has six cells more, the section one row more, and
+-- the counts fit.
 pub record RowTaken (k n : ℕ) (c : Counts) (cells : ℕ) (after : Counts) : Type 0 where
   pub room : c .rows < sectionAt k .most
   pub longer : cells ≡ n + 6
   pub more : after .rows ≡ c .rows + 1
   pub placed : Placed k cells after
 
--- Rows were taken: as many as the section admits at most, six cells each, and the counts fit.
-pub record RowsTaken (k n cells : ℕ) (after : Counts) : Type 0 where
-  pub most : after .rows ≤ sectionAt k .most
-  pub longer : cells ≡ n + 6 * after .rows
-  pub placed : Placed k cells after
-
 -- A section was taken: its rows, and the place after it lies in its part of the text.
 pub record SectionTaken (k n size : ℕ) (r : Part) : Type 0 where
   pub rows : RowsTaken k n (r .cells) (r .counts)
   pub inside : r .next ≤ size
-
--- The cells that the table has at most before section k: the form, and six for each row that the
--- sections above admit.
-unfoldable pub roomBefore : ℕ → ℕ
-roomBefore zero = 1
-roomBefore (suc k) = roomBefore k + 6 * sectionAt k .most
 
 -- Behind the first n cells the table has room for rows of section k: for one more than the section
 -- admits, or for one more than there are lines left, since each row takes a line.

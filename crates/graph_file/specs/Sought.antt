@@ -10,10 +10,11 @@ use Rattle.text_field.specs.Number.{numberText}
 use Rattle.text_field.specs.Name.{isName, nameText}
 use Rattle.scope_graph.specs.Rows.{language}
 use Rattle.scope_graph.specs.Graph.{Query}
-use Rattle.graph_file.specs.Format.{shapeAt, hasKinds, querySection}
+use Rattle.graph_rows.specs.Format.{shapeAt, hasKinds, querySection}
 use Rattle.text_field.specs.Outcome.{refused, done}
-use Rattle.graph_file.specs.File.{formIn, readCells}
-use Rattle.graph_file.specs.Decode.{rulesOf, queriesOf}
+use Rattle.graph_rows.specs.Tested.{formIn}
+use Rattle.graph_file.specs.File.{readCells}
+use Rattle.graph_rows.specs.Decode.{rulesOf, queriesOf}
 use Rattle.graph_file.specs.NameSought.{nameSought, placeSought}
 
 -- a kind and the space behind it, where kinds are shown

@@ -1,15 +1,16 @@
 -- What the writer's functions return, in terms of the definitions of writing (specs/File). Assumes
 -- nothing: these are definitions.
-use Prim.Native.Nat.{ℕ, zero, suc}
+use Prim.Native.Nat.{ℕ}
+use mathlib.Core.Path.{_≡_}
 use mathlib.Core.List.{List, []}
 use lib.ListN.{drop}
 use Rattle.text_field.specs.Buffer.{Buf, puts}
-use Rattle.graph_file.specs.declared.rows.Counts.{Counts}
-use Rattle.graph_file.specs.declared.rows.Part.{Part}
 use Rattle.text_field.specs.Outcome.{Outcome, refused, done}
-use Rattle.graph_file.specs.Admission.{Sofar}
-use Rattle.graph_file.specs.File.{Stage}
-use Rattle.graph_file.specs.Table.{sofarAt}
+use Rattle.graph_file.specs.declared.writer.Put.{Put}
+use Rattle.graph_rows.specs.Admission.{Sofar}
+use Rattle.graph_rows.specs.Way.{Stage}
+use Rattle.graph_rows.specs.Table.{sofarAt}
+use Rattle.graph_file.specs.File.{writeText}
 
 -- How far writing into a buffer has come: what is known of the rows so far, the buffer with the
 -- place after the text, and the cells that are left.
@@ -17,10 +18,6 @@ pub record Poured : Type 0 where
   pub sofar : Sofar
   pub buffer : Buf
   pub rest : List ℕ
-
--- a stage with nothing made yet
-unfoldable pub stageFrom : Sofar → List ℕ → Stage
-stageFrom st rest = record { sofar = st; made = []; rest = rest }
 
 -- puts what a stage has made into the buffer
 unfoldable pub poured : Buf → Stage → Poured
@@ -31,18 +28,18 @@ unfoldable pub pour : Buf → Outcome Stage → Outcome Poured
 pour b (refused n) = refused n
 pour b (done g) = done (poured b g)
 
--- how far the code has come: the table up to place p is written, the buffer is filled up to place n
-unfoldable pub pouredAt : List ℕ → ℕ → Counts → List ℕ → ℕ → Poured
-pouredAt table p c out n = record { sofar = sofarAt table p c; buffer = (out, n); rest = drop p table }
+-- what a writing function returns: how far it has come in the table and in the buffer
+unfoldable pub putAt : Put → List ℕ → List ℕ → Poured
+putAt r table out = record { sofar = sofarAt table (r .cells) (r .counts); buffer = (out, r .next); rest = drop (r .cells) table }
 
-unfoldable pub refusedOrPoured : ℕ → Poured → Outcome Poured
-refusedOrPoured zero q = done q
-refusedOrPoured (suc n) q = refused (suc n)
+-- it comes to its end without a refusal
+abbrev pub Passes : Outcome Stage → Type 0
+Passes o = (g : Stage) × (o ≡ done g)
 
--- what a writing function returns: its refusal, or how far it has come
-unfoldable pub partWritten : Part → List ℕ → List ℕ → Outcome Poured
-partWritten r table out = refusedOrPoured (r .refusal) (pouredAt table (r .cells) (r .counts) out (r .next))
+unfoldable pub madeIn : Outcome (List ℕ) → List ℕ
+madeIn (refused n) = []
+madeIn (done text) = text
 
--- the counts when a section begins
-unfoldable pub countsBegun : Counts → Counts
-countsBegun c = record { labels = c .labels; pairs = c .pairs; scopes = c .scopes; rows = 0 }
+-- the text of a table that is written; of a refused one, none
+unfoldable pub textIn : List ℕ → List ℕ
+textIn cells = madeIn (writeText cells)

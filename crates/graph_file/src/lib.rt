@@ -1,35 +1,14 @@
-// A gym file's text, and the same graph as a table of cells.
-mod admission;
-mod apart;
+// A gym file's text, read into a graph table and written from one.
 mod cells;
-mod format;
-mod formed;
 mod line;
 mod line_text;
-mod order;
 mod reader;
-mod rows;
 mod sought;
 mod tables;
 mod writer;
 
-pub use cells::put_row;
-pub use format::ACCEPTS;
-pub use format::COUNT;
-pub use format::DECLARATIONS;
-pub use format::EDGES;
-pub use format::KIND_FORM;
-pub use format::LABELS;
-pub use format::OLD_FORM;
-pub use format::OPENS;
-pub use format::PAIRS;
-pub use format::PLAIN_KIND;
-pub use format::QUERIES;
-pub use format::TRANSITIONS;
-pub use format::TURN_FORM;
-pub use format::has_kinds;
-pub use rows::OWN_CELLS;
-pub use rows::SHORT_CELLS;
+pub use reader::OWN_CELLS;
+pub use reader::SHORT_CELLS;
 pub use sought::NamePlace;
 pub use sought::name_place;
 pub use sought::name_sought;

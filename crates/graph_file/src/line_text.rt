@@ -1,15 +1,18 @@
 // The text of one line, by the items at a place of the format.
-use crate::format::item;
+use graph_rows::item;
 use text_field::cell;
 use text_field::put_byte;
 use text_field::put_name;
 use text_field::put_number;
 ghost use mathlib.Core.Path.{_≡_};
-ghost use Prim.Native.Nat.{_%_};
+ghost use mathlib.Core.List.{[], _∷_};
+ghost use mathlib.Core.Bool.{_||_};
+ghost use Prim.Native.Nat.{ℕ, _%_, _≤_, _<_};
+ghost use lib.Dec.{ltb};
 ghost use lib.ListN.{getD, drop};
 ghost use Rattle.text_field.specs.Buffer.{Buf, puts};
 ghost use Rattle.graph_file.specs.Line.{endByte, fieldText, itemText, lineText};
-ghost use Rattle.graph_file.specs.Table.{contentOf, itemOf, formatBytes, itemsAt, lettersAt};
+ghost use Rattle.graph_rows.specs.Table.{contentOf, itemOf, formatBytes, itemsAt, lettersAt};
 
 // The letter of a label's number; 0 where there is no such label.
 fn letter_of(table: &[u64], labels: u32, v: u64) -> u64
@@ -38,7 +41,31 @@ fn end_byte(table: &[u64], labels: u32, v: u64) -> u8
     byte_of(letter_of(table, labels, v - 1))
 }
 
-// The text of a field, by what it holds.
+// The byte of a field whose text is one byte: a letter, a label, an end or a kind.
+fn field_byte(table: &[u64], labels: u32, content: u8, v: u64) -> u8
+    requires one { ⌜ (4 ≤ content) × (content < 9) × (content ≡ 7 → ⊥) ⌝ }
+    ensures answer { λ r. ⌜ ((w : ℕ) → r ∷ [] ≡ fieldText (lettersAt labels (drop 1 (now (table .entry)))) (contentOf content) v w) ⌝ }
+{
+    if content == 5 {
+        return byte_of(letter_of(table, labels, v));
+    }
+    if content == 6 {
+        return end_byte(table, labels, v);
+    }
+    byte_of(v)
+}
+
+// Is the text of such a field a number?
+fn is_number(content: u8) -> bool
+    ensures answer { λ r. ⌜ r ≡ (ltb content 4 || ltb 9 content) ⌝ }
+{
+    if content < 4 {
+        return true;
+    }
+    9 < content
+}
+
+// Puts the text of a field, by what it holds.
 fn put_field(
     table: &[u64],
     labels: u32,
@@ -52,17 +79,13 @@ fn put_field(
         (puts (now (out .entry), n)
         (fieldText (lettersAt labels (drop 1 (now (table .entry)))) (contentOf content) v w)) ⌝ }
 {
-    if content < 4 {
+    if is_number(content) {
         return put_number(out, n, v);
     }
     match content {
-        4 => put_byte(out, n, byte_of(v)),
-        5 => put_byte(out, n, byte_of(letter_of(table, labels, v))),
-        6 => put_byte(out, n, end_byte(table, labels, v)),
         7 => put_name(out, n, v, w),
-        8 => put_byte(out, n, byte_of(v)),
         9 => n,
-        _ => put_number(out, n, v),
+        _ => put_byte(out, n, field_byte(table, labels, content, v)),
     }
 }
 

@@ -1,34 +1,52 @@
 // Reads a file's text into a table, section by section.
-use crate::admission::admitted;
-use crate::cells::put_row;
-use crate::format::DECLARATIONS;
-use crate::format::EDGES;
-use crate::format::FORMAT;
-use crate::format::Layout;
-use crate::format::OLD_FORM;
-use crate::format::SECTIONS;
-use crate::format::TEXT_BYTES;
-use crate::format::layout_of;
-use crate::format::least;
-use crate::format::names_place;
 use crate::line::kinds_at;
 use crate::line::read_line;
 use crate::line::turns_at;
-use crate::order::order_fault;
-use crate::rows::Counts;
-use crate::rows::Part;
-use crate::rows::counts_after;
+use graph_rows::Counts;
+use graph_rows::DECLARATIONS;
+use graph_rows::EDGES;
+use graph_rows::Layout;
+use graph_rows::OLD_FORM;
+use graph_rows::SECTIONS;
+use graph_rows::TEXT_BYTES;
+use graph_rows::admitted;
+use graph_rows::counts_after;
+use graph_rows::format_string;
+use graph_rows::layout_of;
+use graph_rows::least;
+use graph_rows::names_place;
+use graph_rows::order_fault;
+use graph_rows::put_row;
 use text_field::byte_at;
 use text_field::is_lower;
 ghost use mathlib.Core.Path.{_≡_};
-ghost use mathlib.Core.List.{List, [], _∷_};
-ghost use Prim.Native.Nat.{ℕ, suc, _+_, _-_, _*_, _≤_};
+ghost use mathlib.Core.List.{[], _∷_};
+ghost use Prim.Native.Nat.{suc, _+_, _-_, _*_, _≤_};
 ghost use lib.ListN.{length, drop};
-ghost use Rattle.graph_file.specs.Format.{sectionAt, tableCells};
-ghost use Rattle.graph_file.specs.Table.{formatBytes, rowsBack, Known};
-ghost use Rattle.graph_file.specs.LookBack.{SortedSofar};
-ghost use Rattle.graph_file.specs.File.{oneRow, throughRows, throughSection, throughSections, throughSome, atStart, rowFollows, reading, turnsIn, formOf, readStage, formIn};
-ghost use Rattle.graph_file.specs.Reader.{stageAt, partOutcome, Placed, RowTaken, RowsTaken, SectionTaken, SomeTaken, RowsRoom, TextRoom};
+ghost use Rattle.graph_rows.specs.Format.{sectionAt, tableCells};
+ghost use Rattle.graph_rows.specs.Table.{formatBytes, rowsBack, Known};
+ghost use Rattle.graph_rows.specs.LookBack.{SortedSofar};
+ghost use Rattle.graph_rows.specs.Way.{oneRow, throughRows, throughSection, throughSections, throughSome, atStart};
+ghost use Rattle.graph_file.specs.File.{rowFollows, reading, turnsIn, formOf, readStage};
+ghost use Rattle.graph_rows.specs.Tested.{formIn};
+ghost use Rattle.graph_file.specs.Reader.{stageAt, partOutcome, SectionTaken, SomeTaken, RowsRoom, TextRoom, RowTaken};
+ghost use Rattle.graph_rows.specs.Counting.{Placed, RowsTaken};
+
+// A table to read any text in: the form, six cells for each of the 2,045 rows that the sections
+// admit, and six more for a row past a limit while it is tested.
+pub const OWN_CELLS: usize = 12277;
+
+// A table to read a text of few lines in. Tables below 2 KiB are cleared in a few steps.
+pub const SHORT_CELLS: usize = 253;
+
+// How far reading has come: a refusal or 0, the place after what was read in the text, the place
+// after its rows in the table, and what they count.
+pub struct Part {
+    pub refusal: u64,
+    pub next: usize,
+    pub cells: usize,
+    pub counts: Counts,
+}
 
 // Reads one row of a section, at a place of the section's part of the text, and puts it after the
 // table's first n cells.
@@ -321,7 +339,7 @@ pub fn read_whole(text: &[u8], table: &mut [u64]) -> Part
             counts: none,
         };
     }
-    let format = FORMAT;
+    let format = format_string();
     let r = read_sections(&format, text, table);
     if r.refusal != 0 {
         return r;

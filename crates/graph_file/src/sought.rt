@@ -1,7 +1,7 @@
 // The name that a query seeks, handed back as the part of the lent text that holds it.
-use crate::format::has_kinds;
+use crate::reader::OWN_CELLS;
 use crate::reader::read_whole;
-use crate::rows::OWN_CELLS;
+use graph_rows::has_kinds;
 use text_field::NameRead;
 use text_field::NumberRead;
 use text_field::byte_at;
@@ -9,10 +9,10 @@ use text_field::is_lower;
 use text_field::read_name;
 use text_field::read_number;
 ghost use mathlib.Core.Path.{_≡_};
-ghost use mathlib.Core.List.{List, [], _∷_};
-ghost use Prim.Native.Nat.{ℕ, _+_, _-_, _≤_};
+ghost use mathlib.Core.List.{[], _∷_};
+ghost use Prim.Native.Nat.{_+_, _-_, _≤_};
 ghost use lib.ListN.{length, drop};
-ghost use Rattle.graph_file.specs.Format.{byte, field, kind, shapeAt, querySection};
+ghost use Rattle.graph_rows.specs.Format.{byte, field, kind, shapeAt, querySection};
 ghost use Rattle.text_field.specs.Number.{numberHere};
 ghost use Rattle.graph_file.specs.Line.{numberTaken, readItem};
 ghost use Rattle.graph_file.specs.NameSought.{afterLines, lineCount, restOf, fromName, nameFront, placeFrom, nameSought, placeSought};

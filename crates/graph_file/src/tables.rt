@@ -1,9 +1,9 @@
 // The text read into a table: over one that has room for it, or into a lent one. A table is cleared
 // wherever it is made, so a short text gets a short one.
 use crate::cells::copy_cells;
+use crate::reader::OWN_CELLS;
+use crate::reader::SHORT_CELLS;
 use crate::reader::read_whole;
-use crate::rows::OWN_CELLS;
-use crate::rows::SHORT_CELLS;
 use crate::sought::line_count;
 use text_field::Answer;
 ghost use mathlib.Core.Path.{_≡_};

@@ -14,8 +14,8 @@ use borrow.Author.Tests.{lt-ltb, le-ltb, ltb-true, ltb-false}
 use native.Mathlib.Numerals.{add-one}
 use Rattle.scope_graph.specs.Rows.{PackedName, anyOf, Transition, nextBy}
 use Rattle.scope_graph.proofs.Lists.{Two}
-use Rattle.graph_file.specs.Admission.{Row, value, rowOf, blank}
-use Rattle.graph_file.proofs.RowLaws.{row-cells, row-none}
+use Rattle.graph_rows.specs.Admission.{Row, value, rowOf, blank}
+use Rattle.graph_rows.proofs.RowLaws.{row-cells, row-none}
 use Rattle.graph_table.specs.Sections.{rowsOf}
 use Rattle.graph_table.proofs.Tests.{below-or}
 

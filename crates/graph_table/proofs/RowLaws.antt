@@ -9,14 +9,14 @@ use lib.Dec.{eqb, ltb}
 use lib.ListN.{length, getD, drop, set, drop-of-length-le, List·getD-eq-default}
 use lib.Seq.{drop-cons, getD-drop}
 use Rattle.text_field.proofs.ByteLaws.{clash}
-use Rattle.graph_file.specs.Format.{hasKinds}
-use Rattle.graph_file.specs.Admission.{Row, value, rowOf}
-use Rattle.graph_file.specs.File.{formIn}
-use Rattle.graph_file.specs.Line.{startsWith}
+use Rattle.graph_rows.specs.Format.{hasKinds}
+use Rattle.graph_rows.specs.Admission.{Row, value, rowOf}
+use Rattle.graph_rows.specs.Tested.{formIn}
+use Rattle.graph_rows.specs.Way.{startsWith}
 use Rattle.scope_graph.specs.Rows.{PackedName, sameName}
 use Rattle.scope_graph.specs.declared.Turn.the-variants.{None}
 use Rattle.scope_graph.specs.declared.End.the-variants.{Stop, Label}
-use Rattle.graph_file.proofs.RowLaws.{row-cells}
+use Rattle.graph_rows.proofs.RowLaws.{row-cells}
 use Rattle.graph_table.specs.declared.names.Name.{Name}
 use Rattle.graph_table.specs.Values.{packed, rowEnd, declarationRow, queryRow, rowDeclared, declares}
 use Rattle.graph_table.specs.declared.rows.DeclarationRow.{DeclarationRow}

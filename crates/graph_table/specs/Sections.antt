@@ -6,9 +6,9 @@ use mathlib.Core.List.{List, [], _∷_}
 use mathlib.Core.Bool.{true, false}
 use lib.Dec.{ltb}
 use lib.ListN.{getD, take, drop}
-use Rattle.graph_file.specs.Format.{hasKinds, oldForm, kindForm}
-use Rattle.graph_file.specs.Admission.{Row}
-use Rattle.graph_file.specs.File.{formIn}
+use Rattle.graph_rows.specs.Format.{hasKinds, oldForm, kindForm}
+use Rattle.graph_rows.specs.Admission.{Row}
+use Rattle.graph_rows.specs.Tested.{formIn}
 use Rattle.graph_table.specs.declared.sections.Form.{Form}
 use Rattle.graph_table.specs.declared.sections.Form.the-variants.{Old, Kinds}
 

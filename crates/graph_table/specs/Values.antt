@@ -11,7 +11,7 @@ use Rattle.scope_graph.specs.declared.Turn.the-variants.{None}
 use Rattle.scope_graph.specs.declared.End.{End}
 use Rattle.scope_graph.specs.declared.End.the-variants.{Stop, Label}
 use Rattle.scope_graph.specs.declared.Pair.{Pair}
-use Rattle.graph_file.specs.Admission.{Row, value}
+use Rattle.graph_rows.specs.Admission.{Row, value}
 use Rattle.graph_table.specs.declared.names.Name.{Name}
 use Rattle.graph_table.specs.declared.rows.TransitionRow.{TransitionRow}
 use Rattle.graph_table.specs.declared.rows.EdgeRow.{EdgeRow}

@@ -1,23 +1,22 @@
-// The graph table as the crates above `graph_file` read it: where rows stand, and what a row says.
-// `graph_file` itself, which makes, tests and writes the table, and `graph_change`, which moves its
-// cells, read cells of their own; the sections' numbers and how a row is put are handed on from
-// `graph_file`.
+// The graph table as other crates read it: where rows stand, and what a row says. `graph_rows` and
+// `graph_file`, which test, make and write the table, and `graph_change`, which moves its cells, read
+// cells of their own; the sections' numbers and how a row is put are handed on from `graph_rows`.
 mod edges;
 mod names;
 mod rows;
 mod sections;
 
 pub use edges::next_row;
-pub use graph_file::ACCEPTS;
-pub use graph_file::COUNT;
-pub use graph_file::DECLARATIONS;
-pub use graph_file::EDGES;
-pub use graph_file::LABELS;
-pub use graph_file::OPENS;
-pub use graph_file::PAIRS;
-pub use graph_file::QUERIES;
-pub use graph_file::TRANSITIONS;
-pub use graph_file::put_row;
+pub use graph_rows::ACCEPTS;
+pub use graph_rows::COUNT;
+pub use graph_rows::DECLARATIONS;
+pub use graph_rows::EDGES;
+pub use graph_rows::LABELS;
+pub use graph_rows::OPENS;
+pub use graph_rows::PAIRS;
+pub use graph_rows::QUERIES;
+pub use graph_rows::TRANSITIONS;
+pub use graph_rows::put_row;
 pub use names::Name;
 pub use names::same_name;
 pub use rows::DeclarationRow;

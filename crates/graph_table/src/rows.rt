@@ -1,6 +1,6 @@
 // The rows of a graph table by their values: the first cell is the section's number, then come the
-// values. The crates above `graph_file` read rows here, but for `graph_change`, which compares keys
-// and moves cells; `graph_file` itself, which makes, tests and writes the table, reads its own.
+// values. Other crates read rows here, but for `graph_change`, which compares keys and moves cells,
+// and for `graph_rows` and `graph_file`, which test, make and write the table.
 use crate::names::Name;
 use crate::names::same_name;
 use scope_graph::End;
@@ -9,7 +9,7 @@ use scope_graph::Turn;
 ghost use mathlib.Core.Path.{_≡_};
 ghost use Prim.Native.Nat.{_+_, _≤_};
 ghost use lib.ListN.{length, getD, drop};
-ghost use Rattle.graph_file.specs.Line.{startsWith};
+ghost use Rattle.graph_rows.specs.Way.{startsWith};
 ghost use Rattle.graph_table.specs.Values.{packed, rowEnd, pairRow, transitionRow, edgeRow, declarationRow, openRow, queryRow, declares};
 
 // `state label next`

@@ -1,7 +1,7 @@
 // A graph table's form, and where the sections' rows stand in it.
-use graph_file::KIND_FORM;
-use graph_file::OLD_FORM;
-use graph_file::has_kinds;
+use graph_rows::KIND_FORM;
+use graph_rows::OLD_FORM;
+use graph_rows::has_kinds;
 ghost use mathlib.Core.Path.{_≡_};
 ghost use Prim.Native.Nat.{_+_, _≤_, _<_};
 ghost use lib.ListN.{length, drop};

@@ -14,7 +14,7 @@ use Rattle.text_field.specs.Number.{numberHere}
 use Rattle.text_field.specs.Outcome.{Outcome, refused, done, andThen, refuseIf}
 use Rattle.text_field.proofs.NumberLaws.{number-found}
 use Rattle.graph_file.specs.File.{readCells, madeOf}
-use Rattle.graph_file.specs.Decode.{lettersOf}
+use Rattle.graph_rows.specs.Decode.{lettersOf}
 use Rattle.graph_file.proofs.SectionLaws.{whole-long}
 use Rattle.path_rules.specs.Rules.{rulesOf}
 use Rattle.path_rules.specs.declared.Rules.{Rules}

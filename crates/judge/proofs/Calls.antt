@@ -11,10 +11,10 @@ use lib.ListN.{length, take}
 use Rattle.scope_graph.specs.Graph.{Query}
 use Rattle.scope_graph.specs.Rows.{language}
 use Rattle.scope_graph.specs.Agree.{Judgement, judgement}
-use Rattle.graph_file.specs.Format.{querySection}
+use Rattle.graph_rows.specs.Format.{querySection}
 use Rattle.text_field.specs.Outcome.{Outcome, refused, done, andThen, refuseIf}
-use Rattle.graph_file.specs.File.{readCells}
-use Rattle.graph_file.specs.Decode.{rulesOf, graphOf, queriesOf, WasRead}
+use Rattle.graph_file.specs.File.{readCells, WasRead}
+use Rattle.graph_rows.specs.Decode.{rulesOf, graphOf, queriesOf}
 use Rattle.graph_table.specs.Sections.{partOf, rowsOf}
 use Rattle.path_row.specs.declared.form.Step.{Step}
 use Rattle.path_row.specs.declared.form.RowRead.{RowRead}

@@ -13,7 +13,7 @@ use Rattle.scope_graph.specs.Agree.{Judgement, as-shadowed, withSteps, caught, 
 use Rattle.scope_graph.proofs.Agree.{is-shadowed-with, caught-within}
 use Rattle.text_field.specs.Outcome.{Outcome, refused, done, andThen, refuseIf}
 use Rattle.graph_file.specs.File.{readCells}
-use Rattle.graph_file.specs.Decode.{rulesOf, graphOf, queriesOf}
+use Rattle.graph_rows.specs.Decode.{rulesOf, graphOf, queriesOf}
 use Rattle.path_row.specs.declared.form.Step.{Step}
 use Rattle.path_row.specs.Form.{PathRow, rowHere}
 use Rattle.path_row.specs.Numbering.{hopsOf, pathOf}

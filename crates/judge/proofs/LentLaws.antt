@@ -10,7 +10,7 @@ use Rattle.scope_graph.specs.Rows.{language}
 use Rattle.scope_graph.specs.Agree.{Judgement, judgement}
 use Rattle.text_field.specs.Outcome.{Outcome, refused, done, andThen, refuseIf}
 use Rattle.graph_file.specs.File.{readCells}
-use Rattle.graph_file.specs.Decode.{rulesOf, graphOf, queriesOf}
+use Rattle.graph_rows.specs.Decode.{rulesOf, graphOf, queriesOf}
 use Rattle.path_row.specs.declared.taken.Steps.{Steps}
 use Rattle.path_row.specs.Form.{PathRow, rowHere, stepsHeld}
 use Rattle.path_row.specs.Lent.{stepsLent}

@@ -20,13 +20,13 @@ use Rattle.scope_graph.proofs.Lists.{and-both, map-elim}
 use Rattle.scope_graph.proofs.Nodes.{hopsAt-elim, hopsAt-intro, tos-length, tos-bounded}
 use Rattle.scope_graph.proofs.Pigeon.{distinct-bounded}
 use Rattle.text_field.specs.Bytes.{isCapital}
-use Rattle.graph_file.specs.Format.{labelSection}
+use Rattle.graph_rows.specs.Format.{labelSection}
 use Rattle.text_field.specs.Outcome.{done}
-use Rattle.graph_file.specs.Admission.{Row, value}
+use Rattle.graph_rows.specs.Admission.{Row, value}
 use Rattle.graph_file.specs.File.{readCells}
-use Rattle.graph_file.specs.Decode.{rowsIn, rulesOf, graphOf, queriesOf, lettersOf}
-use Rattle.graph_file.specs.Accepted.{AcceptedTable}
-use Rattle.graph_file.proofs.DecodeAccepted.{read-accepted}
+use Rattle.graph_rows.specs.Decode.{rowsIn, rulesOf, graphOf, queriesOf, lettersOf}
+use Rattle.graph_rows.specs.Accepted.{AcceptedTable}
+use Rattle.graph_file.proofs.Promises.{read-accepted}
 use Rattle.path_row.specs.Form.{PathRow, mostMark, mostScope, mostSteps, rowText, areSteps, isRow}
 use Rattle.path_row.specs.Numbering.{labelNumber, hopOf, hopsOf, pathOf}
 use Rattle.path_row.proofs.FormLaws.{written-then-read}

@@ -5,7 +5,7 @@ use mathlib.Core.List.{List}
 use Prim.Native.Nat.{ℕ, _+_, _-_, _≤_, _<_}
 use lib.Dec.{eqb}
 use lib.ListN.{length, drop}
-use Rattle.graph_file.specs.Admission.{rowOf}
+use Rattle.graph_rows.specs.Admission.{rowOf}
 use Rattle.graph_table.specs.declared.rows.DeclarationRow.{DeclarationRow}
 use Rattle.graph_table.specs.declared.rows.QueryRow.{QueryRow}
 use Rattle.graph_table.specs.Sections.{rowsOf}

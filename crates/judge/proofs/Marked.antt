@@ -11,9 +11,8 @@ use Rattle.scope_graph.specs.Computed.{keep, hopsAt, marksAt, declaresAny, behi
 use Rattle.text_field.specs.Bytes.{within, isDigit, isCapital}
 use Rattle.text_field.specs.Number.{growing, digitsFrom, numberHere, numberPlaced, numberMeaning}
 use Rattle.text_field.specs.Outcome.{Outcome, done, andThen, refuseIf}
-use Rattle.graph_file.specs.File.{isEmpty}
-use Rattle.graph_file.specs.Decode.{keptIf, rowsAmong, rowsIn, lettersOf, orderPairOf, transitionOf, rulesOf, nameAt, edgeOf, declarationOf, queryOf, scopesOf, graphOf, queriesOf}
-use Rattle.graph_file.specs.Line.{startsWith}
+use Rattle.graph_rows.specs.Way.{isEmpty, startsWith}
+use Rattle.graph_rows.specs.Decode.{keptIf, rowsAmong, rowsIn, lettersOf, orderPairOf, transitionOf, rulesOf, nameAt, edgeOf, declarationOf, queryOf, scopesOf, graphOf, queriesOf}
 use Rattle.path_row.specs.Form.{atMost, numberUpTo, stepBy, stepHere, stepsOf, afterSteps, startBy, spaceBy, markBy, headHere, rowBy, rowHere}
 use Rattle.path_row.specs.Numbering.{numberFrom, labelNumber, hopOf, hopsOf, pathOf}
 use Rattle.board.specs.Queries.{queryAt}

@@ -13,7 +13,7 @@ use Rattle.scope_graph.specs.Agree.{Judgement, as-visible, as-shadowed, as-unre
 use Rattle.scope_graph.proofs.Agree.{agree-promises}
 use Rattle.text_field.specs.Outcome.{Outcome, done, andThen, refuseIf}
 use Rattle.graph_file.specs.File.{readCells}
-use Rattle.graph_file.specs.Decode.{rulesOf, graphOf, opensOf, queriesOf, scopesOf}
+use Rattle.graph_rows.specs.Decode.{rulesOf, graphOf, opensOf, queriesOf, scopesOf}
 use Rattle.path_row.specs.Form.{PathRow, rowHere}
 use Rattle.board.specs.Queries.{queryAt}
 use Rattle.board.proofs.Queries.{getD-in, accepted}

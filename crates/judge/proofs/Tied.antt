@@ -19,10 +19,10 @@ use Rattle.scope_graph.specs.Computed.{Standing, is-visible, is-shadowed, is-un
 use Rattle.scope_graph.specs.Agree.{Judgement, as-visible, as-shadowed, as-unreached, withSteps, caught, judgement}
 use Rattle.scope_graph.proofs.Lists.{and-left, and-both}
 use Rattle.scope_graph.proofs.Agree.{agree-promises}
-use Rattle.graph_file.specs.Format.{countSection, declarationSection}
+use Rattle.graph_rows.specs.Format.{countSection, declarationSection}
 use Rattle.text_field.specs.Outcome.{Outcome, done}
-use Rattle.graph_file.specs.Admission.{Row, value, blank}
-use Rattle.graph_file.specs.Decode.{rowsIn, lettersOf, rulesOf, nameAt, declarationOf, graphOf, scopesOf}
+use Rattle.graph_rows.specs.Admission.{Row, value, blank}
+use Rattle.graph_rows.specs.Decode.{rowsIn, lettersOf, rulesOf, nameAt, declarationOf, graphOf, scopesOf}
 use Rattle.block.specs.Sets.{hasScope}
 use Rattle.block.specs.Block.{scopesCell}
 use Rattle.search.specs.declared.Node.{Node}

@@ -10,7 +10,7 @@ use Rattle.scope_graph.specs.Path.{PathRow as RulesRow}
 use Rattle.scope_graph.specs.Agree.{Judgement, as-visible, as-shadowed, as-unreached, judgement}
 use Rattle.text_field.specs.Outcome.{Outcome, refused, done, andThen, refuseIf}
 use Rattle.graph_file.specs.File.{readCells}
-use Rattle.graph_file.specs.Decode.{rulesOf, graphOf, queriesOf}
+use Rattle.graph_rows.specs.Decode.{rulesOf, graphOf, queriesOf}
 use Rattle.path_row.specs.Form.{PathRow, rowHere, stepsHeld}
 use Rattle.path_row.specs.Lent.{stepsLent}
 use Rattle.path_row.specs.Numbering.{pathIn}

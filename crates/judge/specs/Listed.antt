@@ -9,7 +9,7 @@ use Rattle.scope_graph.specs.Path.{PathRow, Entry}
 use Rattle.scope_graph.specs.Agree.{as-visible}
 use Rattle.text_field.specs.Outcome.{done}
 use Rattle.graph_file.specs.File.{readCells}
-use Rattle.graph_file.specs.Decode.{rulesOf, graphOf, queriesOf, lettersOf}
+use Rattle.graph_rows.specs.Decode.{rulesOf, graphOf, queriesOf, lettersOf}
 use Rattle.follow.specs.Text.{rowText}
 use Rattle.board.specs.Queries.{queryAt}
 use Rattle.judge.specs.Judge.{judgeAnswer}

@@ -11,7 +11,7 @@ use Rattle.scope_graph.specs.Path.{Reached, MarkDeclared, Entry}
 use Rattle.scope_graph.specs.Agree.{Judgement, as-visible, as-shadowed, as-unreached, ShadowedWith}
 use Rattle.text_field.specs.Outcome.{done}
 use Rattle.graph_file.specs.File.{readCells}
-use Rattle.graph_file.specs.Decode.{rulesOf, graphOf, queriesOf}
+use Rattle.graph_rows.specs.Decode.{rulesOf, graphOf, queriesOf}
 use Rattle.path_row.specs.Form.{PathRow, rowHere}
 use Rattle.board.specs.Queries.{queryAt}
 use Rattle.judge.specs.Judge.{asRulesRow, judgeAnswer}

@@ -14,8 +14,8 @@ use Rattle.scope_graph.specs.Turns.{Turned, sameTurned, turnBy}
 use Rattle.scope_graph.specs.Rows.{anyOf, language}
 use Rattle.scope_graph.specs.Computed.{sameHop}
 use Rattle.scope_graph.specs.Agree.{Judgement, judgement}
-use Rattle.graph_file.specs.Admission.{Row}
-use Rattle.graph_file.specs.Decode.{rulesOf, graphOf}
+use Rattle.graph_rows.specs.Admission.{Row}
+use Rattle.graph_rows.specs.Decode.{rulesOf, graphOf}
 use Rattle.block.specs.Layout.{IsBlock}
 use Rattle.block.specs.Sets.{hasScope}
 use Rattle.block.specs.Block.{Bounds, nextCell, scopesCell, blockHops}

@@ -15,9 +15,8 @@ use Rattle.text_field.specs.declared.NumberRead.the-variants.{Number, NoNumber}
 use Rattle.text_field.proofs.ByteLaws.{both, clash, within-bounds}
 use Rattle.text_field.proofs.NumberLaws.{NumberStands, number-found, number-back, length-below}
 use Rattle.text_field.specs.Outcome.{Outcome, refused, done, andThen, refuseIf}
-use Rattle.graph_file.proofs.DecodeWay.{andThen-done, done-is}
-use Rattle.graph_file.specs.Line.{startsWith}
-use Rattle.graph_file.specs.File.{isEmpty}
+use Rattle.graph_rows.proofs.DecodeWay.{andThen-done, done-is}
+use Rattle.graph_rows.specs.Way.{startsWith, isEmpty}
 use Rattle.path_row.specs.declared.form.Step.{Step}
 use Rattle.path_row.specs.declared.form.StepRead.{StepRead}
 use Rattle.path_row.specs.declared.form.StepRead.the-variants.{Taken, NoStep}

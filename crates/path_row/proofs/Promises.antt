@@ -7,9 +7,9 @@ use mathlib.Core.Option.{some, none}
 use mathlib.Core.List.{List, [], _∷_}
 use native.Mathlib.Omega.{arith}
 use lib.ListN.{length}
-use Rattle.graph_file.specs.Decode.{lettersOf, rulesOf, graphOf}
-use Rattle.graph_file.specs.Accepted.{AcceptedTable}
-use Rattle.graph_file.proofs.DecodeAccepted.{read-accepted}
+use Rattle.graph_rows.specs.Decode.{lettersOf, rulesOf, graphOf}
+use Rattle.graph_rows.specs.Accepted.{AcceptedTable}
+use Rattle.graph_file.proofs.Promises.{read-accepted}
 use Rattle.scope_graph.specs.Language.{_∈_, End, by, Language}
 use Rattle.scope_graph.specs.Graph.{Edge, InRange, Query}
 use Rattle.scope_graph.specs.Turns.{Turned, labelEnd}

@@ -9,8 +9,8 @@ use lib.Dec.{ltb}
 use lib.ListN.{length, drop}
 use lib.Seq.{drop-length}
 use Rattle.text_field.specs.Outcome.{Outcome, refused, done, andThen}
-use Rattle.graph_file.specs.File.{isEmpty}
-use Rattle.graph_file.proofs.DecodeWay.{andThen-done, done-is}
+use Rattle.graph_rows.specs.Way.{isEmpty}
+use Rattle.graph_rows.proofs.DecodeWay.{andThen-done, done-is}
 use Rattle.path_row.specs.declared.form.HeadRead.{HeadRead}
 use Rattle.path_row.specs.declared.form.HeadRead.the-variants.{Head, NoHead}
 use Rattle.path_row.specs.declared.form.RowRead.{RowRead}

@@ -14,8 +14,7 @@ use Rattle.text_field.specs.declared.NumberRead.{NumberRead}
 use Rattle.text_field.specs.declared.NumberRead.the-variants.{Number, NoNumber}
 use Rattle.text_field.specs.Number.{numberPlaced, numberHere, numberMeaning}
 use Rattle.text_field.specs.Outcome.{Outcome, refused, done, andThen, refuseIf}
-use Rattle.graph_file.specs.Line.{startsWith}
-use Rattle.graph_file.specs.File.{isEmpty}
+use Rattle.graph_rows.specs.Way.{startsWith, isEmpty}
 use Rattle.path_row.specs.declared.form.HeadRead.{HeadRead}
 use Rattle.path_row.specs.declared.form.HeadRead.the-variants.{Head, NoHead}
 use Rattle.path_row.specs.declared.form.RowRead.{RowRead}

@@ -11,8 +11,7 @@ use Rattle.text_field.specs.declared.NumberRead.the-variants.{Number, NoNumber}
 use Rattle.text_field.specs.Bytes.{isCapital}
 use Rattle.text_field.specs.Number.{numberText, numberHere, numberPlaced, numberMeaning}
 use Rattle.text_field.specs.Outcome.{Outcome, refused, done, andThen, refuseIf}
-use Rattle.graph_file.specs.Line.{startsWith}
-use Rattle.graph_file.specs.File.{isEmpty}
+use Rattle.graph_rows.specs.Way.{startsWith, isEmpty}
 use Rattle.path_row.specs.declared.form.Step.{Step}
 use Rattle.path_row.specs.declared.form.HeadRead.{HeadRead}
 use Rattle.path_row.specs.declared.form.HeadRead.the-variants.{Head, NoHead}

@@ -5,7 +5,7 @@ use Prim.Native.Nat.{ℕ, suc, _+_}
 use mathlib.Core.List.{List, [], _∷_}
 use mathlib.Core.Bool.{true, false}
 use lib.Dec.{eqb}
-use Rattle.graph_file.specs.Decode.{lettersOf, rulesOf, graphOf}
+use Rattle.graph_rows.specs.Decode.{lettersOf, rulesOf, graphOf}
 use Rattle.scope_graph.specs.Rows.{Rules, language}
 use Rattle.scope_graph.specs.Graph.{Edge}
 use Rattle.scope_graph.specs.Path.{HopOf, Path}

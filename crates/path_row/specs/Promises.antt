@@ -11,7 +11,7 @@ use lib.ListN.{length, getD, drop}
 use Rattle.text_field.specs.Number.{numberText}
 use Rattle.text_field.specs.Outcome.{refused, done}
 use Rattle.graph_file.specs.File.{readCells}
-use Rattle.graph_file.specs.Decode.{lettersOf, rulesOf, graphOf}
+use Rattle.graph_rows.specs.Decode.{lettersOf, rulesOf, graphOf}
 use Rattle.scope_graph.specs.Language.{_∈_, End, by}
 use Rattle.scope_graph.specs.Turns.{Turned}
 use Rattle.scope_graph.specs.Rows.{language}

@@ -17,15 +17,14 @@ use Rattle.text_field.specs.Buffer.{Buf, put, puts}
 use Rattle.text_field.proofs.NumberLaws.{length-below}
 use Rattle.text_field.proofs.BufferLaws.{puts-then, puts-fits}
 use Rattle.text_field.specs.Outcome.{Outcome, refused, done, andThen, refuseIf}
-use Rattle.graph_file.specs.File.{readCells}
+use Rattle.graph_file.specs.File.{readCells, WasRead}
 use Rattle.text_field.specs.Answer.{answer, leaves, answerOf}
 use Rattle.text_field.specs.declared.answer.Answer.{Answer}
 use Rattle.text_field.specs.declared.answer.Answer.the-variants.{Refused, Written}
-use Rattle.graph_file.specs.Decode.{rulesOf, queriesOf}
-use Rattle.graph_file.proofs.DecodeWay.{done-is}
+use Rattle.graph_rows.specs.Decode.{rulesOf, queriesOf}
+use Rattle.graph_rows.proofs.DecodeWay.{done-is}
 use Rattle.resolution.specs.Listing.{listingText, listingOf, summaryOf}
 use Rattle.board.specs.Queries.{queryAt}
-use Rattle.graph_file.specs.Decode.{WasRead}
 use Rattle.resolution.specs.declared.sums.Figures.{Figures}
 use Rattle.resolution.specs.Figures.{noFigures, figuresOver, figuresText}
 use Rattle.resolution.proofs.Buffers.{head-fits, short-answer, short-leaves, whole-answer, whole-leaves, own-within}

@@ -8,7 +8,7 @@ use Rattle.text_field.specs.Buffer.{Buf, puts}
 use Rattle.text_field.specs.declared.answer.Answer.{Answer}
 use Rattle.text_field.specs.declared.answer.Answer.the-variants.{Refused, Written}
 use Rattle.text_field.specs.Outcome.{done}
-use Rattle.graph_file.specs.Decode.{queriesOf}
+use Rattle.graph_rows.specs.Decode.{queriesOf}
 use Rattle.resolution.specs.Listing.{listingOf, summaryOf}
 use Rattle.printing.specs.Printed.{refusedLine, inPlace}
 

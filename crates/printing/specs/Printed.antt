@@ -9,7 +9,7 @@ use lib.ListN.{length, take, drop}
 use Rattle.text_field.specs.Number.{numberText}
 use Rattle.text_field.specs.Outcome.{Outcome, refused, done}
 use Rattle.graph_file.specs.File.{readCells}
-use Rattle.graph_file.specs.Decode.{queriesOf}
+use Rattle.graph_rows.specs.Decode.{queriesOf}
 use Rattle.resolution.specs.Listing.{listingText, summaryOf}
 
 -- the line `refused N`

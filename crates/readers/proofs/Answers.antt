@@ -16,8 +16,8 @@ use Rattle.scope_graph.proofs.Lists.{keep-elim}
 use Rattle.scope_graph.proofs.Readers.{numbers-elim}
 use Rattle.text_field.specs.Outcome.{Outcome, refused, done, andThen, refuseIf}
 use Rattle.text_field.specs.Answer.{answer, leaves}
-use Rattle.graph_file.specs.File.{readCells}
-use Rattle.graph_file.specs.Decode.{rulesOf, scopesOf, graphOf, WasRead}
+use Rattle.graph_file.specs.File.{readCells, WasRead}
+use Rattle.graph_rows.specs.Decode.{rulesOf, scopesOf, graphOf}
 use Rattle.graph_file.proofs.TableLaws.{ReadInto, refused-then, made-then}
 use Rattle.graph_table.specs.declared.rows.DeclarationRow.{DeclarationRow}
 use Rattle.readers.specs.Readers.{readersText, declarationAt, readersOf, readersFor}

@@ -15,8 +15,9 @@ use Rattle.scope_graph.specs.Ends.{endsAt}
 use Rattle.scope_graph.specs.Readers.{queryFor}
 use Rattle.scope_graph.proofs.Lists.{and-right}
 use Rattle.text_field.specs.Bytes.{within, isLower}
-use Rattle.graph_file.specs.Decode.{rulesOf, scopesOf, graphOf, opensOf, WasRead}
-use Rattle.graph_file.specs.Accepted.{AcceptedTable}
+use Rattle.graph_rows.specs.Decode.{rulesOf, scopesOf, graphOf, opensOf}
+use Rattle.graph_file.specs.File.{WasRead}
+use Rattle.graph_rows.specs.Accepted.{AcceptedTable}
 use Rattle.graph_table.specs.declared.rows.DeclarationRow.{DeclarationRow}
 use Rattle.graph_table.specs.declared.rows.QueryRow.{QueryRow}
 use Rattle.graph_table.specs.Values.{packed}

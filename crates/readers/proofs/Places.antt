@@ -7,9 +7,10 @@ use lib.ListN.{length, getD, drop, length-map, List·getD-map}
 use Rattle.scope_graph.specs.Language.{_∈_}
 use Rattle.scope_graph.specs.Graph.{Declaration}
 use Rattle.scope_graph.specs.Rows.{language}
-use Rattle.graph_file.specs.Format.{declarationSection}
-use Rattle.graph_file.specs.Admission.{Row, rowOf, blank}
-use Rattle.graph_file.specs.Decode.{rowsIn, rulesOf, nameAt, declarationOf, graphOf, WasRead}
+use Rattle.graph_rows.specs.Format.{declarationSection}
+use Rattle.graph_rows.specs.Admission.{Row, rowOf, blank}
+use Rattle.graph_rows.specs.Decode.{rowsIn, rulesOf, nameAt, declarationOf, graphOf}
+use Rattle.graph_file.specs.File.{WasRead}
 use Rattle.graph_table.specs.declared.rows.DeclarationRow.{DeclarationRow}
 use Rattle.graph_table.specs.Sections.{partOf, rowsOf}
 use Rattle.graph_table.specs.Values.{declarationRow, rowDeclared}

@@ -17,8 +17,8 @@ use Rattle.scope_graph.specs.Readers.{readers}
 use Rattle.scope_graph.proofs.Readers.{readers-right}
 use Rattle.text_field.specs.Outcome.{Outcome, refused, done, andThen, refuseIf}
 use Rattle.text_field.proofs.OutcomeLaws.{not-done}
-use Rattle.graph_file.specs.File.{readCells}
-use Rattle.graph_file.specs.Decode.{rulesOf, graphOf, WasRead}
+use Rattle.graph_file.specs.File.{readCells, WasRead}
+use Rattle.graph_rows.specs.Decode.{rulesOf, graphOf}
 use Rattle.readers.specs.Readers.{declarationAt, readersOf, readersFor}
 use Rattle.readers.specs.Promises.{ReadersAre, ReadersListed, ReadersRefused, Promises}
 use Rattle.readers.proofs.Places.{place-stands}

@@ -5,7 +5,8 @@ use mathlib.Core.List.{List}
 use Rattle.scope_graph.specs.Language.{_∈_}
 use Rattle.scope_graph.specs.Graph.{Declaration}
 use Rattle.scope_graph.specs.Rows.{language}
-use Rattle.graph_file.specs.Decode.{rulesOf, graphOf, WasRead}
+use Rattle.graph_rows.specs.Decode.{rulesOf, graphOf}
+use Rattle.graph_file.specs.File.{WasRead}
 use Rattle.graph_table.specs.declared.rows.DeclarationRow.{DeclarationRow}
 use Rattle.graph_table.specs.Values.{packed}
 use Rattle.board.specs.Made.{Made}

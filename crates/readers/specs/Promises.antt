@@ -13,7 +13,7 @@ use Rattle.scope_graph.specs.Listing.{Pairwise}
 use Rattle.scope_graph.specs.Readers.{Reader}
 use Rattle.text_field.specs.Outcome.{refused, done}
 use Rattle.graph_file.specs.File.{readCells}
-use Rattle.graph_file.specs.Decode.{rulesOf, graphOf}
+use Rattle.graph_rows.specs.Decode.{rulesOf, graphOf}
 use Rattle.board.specs.Example.{exampleText}
 use Rattle.readers.specs.Readers.{readersText, declarationAt, readersFor}
 

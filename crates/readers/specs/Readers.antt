@@ -11,7 +11,7 @@ use Rattle.scope_graph.specs.Readers.{readers}
 use Rattle.text_field.specs.Number.{numberText}
 use Rattle.text_field.specs.Outcome.{Outcome, done, andThen, refuseIf}
 use Rattle.graph_file.specs.File.{readCells}
-use Rattle.graph_file.specs.Decode.{rulesOf, graphOf}
+use Rattle.graph_rows.specs.Decode.{rulesOf, graphOf}
 
 -- a scope on a line of its own
 unfoldable pub scopeLine : ℕ → List ℕ

@@ -14,7 +14,7 @@ use text_field::put_bytes;
 ghost use mathlib.Core.Path.{_≡_};
 ghost use lib.ListN.{length};
 ghost use Rattle.text_field.specs.Answer.{answer, leaves, answerOf};
-ghost use Rattle.graph_file.specs.Decode.{WasRead};
+ghost use Rattle.graph_file.specs.File.{WasRead};
 ghost use Rattle.graph_file.specs.Reader.{TextRoom};
 ghost use Rattle.board.specs.Made.{Made};
 ghost use Rattle.readers.specs.Readers.{readersOf, readersFor};

@@ -15,10 +15,10 @@ use Rattle.scope_graph.specs.Rows.{language}
 use Rattle.scope_graph.specs.Order.{endOf}
 use Rattle.scope_graph.specs.Computed.{entries, firstOf, followedAt, awaits}
 use Rattle.scope_graph.proofs.Lists.{here, there, map-intro}
-use Rattle.graph_file.specs.Format.{openSection}
-use Rattle.graph_file.specs.Admission.{Row, value}
-use Rattle.graph_file.specs.Decode.{rowsIn, rulesOf, scopesOf, graphOf, openPairOf, opensOf}
-use Rattle.graph_file.specs.Accepted.{EndListed}
+use Rattle.graph_rows.specs.Format.{openSection}
+use Rattle.graph_rows.specs.Admission.{Row, value}
+use Rattle.graph_rows.specs.Decode.{rowsIn, rulesOf, scopesOf, graphOf, openPairOf, opensOf}
+use Rattle.graph_rows.specs.Accepted.{EndListed}
 use Rattle.block.specs.Block.{usableSet}
 use Rattle.graph_table.specs.Sections.{partOf, rowsOf}
 use Rattle.follow.specs.Walk.{followedIn}

@@ -12,7 +12,7 @@ use lib.ListN.{length, getD, set, length-set}
 use lib.Seq.{getD-set-same, getD-set-other}
 use Rattle.scope_graph.specs.Graph.{Query}
 use Rattle.scope_graph.specs.Rows.{PackedName, language}
-use Rattle.graph_file.specs.Decode.{rulesOf, scopesOf}
+use Rattle.graph_rows.specs.Decode.{rulesOf, scopesOf}
 use Rattle.block.specs.Sets.{hasScope, hasState, placesOf}
 use Rattle.block.specs.Block.{acceptSet}
 use Rattle.block.specs.Ask.{FROM, KIND, HIGH, LOW, GOAL, IsAsk, askStart, askName, askGoal}
@@ -24,7 +24,7 @@ use Rattle.search.specs.Conditions.{freeAt, LiveAt, WorthAt}
 use Rattle.graph_table.specs.declared.rows.QueryRow.{QueryRow}
 use Rattle.graph_table.specs.Values.{packed}
 use Rattle.board.specs.Made.{Made}
-use Rattle.graph_file.specs.Format.{declarationSection}
+use Rattle.graph_rows.specs.Format.{declarationSection}
 use Rattle.graph_table.specs.Sections.{partOf}
 use Rattle.board.specs.Marks.{DeclaringIs}
 use Rattle.graph_table.proofs.Tests.{below-or}

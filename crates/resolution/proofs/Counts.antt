@@ -16,8 +16,9 @@ use Rattle.text_field.specs.Number.{numberText}
 use Rattle.text_field.specs.Buffer.{Buf, put, puts}
 use Rattle.text_field.proofs.NumberLaws.{length-below}
 use Rattle.text_field.proofs.BufferLaws.{puts-then}
-use Rattle.graph_file.specs.Format.{querySection, queries, sections, sectionAt}
-use Rattle.graph_file.specs.Decode.{rowsIn, rulesOf, queryOf, queriesOf, WasRead}
+use Rattle.graph_rows.specs.Format.{querySection, queries, sections, sectionAt}
+use Rattle.graph_rows.specs.Decode.{rowsIn, rulesOf, queryOf, queriesOf}
+use Rattle.graph_file.specs.File.{WasRead}
 use Rattle.board.specs.Queries.{queryAt}
 use Rattle.resolution.specs.Summary.{summaryLine, shareText, summaryText, sameFound, countFound, summaryBy}
 use Rattle.resolution.specs.declared.sums.Figures.{Figures}

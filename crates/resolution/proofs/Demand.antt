@@ -24,9 +24,9 @@ use Rattle.text_field.proofs.NumberLaws.{length-some}
 use Rattle.text_field.specs.Outcome.{Outcome, refused, done, andThen, refuseIf}
 use Rattle.graph_file.specs.File.{readCells}
 use Rattle.text_field.specs.Answer.{answer, written, leaves}
-use Rattle.graph_file.specs.Decode.{rulesOf, graphOf, opensOf, queriesOf, lettersOf, scopesOf}
-use Rattle.graph_file.specs.Accepted.{AcceptedTable}
-use Rattle.graph_file.proofs.DecodeAccepted.{read-accepted}
+use Rattle.graph_rows.specs.Decode.{rulesOf, graphOf, opensOf, queriesOf, lettersOf, scopesOf}
+use Rattle.graph_rows.specs.Accepted.{AcceptedTable}
+use Rattle.graph_file.proofs.Promises.{read-accepted}
 use Rattle.follow.specs.Text.{endText}
 use Rattle.resolution.specs.Listing.{awaitsText, foundFor, listingText, listingOf, listingFor}
 use Rattle.board.specs.Queries.{queryAt}

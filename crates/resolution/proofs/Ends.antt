@@ -18,9 +18,9 @@ use Rattle.scope_graph.specs.Ends.{hasSecond, endsAt, severalMarks}
 use Rattle.scope_graph.proofs.Lists.{Two, true-false}
 use Rattle.scope_graph.proofs.Among.{Among}
 use Rattle.scope_graph.proofs.Ends.{declared-ends, undeclared-ends, found-among}
-use Rattle.graph_file.specs.Format.{declarationSection}
-use Rattle.graph_file.specs.Decode.{rulesOf, graphOf, opensOf, scopesOf}
-use Rattle.graph_file.specs.Accepted.{AcceptedTable}
+use Rattle.graph_rows.specs.Format.{declarationSection}
+use Rattle.graph_rows.specs.Decode.{rulesOf, graphOf, opensOf, scopesOf}
+use Rattle.graph_rows.specs.Accepted.{AcceptedTable}
 use Rattle.block.specs.Sets.{hasScope}
 use Rattle.block.specs.Block.{usableSet}
 use Rattle.block.specs.Ask.{askName, askGoal}

@@ -5,7 +5,7 @@ use mathlib.Core.Bool.{Bool, true, false}
 use mathlib.Core.List.{List, [], _∷_}
 use native.Mathlib.Omega.{arith}
 use lib.ListN.{length, getD, drop}
-use Rattle.graph_file.specs.Admission.{value, rowOf}
+use Rattle.graph_rows.specs.Admission.{value, rowOf}
 use Rattle.graph_table.specs.Sections.{rowsOf}
 use Rattle.graph_table.specs.declared.rows.OpenRow.{OpenRow}
 use Rattle.graph_table.specs.Values.{openRow}

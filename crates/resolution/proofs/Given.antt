@@ -19,11 +19,12 @@ use Rattle.scope_graph.specs.Computed.{usable, openEnd}
 use Rattle.scope_graph.specs.Graph.{Query}
 use Rattle.scope_graph.proofs.Lists.{Two, and-right}
 use Rattle.text_field.specs.Bytes.{within, isCapital}
-use Rattle.graph_file.specs.Format.{labelSection, countSection, declarationSection}
-use Rattle.graph_file.specs.Admission.{Row, value, blank}
-use Rattle.graph_file.specs.Decode.{rowsIn, lettersOf, rulesOf, scopesOf, graphOf, WasRead}
-use Rattle.graph_file.specs.Accepted.{AcceptedTable}
-use Rattle.graph_file.proofs.DecodeAccepted.{read-accepted}
+use Rattle.graph_rows.specs.Format.{labelSection, countSection, declarationSection}
+use Rattle.graph_rows.specs.Admission.{Row, value, blank}
+use Rattle.graph_rows.specs.Decode.{rowsIn, lettersOf, rulesOf, scopesOf, graphOf}
+use Rattle.graph_file.specs.File.{WasRead}
+use Rattle.graph_rows.specs.Accepted.{AcceptedTable}
+use Rattle.graph_file.proofs.Promises.{read-accepted}
 use Rattle.block.specs.Layout.{LETTER, IsBlock}
 use Rattle.block.specs.Sets.{placesOf}
 use Rattle.block.specs.Block.{letterCell, scopesCell, usableSet, blockHops, declaredPart}

@@ -23,7 +23,8 @@ use Rattle.text_field.specs.Answer.{answer, leaves}
 use Rattle.text_field.proofs.NumberLaws.{length-below}
 use Rattle.text_field.proofs.CellLaws.{name-length}
 use Rattle.text_field.proofs.BufferLaws.{puts-then, puts-fits, puts-append, puts-length}
-use Rattle.graph_file.specs.Decode.{rulesOf, graphOf, lettersOf, opensOf, queriesOf, WasRead}
+use Rattle.graph_rows.specs.Decode.{rulesOf, graphOf, lettersOf, opensOf, queriesOf}
+use Rattle.graph_file.specs.File.{WasRead}
 use Rattle.block.specs.Ask.{askStart, askName}
 use Rattle.graph_table.specs.declared.sections.Form.{Form}
 use Rattle.graph_table.specs.declared.sections.Form.the-variants.{Old, Kinds}

@@ -21,11 +21,12 @@ use Rattle.scope_graph.proofs.Promises.{promises}
 use Rattle.text_field.specs.Number.{digitsOf, numberText}
 use Rattle.text_field.specs.Name.{packed, packHigh, packLow, bytesOf, beforeZero, nameText}
 use Rattle.text_field.specs.Outcome.{Outcome, done}
-use Rattle.graph_file.specs.Format.{hasKinds}
-use Rattle.graph_file.specs.File.{readCells, formIn}
-use Rattle.graph_file.specs.Decode.{keptIf, rowsAmong, rowsIn, lettersOf, orderPairOf, transitionOf, rulesOf, nameAt, edgeOf, declarationOf, openPairOf, queryOf, scopesOf, graphOf, opensOf, queriesOf}
-use Rattle.graph_file.specs.Accepted.{AcceptedTable}
-use Rattle.graph_file.proofs.DecodeAccepted.{read-accepted}
+use Rattle.graph_rows.specs.Format.{hasKinds}
+use Rattle.graph_file.specs.File.{readCells}
+use Rattle.graph_rows.specs.Tested.{formIn}
+use Rattle.graph_rows.specs.Decode.{keptIf, rowsAmong, rowsIn, lettersOf, orderPairOf, transitionOf, rulesOf, nameAt, edgeOf, declarationOf, openPairOf, queryOf, scopesOf, graphOf, opensOf, queriesOf}
+use Rattle.graph_rows.specs.Accepted.{AcceptedTable}
+use Rattle.graph_file.proofs.Promises.{read-accepted}
 use Rattle.path_row.specs.Form.{frontText, stepText, stepsText}
 use Rattle.path_row.specs.Form.{rowText as pathRowText}
 use Rattle.follow.specs.Text.{foundText, letterOf, rowText, endText}

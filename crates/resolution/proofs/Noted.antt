@@ -9,7 +9,7 @@ use Rattle.scope_graph.specs.Graph.{Declaration, Query}
 use Rattle.scope_graph.specs.Path.{PathRow, rowDeclaration}
 use Rattle.scope_graph.specs.Rows.{anyOf, language}
 use Rattle.scope_graph.specs.Computed.{Found, found-none, found-one, found-several, sameDeclaration, foundOf, entries, found}
-use Rattle.graph_file.specs.Decode.{lettersOf, rulesOf, graphOf}
+use Rattle.graph_rows.specs.Decode.{lettersOf, rulesOf, graphOf}
 use Rattle.board.proofs.Queries.{accepted}
 use Rattle.follow.specs.declared.Bounds.{Bounds}
 use Rattle.follow.specs.declared.Seen.{Seen}

@@ -10,8 +10,8 @@ use Rattle.scope_graph.proofs.Promises.{promises}
 use Rattle.scope_graph.proofs.Lists.{here, there}
 use Rattle.text_field.specs.Outcome.{done, andThen}
 use Rattle.graph_file.specs.File.{readCells}
-use Rattle.graph_file.specs.Decode.{rulesOf, graphOf, opensOf, queriesOf}
-use Rattle.graph_file.proofs.DecodeAccepted.{read-accepted}
+use Rattle.graph_rows.specs.Decode.{rulesOf, graphOf, opensOf, queriesOf}
+use Rattle.graph_file.proofs.Promises.{read-accepted}
 use Rattle.resolution.specs.Listing.{foundFor, summaryOf, summaryFor}
 use Rattle.resolution.specs.Totals.{FoundsAre, SummaryIs, SummaryRight}
 

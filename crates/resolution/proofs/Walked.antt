@@ -17,10 +17,10 @@ use Rattle.scope_graph.specs.Turns.{Turned}
 use Rattle.scope_graph.specs.Computed.{NodeOf, keep, marksAt, usable, openEnd, nodes, cut, rowsAt, entries, followedAt}
 use Rattle.scope_graph.proofs.Lists.{keep-elim, and-left}
 use Rattle.scope_graph.proofs.Nodes.{nodes-sound}
-use Rattle.graph_file.specs.Admission.{Row}
-use Rattle.graph_file.specs.Format.{declarationSection}
-use Rattle.graph_file.specs.Decode.{rowsIn, lettersOf, rulesOf, nameAt, declarationOf, graphOf, scopesOf}
-use Rattle.graph_file.specs.Accepted.{AcceptedTable}
+use Rattle.graph_rows.specs.Admission.{Row}
+use Rattle.graph_rows.specs.Format.{declarationSection}
+use Rattle.graph_rows.specs.Decode.{rowsIn, lettersOf, rulesOf, nameAt, declarationOf, graphOf, scopesOf}
+use Rattle.graph_rows.specs.Accepted.{AcceptedTable}
 use Rattle.block.specs.Sets.{placesOf}
 use Rattle.block.specs.Block.{acceptSet, usableSet, scopesCell, declaredPart}
 use Rattle.block.specs.Ask.{askStart, askName, askGoal}

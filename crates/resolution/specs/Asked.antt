@@ -13,8 +13,8 @@ use Rattle.scope_graph.specs.Order.{endOf}
 use Rattle.scope_graph.specs.Computed.{Found, found-none, found-one, found-several, entries, awaits}
 use Rattle.scope_graph.specs.Ends.{endsAt}
 use Rattle.text_field.specs.Number.{numberText}
-use Rattle.graph_file.specs.Admission.{Row, value}
-use Rattle.graph_file.specs.Decode.{rulesOf, graphOf, opensOf}
+use Rattle.graph_rows.specs.Admission.{Row, value}
+use Rattle.graph_rows.specs.Decode.{rulesOf, graphOf, opensOf}
 use Rattle.block.specs.Sets.{placesOf}
 use Rattle.block.specs.Block.{acceptSet, usableSet, pairFlag}
 use Rattle.block.specs.Ask.{IsAsk, askStart, askName, askGoal}
@@ -22,7 +22,7 @@ use Rattle.search.specs.Tables.{placeFlag}
 use Rattle.search.specs.Conditions.{freeAt, LiveAt, AwayAt}
 use Rattle.graph_table.specs.declared.rows.QueryRow.{QueryRow}
 use Rattle.board.specs.Made.{Made}
-use Rattle.graph_file.specs.Format.{declarationSection}
+use Rattle.graph_rows.specs.Format.{declarationSection}
 use Rattle.graph_table.specs.Sections.{tableForm, partOf}
 use Rattle.board.specs.Marks.{DeclaringIs}
 use Rattle.board.specs.Queries.{queryFrom, queryOn, Asked}

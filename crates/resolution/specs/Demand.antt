@@ -17,7 +17,7 @@ use Rattle.scope_graph.specs.Listing.{Pairwise, RowBefore, FoundIs}
 use Rattle.text_field.specs.Outcome.{refused, done}
 use Rattle.graph_file.specs.File.{readCells}
 use Rattle.text_field.specs.Answer.{answer, leaves}
-use Rattle.graph_file.specs.Decode.{rulesOf, graphOf, opensOf, queriesOf}
+use Rattle.graph_rows.specs.Decode.{rulesOf, graphOf, opensOf, queriesOf}
 use Rattle.resolution.specs.Listing.{awaitsText, shownText, listingFor}
 use Rattle.board.specs.Queries.{queryAt}
 

@@ -6,7 +6,7 @@ use Rattle.scope_graph.specs.Graph.{Query}
 use Rattle.scope_graph.specs.Rows.{language}
 use Rattle.scope_graph.specs.Computed.{Found, found-none, found-one, found-several}
 use Rattle.text_field.specs.Number.{numberText}
-use Rattle.graph_file.specs.Decode.{rulesOf}
+use Rattle.graph_rows.specs.Decode.{rulesOf}
 use Rattle.resolution.specs.Summary.{summaryLine, summaryText}
 use Rattle.resolution.specs.declared.sums.Figures.{Figures}
 use Rattle.resolution.specs.Listing.{foundFor}

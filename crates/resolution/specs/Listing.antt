@@ -13,7 +13,7 @@ use Rattle.scope_graph.specs.Computed.{Found, found-none, entries, found, await
 use Rattle.text_field.specs.Number.{numberText}
 use Rattle.text_field.specs.Outcome.{Outcome, done, andThen, refuseIf}
 use Rattle.graph_file.specs.File.{readCells}
-use Rattle.graph_file.specs.Decode.{rulesOf, graphOf, opensOf, queriesOf, lettersOf}
+use Rattle.graph_rows.specs.Decode.{rulesOf, graphOf, opensOf, queriesOf, lettersOf}
 use Rattle.graph_table.specs.Sections.{tableForm}
 use Rattle.follow.specs.Text.{headLine, seekColumns, rowsLine, foundText, rowText, endText}
 use Rattle.board.specs.Queries.{queryAt}

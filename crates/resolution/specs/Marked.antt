@@ -17,7 +17,7 @@ use Rattle.scope_graph.specs.Listing.{Pairwise, RowBefore, FoundIs}
 use Rattle.text_field.specs.Name.{packHigh, packLow}
 use Rattle.text_field.specs.Outcome.{done}
 use Rattle.graph_file.specs.File.{readCells}
-use Rattle.graph_file.specs.Decode.{rulesOf, graphOf, opensOf, queriesOf}
+use Rattle.graph_rows.specs.Decode.{rulesOf, graphOf, opensOf, queriesOf}
 use Rattle.resolution.specs.Listing.{listingFor}
 use Rattle.board.specs.Queries.{queryAt}
 use Rattle.board.specs.Example.{hours, service, edgeLines, declarationLines, queryLines, fileText, exampleText}

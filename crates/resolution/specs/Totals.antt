@@ -9,7 +9,7 @@ use Rattle.scope_graph.specs.Computed.{Found}
 use Rattle.scope_graph.specs.Listing.{FoundIs}
 use Rattle.text_field.specs.Outcome.{done}
 use Rattle.graph_file.specs.File.{readCells}
-use Rattle.graph_file.specs.Decode.{rulesOf, graphOf, queriesOf}
+use Rattle.graph_rows.specs.Decode.{rulesOf, graphOf, queriesOf}
 use Rattle.resolution.specs.Summary.{summaryBy}
 use Rattle.resolution.specs.Listing.{summaryFor}
 

@@ -15,7 +15,7 @@ use search::goal_table;
 ghost use mathlib.Core.Path.{_≡_};
 ghost use Prim.Native.Nat.{ℕ, _<_};
 ghost use lib.ListN.{getD};
-ghost use Rattle.graph_file.specs.Format.{declarationSection};
+ghost use Rattle.graph_rows.specs.Format.{declarationSection};
 ghost use Rattle.graph_table.specs.Sections.{partOf};
 ghost use Rattle.graph_table.specs.Values.{packed};
 ghost use Rattle.board.specs.Made.{Made};

@@ -20,7 +20,7 @@ ghost use Prim.Native.Nat.{ℕ, _<_, _≤_};
 ghost use lib.ListN.{length};
 ghost use Rattle.scope_graph.specs.Rows.{language};
 ghost use Rattle.scope_graph.specs.Computed.{awaits};
-ghost use Rattle.graph_file.specs.Decode.{rulesOf, graphOf, opensOf};
+ghost use Rattle.graph_rows.specs.Decode.{rulesOf, graphOf, opensOf};
 ghost use Rattle.block.specs.Sets.{hasState};
 ghost use Rattle.block.specs.Layout.{IsBlock};
 ghost use Rattle.block.specs.Block.{Bounds, usableSet};

@@ -22,7 +22,7 @@ ghost use mathlib.Core.Path.{_≡_};
 ghost use Prim.Native.Nat.{_<_};
 ghost use Rattle.scope_graph.specs.Rows.{language};
 ghost use Rattle.scope_graph.specs.Ends.{hasSecond, endsAt};
-ghost use Rattle.graph_file.specs.Decode.{rulesOf, graphOf};
+ghost use Rattle.graph_rows.specs.Decode.{rulesOf, graphOf};
 ghost use Rattle.graph_table.specs.Values.{packed};
 ghost use Rattle.board.specs.Marks.{marksIn};
 ghost use Rattle.resolution.specs.Listing.{foundFor};

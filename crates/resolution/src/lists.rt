@@ -24,7 +24,7 @@ ghost use lib.ListN.{length};
 ghost use Rattle.text_field.specs.Buffer.{Buf, puts};
 ghost use Rattle.text_field.specs.Outcome.{done};
 ghost use Rattle.text_field.specs.Answer.{answer, leaves, answerOf};
-ghost use Rattle.graph_file.specs.Decode.{WasRead};
+ghost use Rattle.graph_file.specs.File.{WasRead};
 ghost use Rattle.graph_file.specs.Reader.{TextRoom};
 ghost use Rattle.board.specs.Made.{Made};
 ghost use Rattle.resolution.specs.Listing.{foundFor, foundAt, listingText, listingOf, listingFor};

@@ -8,7 +8,8 @@ use graph_table::row_count;
 ghost use mathlib.Core.Path.{_≡_};
 ghost use Prim.Native.Nat.{_<_};
 ghost use lib.ListN.{length};
-ghost use Rattle.graph_file.specs.Decode.{queriesOf, WasRead};
+ghost use Rattle.graph_rows.specs.Decode.{queriesOf};
+ghost use Rattle.graph_file.specs.File.{WasRead};
 ghost use Rattle.board.specs.Made.{Made};
 ghost use Rattle.board.specs.Queries.{queryAt, queryOn, Asked};
 

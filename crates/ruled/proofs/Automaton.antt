@@ -13,8 +13,8 @@ use borrow.Author.Tests.{eqb-true, eq-eqb, ltb-false, lt-ltb}
 use Rattle.scope_graph.specs.Language.{_∈_}
 use Rattle.scope_graph.specs.Rows.{Transition, anyOf, nextBy}
 use Rattle.scope_graph.proofs.Lists.{Two, true-false, and-left, and-right, and-both, here, there, anyOf-intro, anyOf-false, map-intro, map-elim}
-use Rattle.graph_file.specs.Admission.{Row, value}
-use Rattle.graph_file.specs.Decode.{keptIf, transitionOf}
+use Rattle.graph_rows.specs.Admission.{Row, value}
+use Rattle.graph_rows.specs.Decode.{keptIf, transitionOf}
 use Rattle.path_rules.specs.Table.{leadsTo, Over, Decides}
 use Rattle.path_rules.specs.Rules.{target}
 use Rattle.path_rules.proofs.Fill.{below-suc}

@@ -12,11 +12,11 @@ use Rattle.text_field.specs.Outcome.{Outcome, refused, refuseIf}
 use Rattle.text_field.specs.Answer.{answer, leaves}
 use Rattle.text_field.proofs.BufferLaws.{puts-then, puts-fits, puts-length}
 use Rattle.text_field.proofs.AnswerLaws.{answer-refused, leaves-refused}
-use Rattle.graph_file.specs.Accepted.{AcceptedTable}
-use Rattle.graph_file.specs.Decode.{lettersOf, WasRead}
-use Rattle.graph_file.specs.File.{readCells, writeText}
-use Rattle.graph_file.specs.Formed.{cellsOf}
-use Rattle.graph_file.proofs.DecodeAccepted.{read-accepted}
+use Rattle.graph_rows.specs.Accepted.{AcceptedTable}
+use Rattle.graph_rows.specs.Decode.{lettersOf}
+use Rattle.graph_file.specs.File.{WasRead, readCells, writeText}
+use Rattle.graph_rows.specs.Formed.{cellsOf}
+use Rattle.graph_file.proofs.Promises.{read-accepted}
 use Rattle.graph_file.proofs.SectionLaws.{part-is, part-length}
 use Rattle.graph_file.proofs.TableLaws.{ReadInto, refused-then, made-then}
 use Rattle.graph_table.specs.Sections.{leading, startOf}

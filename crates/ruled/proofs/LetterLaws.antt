@@ -11,14 +11,14 @@ use borrow.Author.Tests.{leb-true}
 use Rattle.scope_graph.specs.Language.{_∈_}
 use Rattle.scope_graph.proofs.Lists.{here, there, and-right}
 use Rattle.text_field.specs.Bytes.{within, isCapital}
-use Rattle.graph_file.specs.Format.{letter, field, shapesOf, shapeAt, labelSection}
-use Rattle.graph_file.specs.Admission.{Row, value, rowOf}
-use Rattle.graph_file.specs.Line.{fieldFormed, itemFormed}
-use Rattle.graph_file.specs.Accepted.{AcceptedTable}
-use Rattle.graph_file.specs.Decode.{rowsIn, lettersOf, rulesOf, sectionPlace, WasRead}
-use Rattle.graph_file.specs.Table.{rowsAt}
-use Rattle.graph_file.proofs.DecodeAccepted.{read-accepted}
-use Rattle.graph_file.proofs.DecodeFormed.{items-formed}
+use Rattle.graph_rows.specs.Format.{letter, field, shapesOf, shapeAt, labelSection}
+use Rattle.graph_rows.specs.Admission.{Row, value, rowOf}
+use Rattle.graph_rows.specs.Values.{fieldFormed, itemFormed}
+use Rattle.graph_rows.specs.Accepted.{AcceptedTable}
+use Rattle.graph_rows.specs.Decode.{rowsIn, lettersOf, rulesOf, sectionPlace}
+use Rattle.graph_file.specs.File.{WasRead}
+use Rattle.graph_rows.specs.Table.{rowsAt}
+use Rattle.graph_file.proofs.Promises.{read-accepted, items-formed}
 use Rattle.path_rules.specs.Parts.{tabulate}
 use Rattle.path_rules.proofs.Fill.{tabulate-length, tabulate-at}
 use Rattle.ruled.specs.Letters.{letterByte, labelCount}

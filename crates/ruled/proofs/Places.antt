@@ -8,11 +8,12 @@ use lib.ListN.{length, take, drop, length-append}
 use lib.Seq.{take-at, drop-at}
 use Rattle.scope_graph.specs.Language.{_∈_}
 use Rattle.scope_graph.proofs.Lists.{here, there}
-use Rattle.graph_file.specs.Admission.{Row}
-use Rattle.graph_file.specs.File.{formIn}
-use Rattle.graph_file.specs.Decode.{rowsIn, WasRead}
-use Rattle.graph_file.specs.Formed.{cellsOf, cellsFrom, tableOf, replaced, FormedTable}
-use Rattle.graph_file.proofs.FormedTable.{read-formed}
+use Rattle.graph_rows.specs.Admission.{Row}
+use Rattle.graph_rows.specs.Tested.{formIn}
+use Rattle.graph_rows.specs.Decode.{rowsIn}
+use Rattle.graph_file.specs.File.{WasRead}
+use Rattle.graph_rows.specs.Formed.{cellsOf, cellsFrom, tableOf, replaced, FormedTable}
+use Rattle.graph_file.proofs.Promises.{read-formed}
 use Rattle.graph_table.specs.Sections.{leading, startOf}
 use Rattle.graph_table.proofs.Leading.{leading-few, leading-yes, leading-no, start-within}
 use Rattle.path_rules.specs.declared.Rules.{Rules}

@@ -14,10 +14,11 @@ use Rattle.scope_graph.specs.Rows.{anyOf, nextBy, language}
 use Rattle.scope_graph.proofs.Lists.{Two, true-false}
 use Rattle.text_field.specs.Outcome.{done}
 use Rattle.text_field.proofs.OutcomeLaws.{not-done}
-use Rattle.graph_file.specs.Format.{transitionSection, acceptSection}
-use Rattle.graph_file.specs.Admission.{Row, value}
-use Rattle.graph_file.specs.File.{readCells, formIn, writeText}
-use Rattle.graph_file.specs.Decode.{rowsIn, lettersOf, rulesOf, transitionOf, WasRead}
+use Rattle.graph_rows.specs.Format.{transitionSection, acceptSection}
+use Rattle.graph_rows.specs.Admission.{Row, value}
+use Rattle.graph_file.specs.File.{readCells, writeText, WasRead}
+use Rattle.graph_rows.specs.Tested.{formIn}
+use Rattle.graph_rows.specs.Decode.{rowsIn, lettersOf, rulesOf, transitionOf}
 use Rattle.graph_file.proofs.InverseFile.{written-then-read}
 use Rattle.path_rules.specs.Expression.{Expr, In}
 use Rattle.path_rules.specs.Parts.{tabulate}

@@ -12,9 +12,9 @@ use borrow.Author.Tests.{lt-ltb, le-ltb}
 use Rattle.text_field.specs.Buffer.{Buf, puts}
 use Rattle.text_field.proofs.BufferLaws.{put-in, puts-one, puts-none, puts-then, puts-step}
 use Rattle.text_field.proofs.Steps.{drop-next, drop-end}
-use Rattle.graph_file.specs.Admission.{Row}
-use Rattle.graph_file.specs.Decode.{keptIf}
-use Rattle.graph_file.specs.Formed.{cellsOf}
+use Rattle.graph_rows.specs.Admission.{Row}
+use Rattle.graph_rows.specs.Decode.{keptIf}
+use Rattle.graph_rows.specs.Formed.{cellsOf}
 use Rattle.ruled.specs.Ruled.{rowsTo, isTransition, isAccepting}
 
 -- cells put one after the other

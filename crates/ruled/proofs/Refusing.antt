@@ -13,11 +13,10 @@ use Rattle.text_field.specs.Outcome.{Outcome, refused, done, andThen, refuseIf}
 use Rattle.text_field.specs.Answer.{answer}
 use Rattle.text_field.proofs.OutcomeLaws.{not-done}
 use Rattle.text_field.proofs.AnswerLaws.{answer-refused}
-use Rattle.graph_file.specs.Format.{textBytes}
-use Rattle.graph_file.specs.File.{readCells, writeText}
-use Rattle.graph_file.specs.Decode.{lettersOf, WasRead}
-use Rattle.graph_file.proofs.FormedTable.{formed-written}
-use Rattle.graph_file.proofs.FormedChanges.{nothing-but-nine}
+use Rattle.graph_rows.specs.Format.{textBytes}
+use Rattle.graph_file.specs.File.{readCells, writeText, WasRead}
+use Rattle.graph_rows.specs.Decode.{lettersOf}
+use Rattle.graph_file.proofs.Promises.{formed-written, nothing-but-nine}
 use Rattle.path_rules.specs.Expression.{Expr, In}
 use Rattle.path_rules.specs.Grammar.{Expression}
 use Rattle.path_rules.specs.Promises.{AtLeast, RowPromises}

@@ -12,8 +12,8 @@ use borrow.Author.Tests.{ltb-true}
 use Rattle.scope_graph.specs.Language.{_∈_}
 use Rattle.scope_graph.specs.Listing.{Pairwise}
 use Rattle.scope_graph.proofs.Lists.{and-left, and-right, pairwise-append}
-use Rattle.graph_file.specs.Admission.{Row}
-use Rattle.graph_file.specs.Decode.{keptIf}
+use Rattle.graph_rows.specs.Admission.{Row}
+use Rattle.graph_rows.specs.Decode.{keptIf}
 use Rattle.ruled.specs.Ruled.{rowsTo, isTransition, isAccepting, transitionAt, acceptAt, transitionsTo, acceptsTo}
 
 -- a row that is kept, and how many

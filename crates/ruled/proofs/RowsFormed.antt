@@ -12,14 +12,16 @@ use borrow.Author.Tests.{lt-ltb, le-leb, ltb-false, eq-eqb, ne-eqb}
 use Rattle.scope_graph.specs.Language.{_∈_}
 use Rattle.scope_graph.specs.Listing.{Pairwise}
 use Rattle.scope_graph.proofs.Lists.{Two, and-both, or-left, or-right}
-use Rattle.graph_file.specs.Format.{valuesOf, everyItem, transitions, accepts, sections, sectionAt, shapesOf, shapeAt}
-use Rattle.graph_file.specs.Admission.{Row, contentInRange, itemInRange, inRange, keyLess}
-use Rattle.graph_file.specs.File.{formIn}
-use Rattle.graph_file.specs.Decode.{rowsIn, WasRead}
-use Rattle.graph_file.specs.Formed.{tableOf, scopesIn, FormedRow, FormedSection, FormedRows, FormedTable, replaced}
-use Rattle.graph_file.specs.Line.{fieldFormed, itemFormed, sparesPlace, idleZero, idleZeros, formed}
-use Rattle.graph_file.proofs.FormedTable.{read-formed, table-formed}
-use Rattle.graph_file.proofs.FormedChanges.{section-replaced}
+use Rattle.graph_rows.specs.Format.{valuesOf, everyItem, transitions, accepts, sections, sectionAt, shapesOf, shapeAt}
+use Rattle.graph_rows.specs.Admission.{Row, contentInRange, itemInRange, inRange, keyLess}
+use Rattle.graph_rows.specs.Tested.{formIn}
+use Rattle.graph_rows.specs.Decode.{rowsIn}
+use Rattle.graph_file.specs.File.{WasRead}
+use Rattle.graph_rows.specs.Formed.{tableOf, scopesIn, FormedRow, FormedSection, FormedRows, FormedTable, replaced}
+use Rattle.graph_rows.specs.Values.{fieldFormed, itemFormed, sparesPlace, idleZero, idleZeros, formed}
+use Rattle.graph_file.proofs.Promises.{read-formed}
+use Rattle.graph_rows.proofs.FormedTable.{table-formed}
+use Rattle.graph_rows.proofs.FormedChanges.{section-replaced}
 use Rattle.path_rules.specs.declared.Rules.{Rules}
 use Rattle.ruled.specs.Ruled.{isTransition, isAccepting, transitionAt, acceptAt, transitionsTo, acceptsTo, transitionRows, acceptRows, ruledRows, ruledCells}
 use Rattle.ruled.proofs.RowLaws.{transition, accepting, rows-of, rows-pairwise, kept-pairwise, transition-is, transitions-most, accept-is, accepts-most}

@@ -10,9 +10,10 @@ use lib.ListN.{length}
 use Rattle.scope_graph.specs.Rows.{language}
 use Rattle.text_field.specs.Outcome.{refused, done}
 use Rattle.text_field.specs.Answer.{answer}
-use Rattle.graph_file.specs.Format.{transitionSection, acceptSection, textBytes}
-use Rattle.graph_file.specs.File.{readCells, formIn}
-use Rattle.graph_file.specs.Decode.{rowsIn, lettersOf, rulesOf}
+use Rattle.graph_rows.specs.Format.{transitionSection, acceptSection, textBytes}
+use Rattle.graph_file.specs.File.{readCells}
+use Rattle.graph_rows.specs.Tested.{formIn}
+use Rattle.graph_rows.specs.Decode.{rowsIn, lettersOf, rulesOf}
 use Rattle.path_rules.specs.Expression.{Expr, In}
 use Rattle.path_rules.specs.Grammar.{Expression}
 use Rattle.path_rules.specs.Parts.{tabulate}

@@ -6,11 +6,12 @@ use mathlib.Core.List.{List, [], _∷_, _++_}
 use lib.Dec.{eqb, ltb}
 use lib.ListN.{length, getD}
 use Rattle.text_field.specs.Outcome.{Outcome, andThen, refuseIf}
-use Rattle.graph_file.specs.Format.{labelSection, transitionSection, acceptSection, stateCount}
-use Rattle.graph_file.specs.Admission.{Row}
-use Rattle.graph_file.specs.File.{readCells, formIn, writeText}
-use Rattle.graph_file.specs.Decode.{keptIf, rowsIn, lettersOf}
-use Rattle.graph_file.specs.Formed.{tableOf, replaced}
+use Rattle.graph_rows.specs.Format.{labelSection, transitionSection, acceptSection, stateCount}
+use Rattle.graph_rows.specs.Admission.{Row}
+use Rattle.graph_file.specs.File.{readCells, writeText}
+use Rattle.graph_rows.specs.Tested.{formIn}
+use Rattle.graph_rows.specs.Decode.{keptIf, rowsIn, lettersOf}
+use Rattle.graph_rows.specs.Formed.{tableOf, replaced}
 use Rattle.path_rules.specs.Rules.{rulesOf}
 use Rattle.path_rules.specs.declared.Rules.{Rules}
 

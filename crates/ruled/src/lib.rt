@@ -20,8 +20,7 @@ ghost use mathlib.Core.Path.{_≡_};
 ghost use Prim.Native.Nat.{_+_, _≤_};
 ghost use lib.ListN.{length};
 ghost use Rattle.text_field.specs.Answer.{answer, leaves, answerOf};
-ghost use Rattle.graph_file.specs.Decode.{WasRead};
-ghost use Rattle.graph_file.specs.File.{writeText};
+ghost use Rattle.graph_file.specs.File.{WasRead, writeText};
 ghost use Rattle.graph_file.specs.Reader.{TextRoom};
 ghost use Rattle.ruled.specs.Ruled.{ruledCells, textBy, ruledOf};
 

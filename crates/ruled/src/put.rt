@@ -7,8 +7,8 @@ ghost use mathlib.Core.Path.{_≡_};
 ghost use Prim.Native.Nat.{_+_, _≤_};
 ghost use lib.ListN.{length};
 ghost use Rattle.text_field.specs.Buffer.{Buf, puts};
-ghost use Rattle.graph_file.specs.Format.{transitionSection, acceptSection};
-ghost use Rattle.graph_file.specs.Formed.{cellsOf};
+ghost use Rattle.graph_rows.specs.Format.{transitionSection, acceptSection};
+ghost use Rattle.graph_rows.specs.Formed.{cellsOf};
 ghost use Rattle.ruled.specs.Ruled.{isTransition, isAccepting, transitionAt, acceptAt, transitionsTo, acceptsTo};
 
 // The rules' table has a cell for each of so many states and labels, the most that a file may have.

@@ -21,15 +21,18 @@ use Rattle.text_field.specs.declared.NameRead.the-variants.{Name, NoName}
 use Rattle.text_field.specs.Bytes.{isCapital}
 use Rattle.text_field.specs.Number.{numberHere, numberPlaced, numberMeaning}
 use Rattle.text_field.specs.Name.{nameHere, nameMeaning}
-use Rattle.graph_file.specs.Format.{Item, byte, field, state, scope, mark, count, letter, label, end, name, kind, plain, turn, sectionAt, shapeAt, oldForm}
+use Rattle.graph_rows.specs.Format.{Item, byte, field, state, scope, mark, count, letter, label, end, name, kind, plain, turn, sectionAt, shapeAt, oldForm}
 use Rattle.text_field.specs.Outcome.{Outcome, refused, done, andThen, refuseIf}
-use Rattle.graph_file.specs.Admission.{Row, Sofar, blank, rowOf, unless, inRange, follows, admission}
-use Rattle.graph_file.specs.Line.{Reading, numberTaken, nameTaken, byteTaken, place, endTaken, readField, startsWith, readItem, placeOf, readItems, lineText, formed}
-use Rattle.graph_file.specs.Order.{orderFault}
-use Rattle.graph_file.specs.File.{Piece, Way, Stage, ifAdmitted, afterRow, oneRow, throughRows, afterNames, enough, throughSection, isEmpty, throughSections, ordered, atStart, whole, readNames, readRow, reading, formOf, readStage, madeOf, readCells, writeNames, writeRow, writing, hasForm, formIn, writeText}
+use Rattle.graph_rows.specs.Admission.{Row, Sofar, blank, rowOf, unless, inRange, follows, admission, place}
+use Rattle.graph_file.specs.Line.{Reading, numberTaken, nameTaken, byteTaken, endTaken, readField, readItem, placeOf, readItems, lineText}
+use Rattle.graph_rows.specs.Way.{startsWith, Piece, Way, Stage, ifAdmitted, afterRow, oneRow, throughRows, afterNames, enough, throughSection, isEmpty, throughSections, ordered, atStart, whole}
+use Rattle.graph_rows.specs.Values.{formed}
+use Rattle.graph_rows.specs.Order.{orderFault}
+use Rattle.graph_file.specs.File.{readNames, readRow, reading, formOf, readStage, madeOf, readCells, writeNames, writeRow, writing, writeText}
+use Rattle.graph_rows.specs.Tested.{testRow, hasForm, formIn}
 use Rattle.text_field.specs.Answer.{answer}
-use Rattle.graph_file.specs.Decode.{rulesOf, graphOf}
-use Rattle.graph_file.specs.Formed.{inForm}
+use Rattle.graph_rows.specs.Decode.{rulesOf, graphOf}
+use Rattle.graph_rows.specs.Formed.{inForm}
 use Rattle.path_row.specs.Form.{PathRow, mostMark, mostScope, numberUpTo, Front, startBy, spaceBy, markBy, headHere, rowBy, rowHere}
 use Rattle.comparison.specs.Compare.{Told, compareRows, compareAnswer}
 use Rattle.comparison.proofs.FewSteps.{compare-few}
@@ -186,9 +189,13 @@ write-names : (form k : ℕ) (rest : List ℕ) → Listed (writing form .names k
 unfolding writing writeNames
 write-names form k rest = carried _
 
+test-row : (form k : ℕ) (letters rest : List ℕ) → Listed (testRow form k letters rest)
+unfolding testRow
+test-row form k letters rest = if-listed _ 2 _ (omega arith) (omega arith) (if-listed _ 2 _ (omega arith) (omega arith) (carried _))
+
 write-row : (form k : ℕ) (letters rest : List ℕ) → Listed (writing form .row k letters rest)
 unfolding writing writeRow
-write-row form k letters rest = if-listed _ 2 _ (omega arith) (omega arith) (if-listed _ 2 _ (omega arith) (omega arith) (carried _))
+write-row form k letters rest = then-listed (testRow form k letters rest) _ (test-row form k letters rest) (λ p. carried _)
 
 write-listed : (cells : List ℕ) → Listed (writeText cells)
 unfolding writeText

@@ -15,6 +15,7 @@ use crate::say;
 use graph_file::name_sought;
 use graph_file::read;
 use graph_file::write;
+use graph_rows::table_refusal;
 use text_field::Answer;
 
 // Does writing these cells give this very text, in a buffer of its length?
@@ -59,8 +60,20 @@ pub fn reading(text: &[u8], room: usize) {
     read_shown(a, text, cells(&table, room));
 }
 
+// Does the test of the cells alone agree with what writing them answered? 9 is the writer's own.
+fn tested_alike(a: Answer, given: &[u64]) -> bool {
+    let refusal = table_refusal(given);
+    match a {
+        Answer::Written(_) => refusal == 0,
+        Answer::Refused(k) => refusal == k || (k == 9 && refusal == 0),
+    }
+}
+
 // What writing cells answered, and what the lent bytes hold.
 fn write_shown(a: Answer, given: &[u64], lent: &[u8]) {
+    if !tested_alike(a, given) {
+        say::word(b"TESTED OTHERWISE, ");
+    }
     match a {
         Answer::Written(n) => {
             written(b"written", n, lent);

@@ -1,6 +1,6 @@
 use mathlib.Core.Path.{sym, ap, _∙_}
 use Prim.Native.Nat.{_*_}
-use Rattle.graph_file.specs.Admission.{Row, value}
+use Rattle.graph_rows.specs.Admission.{Row, value}
 use Rattle.graph_table.proofs.Parts.{row-at, row-past}
 use Rattle.board.proofs.Passes.{first}
 use borrow.Author.Needs.{needs}

@@ -2,7 +2,7 @@ use Prim.Native.Nat.{ℕ, _≤_}
 use mathlib.Core.Path.{_≡_, sym, ap, subst, _∙_}
 use mathlib.Core.List.{List}
 use lib.ListN.{length, getD, set, length-set}
-use Rattle.graph_file.specs.Admission.{value, blank}
+use Rattle.graph_rows.specs.Admission.{value, blank}
 use Rattle.block.specs.Block.{nextCell}
 use Rattle.graph_table.specs.Sections.{rowsOf}
 use Rattle.board.specs.Tables.{tabulate, transitionCells, accepted, letterOf, BetterIs, hopefulSet, usableStates}

@@ -1,16 +1,16 @@
 use Prim.Native.Nat.{ℕ}
 use mathlib.Core.Path.{ap, _∙_}
 use lib.ListN.{drop}
-use Rattle.graph_file.specs.Admission.{blank}
+use Rattle.graph_rows.specs.Admission.{blank}
 use Rattle.graph_file.specs.Line.{readItems}
-use Rattle.graph_file.specs.Table.{itemsAt, lettersAt}
+use Rattle.graph_rows.specs.Table.{itemsAt, lettersAt}
 use Rattle.graph_file.proofs.ReadForm.{line-shown, line-hidden}
 use borrow.Author.Needs.{needs}
 use Rattle.graph_file.proofs.line.form_at.Statement.{statement}
 use Rattle.graph_file.proofs.line.form_at.Tie as tie
 use Rattle.graph_file.proofs.line.form_at.Reads as reads
 use Rattle.graph_file.proofs.line.form_at.Lts as lts
-use Rattle.graph_file.proofs.format.names_place.Reads as names-place-reads
+use Rattle.graph_rows.proofs.names_place.Reads as names-place-reads
 use Rattle.graph_file.proofs.line.read_line.Reads as read-line-reads
 
 names-place-requires : tie.Need-names-place-requires

@@ -1,13 +1,13 @@
 use mathlib.Core.Path.{sym, ap, _∙_}
-use Rattle.graph_file.specs.Format.{hasTurns}
-use Rattle.graph_file.specs.File.{formIn}
+use Rattle.graph_rows.specs.Format.{hasTurns}
+use Rattle.graph_rows.specs.Tested.{formIn}
 use Rattle.graph_file.proofs.ReadForm.{with-turns, without-turns}
 use borrow.Author.Needs.{needs}
 use Rattle.graph_file.proofs.line.kinds_at.Statement.{statement}
 use Rattle.graph_file.proofs.line.kinds_at.Tie as tie
 use Rattle.graph_file.proofs.line.kinds_at.Reads as reads
 use Rattle.graph_file.proofs.line.kinds_at.Lts as lts
-use Rattle.graph_file.proofs.format.has_turns.Reads as has-turns-reads
+use Rattle.graph_rows.proofs.has_turns.Reads as has-turns-reads
 use Rattle.graph_file.proofs.line.form_at.Reads as form-at-reads
 use Rattle.text_field.proofs.cell.Reads as cell-reads
 

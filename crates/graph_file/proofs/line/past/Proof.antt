@@ -1,6 +1,6 @@
-use mathlib.Core.Path.{sym, _∙_}
+use mathlib.Core.Path.{sym}
 use lib.ListN.{drop-of-length-le}
-use lib.Seq.{drop-drop, drop-nil}
+use lib.Seq.{drop-drop}
 use borrow.Author.Needs.{needs}
 use Rattle.graph_file.proofs.line.past.Statement.{statement}
 use Rattle.graph_file.proofs.line.past.Tie as tie

@@ -1,4 +1,4 @@
-use mathlib.Core.Path.{sym, _∙_}
+use mathlib.Core.Path.{sym}
 use Rattle.graph_file.proofs.LineLaws.{place-byte, place-field}
 use borrow.Author.Needs.{needs}
 use Rattle.graph_file.proofs.line.place_of.Statement.{statement}

@@ -4,17 +4,17 @@ use native.Mathlib.Omega.{arith}
 use borrow.Author.Needs.{needs}
 use borrow.Author.Tests.{not-true, not-false}
 use lib.ListN.{length, getD, drop}
-use Rattle.graph_file.specs.Admission.{blank}
+use Rattle.graph_rows.specs.Admission.{blank}
 use Rattle.graph_file.specs.Line.{readItems}
-use Rattle.graph_file.specs.Table.{formatBytes, itemsAt, lettersAt}
-use Rattle.graph_file.proofs.FormatLaws.{within-format}
+use Rattle.graph_rows.specs.Table.{formatBytes, itemsAt, lettersAt}
+use Rattle.graph_rows.proofs.FormatLaws.{within-format}
 use Rattle.graph_file.proofs.LineLaws.{line-refused, line-on, line-done}
 use Rattle.graph_file.specs.Reader.{lineOutcome}
 use Rattle.graph_file.proofs.line.read_line.Statement.{statement}
 use Rattle.graph_file.proofs.line.read_line.Tie as tie
 use Rattle.graph_file.proofs.line.read_line.Reads as reads
 use Rattle.graph_file.proofs.line.read_line.Lts as lts
-use Rattle.graph_file.proofs.format.item.Reads as item-reads
+use Rattle.graph_rows.proofs.item.Reads as item-reads
 use Rattle.graph_file.proofs.line.end_line.Reads as end-line-reads
 use Rattle.graph_file.proofs.line.line_item.Reads as line-item-reads
 

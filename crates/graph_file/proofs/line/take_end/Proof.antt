@@ -1,13 +1,12 @@
 use mathlib.Core.Path.{sym, _∙_}
 use Rattle.graph_file.proofs.LineLaws.{end-mark, end-letter}
-use native.Mathlib.Omega.{arith}
 use borrow.Author.Needs.{needs}
 use Rattle.graph_file.proofs.line.take_end.Statement.{statement}
 use Rattle.graph_file.proofs.line.take_end.Tie as tie
 use Rattle.graph_file.proofs.line.take_end.Reads as reads
 use Rattle.graph_file.proofs.line.take_end.Lts as lts
 use Rattle.graph_file.proofs.line.take_byte.Reads as take-byte-reads
-use Rattle.graph_file.proofs.rows.label_place.Reads as label-place-reads
+use Rattle.graph_rows.proofs.label_place.Reads as label-place-reads
 use Rattle.text_field.proofs.is_capital.Reads as is-capital-reads
 
 take-byte-requires : tie.Need-take-byte-requires

@@ -1,9 +1,9 @@
 use mathlib.Core.Path.{sym, _∙_}
 use native.Mathlib.Omega.{arith}
 use Rattle.graph_file.specs.Line.{readField}
-use Rattle.graph_file.specs.Table.{contentOf}
+use Rattle.graph_rows.specs.Table.{contentOf}
 use Rattle.graph_file.specs.Reader.{took}
-use Rattle.graph_file.proofs.ColumnLaws.{content-turn}
+use Rattle.graph_rows.proofs.ColumnLaws.{content-turn}
 use Rattle.graph_file.proofs.LineLaws.{field-number, first-at}
 use borrow.Author.Needs.{needs}
 use Rattle.graph_file.proofs.line.take_field.Statement.{statement}
@@ -14,7 +14,7 @@ use Rattle.graph_file.proofs.line.take_byte.Reads as take-byte-reads
 use Rattle.graph_file.proofs.line.take_end.Reads as take-end-reads
 use Rattle.graph_file.proofs.line.take_name.Reads as take-name-reads
 use Rattle.graph_file.proofs.line.take_number.Reads as take-number-reads
-use Rattle.graph_file.proofs.rows.label_place.Reads as label-place-reads
+use Rattle.graph_rows.proofs.label_place.Reads as label-place-reads
 use Rattle.text_field.proofs.byte_at.Reads as byte-at-reads
 use Rattle.text_field.proofs.is_capital.Reads as is-capital-reads
 use Rattle.text_field.proofs.is_lower.Reads as is-lower-reads

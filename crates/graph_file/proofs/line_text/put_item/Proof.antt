@@ -1,5 +1,5 @@
 use Prim.Native.Nat.{_-_}
-use Rattle.graph_file.specs.Table.{lettersAt}
+use Rattle.graph_rows.specs.Table.{lettersAt}
 use lib.ListN.{drop}
 use Rattle.text_field.proofs.BufferLaws.{puts-one}
 use Rattle.text_field.specs.Buffer.{puts}

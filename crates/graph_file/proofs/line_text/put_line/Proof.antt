@@ -1,6 +1,6 @@
 use Rattle.graph_file.proofs.WriteLaws.{text-more, text-last}
-use Rattle.graph_file.proofs.FormatLaws.{within-format}
-use Rattle.graph_file.specs.Table.{formatBytes, itemsAt, lettersAt}
+use Rattle.graph_rows.proofs.FormatLaws.{within-format}
+use Rattle.graph_rows.specs.Table.{formatBytes, itemsAt, lettersAt}
 use Rattle.graph_file.specs.Line.{lineText}
 use Rattle.text_field.proofs.BufferLaws.{puts-one, puts-step}
 use Rattle.text_field.specs.Buffer.{puts}
@@ -13,7 +13,7 @@ use Rattle.graph_file.proofs.line_text.put_line.Statement.{statement}
 use Rattle.graph_file.proofs.line_text.put_line.Tie as tie
 use Rattle.graph_file.proofs.line_text.put_line.Reads as reads
 use Rattle.graph_file.proofs.line_text.put_line.Lts as lts
-use Rattle.graph_file.proofs.format.item.Reads as item-reads
+use Rattle.graph_rows.proofs.item.Reads as item-reads
 use Rattle.graph_file.proofs.line_text.put_item.Reads as put-item-reads
 use Rattle.text_field.proofs.put_byte.Reads as put-byte-reads
 

@@ -3,23 +3,26 @@ use mathlib.Core.Path.{_≡_, refl, ap, _∙_}
 use native.Mathlib.Omega.{arith}
 use borrow.Author.Tests.{not-true, not-false}
 use lib.ListN.{length, drop}
-use Rattle.graph_file.specs.Admission.{value, blank}
+use Rattle.graph_rows.specs.Admission.{value, blank}
 use Rattle.graph_file.specs.Line.{readItems}
-use Rattle.graph_file.specs.Table.{itemsAt, lettersAt}
-use Rattle.graph_file.specs.Reader.{partOutcome, refusedOr, countsAfter}
-use Rattle.graph_file.proofs.ColumnLaws.{layout-line}
+use Rattle.graph_rows.specs.Table.{itemsAt, lettersAt}
+use Rattle.graph_file.specs.Reader.{partOutcome}
+use Rattle.graph_rows.specs.Tested.{refusedOr}
+use Rattle.graph_rows.specs.Counting.{countsAfter}
+use Rattle.graph_rows.proofs.ColumnLaws.{layout-line}
 use Rattle.graph_file.proofs.LineLaws.{line-length}
-use Rattle.graph_file.proofs.ReadLaws.{put-grown, placed-after, one-refused, one-not, one-taken, one-room}
+use Rattle.graph_file.proofs.ReadLaws.{put-grown, one-refused, one-not, one-taken, one-room}
+use Rattle.graph_rows.proofs.CountLaws.{placed-after}
 use Rattle.graph_file.proofs.SortedLaws.{put-sorted}
 use borrow.Author.Needs.{needs}
 use Rattle.graph_file.proofs.reader.read_row.Statement.{statement}
 use Rattle.graph_file.proofs.reader.read_row.Tie as tie
 use Rattle.graph_file.proofs.reader.read_row.Reads as reads
 use Rattle.graph_file.proofs.reader.read_row.Lts as lts
-use Rattle.graph_file.proofs.admission.admitted.Reads as admitted-reads
-use Rattle.graph_file.proofs.cells.put_row.Reads as put-row-reads
+use Rattle.graph_rows.proofs.admitted.Reads as admitted-reads
+use Rattle.graph_rows.proofs.put_row.Reads as put-row-reads
 use Rattle.graph_file.proofs.line.read_line.Reads as read-line-reads
-use Rattle.graph_file.proofs.rows.counts_after.Reads as counts-after-reads
+use Rattle.graph_rows.proofs.counts_after.Reads as counts-after-reads
 
 read-line-requires : tie.Need-read-line-requires
 read-line-requires c κs = search needs

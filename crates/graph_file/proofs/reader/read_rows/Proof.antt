@@ -4,15 +4,18 @@ use native.Mathlib.Omega.{arith}
 use native.Mathlib.Nat.{sub-zero}
 use borrow.Author.Needs.{needs}
 use lib.ListN.{length, drop}
-use Rattle.graph_file.specs.Format.{sectionAt}
-use Rattle.graph_file.specs.File.{throughRows, rowFollows, reading}
-use Rattle.graph_file.specs.Reader.{stageAt, Placed}
+use Rattle.graph_rows.specs.Format.{sectionAt}
+use Rattle.graph_rows.specs.Way.{throughRows}
+use Rattle.graph_file.specs.File.{rowFollows, reading}
+use Rattle.graph_file.specs.Reader.{stageAt}
+use Rattle.graph_rows.specs.Counting.{Placed}
 use Rattle.graph_file.specs.NameSought.{lineCount}
-use Rattle.graph_file.specs.Table.{rowsBack}
-use Rattle.graph_file.specs.LookBack.{SortedSofar}
-use Rattle.graph_file.proofs.AdmissionLaws.{sorted-none}
+use Rattle.graph_rows.specs.Table.{rowsBack}
+use Rattle.graph_rows.specs.LookBack.{SortedSofar}
+use Rattle.graph_rows.proofs.AdmissionLaws.{sorted-none}
 use Rattle.graph_file.proofs.SortedLaws.{read-sorted}
-use Rattle.graph_file.proofs.ReadLaws.{part-refused, part-done, rows-refused, rows-next, rows-over, rows-turn}
+use Rattle.graph_file.proofs.ReadLaws.{part-refused, part-done}
+use Rattle.graph_rows.proofs.WayLaws.{rows-off, rows-refused, rows-next, rows-turn}
 use Rattle.graph_file.proofs.RoomLaws.{row-passed, room-here}
 use Rattle.graph_file.proofs.reader.read_rows.Statement.{statement}
 use Rattle.graph_file.proofs.reader.read_rows.Tie as tie
@@ -58,7 +61,7 @@ same-length-2 c = c .before .loop .inv .4
 
 returns-2 : tie.Need-returns-2 Inv-loop μ-loop
 unfolding reading stageAt
-returns-2 c = let a = c .before .before .before .before .before .before .args in let l = c .before .loop in (part-done _ _ (a .part .now) refl ∙ sym (rows-over (reading (a .s .form)) (a .s .section) ((sectionAt (a .s .section) .most) - l .d .rows) (stageAt (l .table) (l .m) (l .d) (drop (l .place) (a .part .now))) (sym (l .inv .3) ∙ c .loop-test .left)) ∙ sym (rows-turn (reading (a .s .form)) (a .s .section) (sectionAt (a .s .section) .most) (l .d .rows) (stageAt (l .table) (l .m) (l .d) (drop (l .place) (a .part .now))) (l .inv .1)) ∙ l .inv .5, λ z. record { most = l .inv .1; longer = l .inv .2; placed = l .inv .0 })
+returns-2 c = let a = c .before .before .before .before .before .before .args in let l = c .before .loop in (part-done _ _ (a .part .now) refl ∙ sym (rows-off (reading (a .s .form)) ((sectionAt (a .s .section) .most) - l .d .rows) (a .s .section) (stageAt (l .table) (l .m) (l .d) (drop (l .place) (a .part .now))) (sym (l .inv .3) ∙ c .loop-test .left)) ∙ sym (rows-turn (reading (a .s .form)) (a .s .section) (sectionAt (a .s .section) .most) (l .d .rows) (stageAt (l .table) (l .m) (l .d) (drop (l .place) (a .part .now))) (l .inv .1)) ∙ l .inv .5, λ z. record { most = l .inv .1; longer = l .inv .2; placed = l .inv .0 })
 
 pub read-rows-spec : {M : Type 1} → statement M
 read-rows-spec =

@@ -3,21 +3,23 @@ use mathlib.Core.Path.{refl, ap, _∙_}
 use native.Mathlib.Omega.{arith}
 use borrow.Author.Tests.{not-true, not-false}
 use lib.ListN.{length, drop}
-use Rattle.graph_file.specs.Admission.{blank}
+use Rattle.graph_rows.specs.Admission.{blank}
 use Rattle.graph_file.specs.Line.{readItems}
-use Rattle.graph_file.specs.Table.{itemsAt, lettersAt}
-use Rattle.graph_file.specs.Reader.{partOutcome, refusedOr}
-use Rattle.graph_file.proofs.SectionLaws.{placed-fresh, names-refused, section-refused, section-few, section-done}
+use Rattle.graph_rows.specs.Table.{itemsAt, lettersAt}
+use Rattle.graph_file.specs.Reader.{partOutcome}
+use Rattle.graph_rows.specs.Tested.{refusedOr}
+use Rattle.graph_rows.proofs.CountLaws.{placed-fresh}
+use Rattle.graph_file.proofs.SectionLaws.{names-refused, section-refused, section-few, section-done}
 use Rattle.graph_file.proofs.RoomLaws.{room-later}
 use borrow.Author.Needs.{needs}
-use Rattle.graph_file.proofs.ColumnLaws.{layout-form, layout-section, layout-known}
+use Rattle.graph_rows.proofs.ColumnLaws.{layout-form, layout-section, layout-known}
 use Rattle.graph_file.proofs.reader.read_section.Statement.{statement}
 use Rattle.graph_file.proofs.reader.read_section.Tie as tie
 use Rattle.graph_file.proofs.reader.read_section.Reads as reads
 use Rattle.graph_file.proofs.reader.read_section.Lts as lts
-use Rattle.graph_file.proofs.format.least.Reads as least-reads
-use Rattle.graph_file.proofs.format.layout_of.Reads as layout-of-reads
-use Rattle.graph_file.proofs.format.names_place.Reads as names-place-reads
+use Rattle.graph_rows.proofs.least.Reads as least-reads
+use Rattle.graph_rows.proofs.layout_of.Reads as layout-of-reads
+use Rattle.graph_rows.proofs.names_place.Reads as names-place-reads
 use Rattle.graph_file.proofs.line.read_line.Reads as read-line-reads
 use Rattle.graph_file.proofs.reader.clipped.Reads as clipped-reads
 use Rattle.graph_file.proofs.reader.read_rows.Reads as read-rows-reads

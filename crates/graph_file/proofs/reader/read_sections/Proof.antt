@@ -2,9 +2,10 @@ use Prim.Native.Nat.{ℕ}
 use mathlib.Core.Path.{ap, _∙_}
 use native.Mathlib.Omega.{arith}
 use lib.ListN.{length, drop, set, length-set}
-use Rattle.graph_file.specs.Format.{kindForm, declarationSection}
+use Rattle.graph_rows.specs.Format.{kindForm, declarationSection}
 use Rattle.graph_file.specs.File.{readNames, formShown, formWith}
-use Rattle.graph_file.specs.Reader.{partOutcome, refusedOr}
+use Rattle.graph_file.specs.Reader.{partOutcome}
+use Rattle.graph_rows.specs.Tested.{refusedOr}
 use Rattle.graph_file.proofs.RoomLaws.{room-first, room-same, room-cells}
 use Rattle.graph_file.proofs.ReadForm.{six-refused, form-here, last-refused, last-left, last-over, form-kept}
 use borrow.Author.Needs.{needs}

@@ -4,11 +4,14 @@ use mathlib.Core.Path.{_≡_, refl, sym, ap, _∙_}
 use native.Mathlib.Omega.{arith}
 use borrow.Author.Needs.{needs}
 use lib.ListN.{length, drop}
-use Rattle.graph_file.specs.File.{throughSome, reading}
-use Rattle.graph_file.specs.Reader.{stageAt, Placed, roomBefore}
+use Rattle.graph_rows.specs.Way.{throughSome}
+use Rattle.graph_file.specs.File.{reading}
+use Rattle.graph_file.specs.Reader.{stageAt}
+use Rattle.graph_rows.specs.Counting.{Placed, roomBefore}
 use Rattle.graph_file.specs.NameSought.{lineCount}
 use Rattle.graph_file.proofs.ReadLaws.{part-refused, part-done}
-use Rattle.graph_file.proofs.SectionLaws.{some-refused, some-next, some-more, some-over, some-taken, placed-next, room-next, room-below, part-length, section-whole, stage-part}
+use Rattle.graph_file.proofs.SectionLaws.{some-refused, some-next, some-more, some-over, some-taken, part-length, section-whole, stage-part}
+use Rattle.graph_rows.proofs.CountLaws.{placed-next, room-next, room-below}
 use Rattle.graph_file.proofs.RoomLaws.{section-passed, room-section}
 use Rattle.graph_file.proofs.reader.read_some.Statement.{statement}
 use Rattle.graph_file.proofs.reader.read_some.Tie as tie

@@ -3,7 +3,7 @@ use mathlib.Core.Path.{ap, _∙_}
 use mathlib.Core.List.{List}
 use native.Mathlib.Omega.{arith}
 use lib.ListN.{length, set, length-set}
-use Rattle.graph_file.specs.Format.{turnForm, edgeSection}
+use Rattle.graph_rows.specs.Format.{turnForm, edgeSection}
 use Rattle.graph_file.specs.File.{readNames, formShown}
 use Rattle.graph_file.proofs.RoomLaws.{room-first, room-same}
 use Rattle.graph_file.proofs.SectionLaws.{part-is}

@@ -1,4 +1,3 @@
-use mathlib.Core.Path.{sym, _∙_}
 use Rattle.graph_file.proofs.ReadLaws.{follows-none, follows-byte}
 use borrow.Author.Needs.{needs}
 use Rattle.graph_file.proofs.reader.row_comes.Statement.{statement}

@@ -1,14 +1,11 @@
 use Prim.Native.Nat.{_<_}
 use Rattle.graph_file.proofs.SoughtLaws.{after-stop, after-done, after-next}
-use Prim.Native.Nat.{_+_, _-_, _≤_}
-use mathlib.Core.Path.{_≡_, refl, sym, ap, _∙_}
+use Prim.Native.Nat.{_-_, _≤_}
+use mathlib.Core.Path.{_≡_, refl}
 use lib.ListN.{length, drop}
-use lib.Seq.{drop-cons}
 use native.Mathlib.Omega.{arith}
-use native.Mathlib.Numerals.{add-one}
 use borrow.Author.Needs.{needs}
-use Rattle.graph_file.specs.NameSought.{lineCount, afterLines}
-use Rattle.graph_file.proofs.SoughtLaws.{after-zero, after-nil, after-step}
+use Rattle.graph_file.specs.NameSought.{afterLines}
 use Rattle.graph_file.proofs.sought.after_lines.Statement.{statement}
 use Rattle.graph_file.proofs.sought.after_lines.Tie as tie
 use Rattle.graph_file.proofs.sought.after_lines.Reads as reads

@@ -2,14 +2,11 @@ use Prim.Native.Nat.{_<_}
 use lib.ListN.{getD}
 use Rattle.graph_file.proofs.SoughtLaws.{count-small, count-next, count-done}
 use Prim.Native.Nat.{_+_, _-_, _≤_}
-use mathlib.Core.Path.{_≡_, refl, sym, ap, _∙_}
+use mathlib.Core.Path.{_≡_}
 use lib.ListN.{length, drop}
-use lib.Seq.{drop-cons}
 use native.Mathlib.Omega.{arith}
-use native.Mathlib.Numerals.{add-one}
 use borrow.Author.Needs.{needs}
 use Rattle.graph_file.specs.NameSought.{lineCount}
-use Rattle.graph_file.proofs.SoughtLaws.{count-step}
 use Rattle.graph_file.proofs.sought.line_count.Statement.{statement}
 use Rattle.graph_file.proofs.sought.line_count.Tie as tie
 use Rattle.graph_file.proofs.sought.line_count.Reads as reads

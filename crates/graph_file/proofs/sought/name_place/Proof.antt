@@ -1,5 +1,5 @@
-use Rattle.graph_file.specs.Format.{shapeAt, querySection}
-use Rattle.graph_file.specs.File.{formIn}
+use Rattle.graph_rows.specs.Format.{shapeAt, querySection}
+use Rattle.graph_rows.specs.Tested.{formIn}
 use Prim.Native.Nat.{ℕ, _+_, _-_}
 use mathlib.Core.Path.{_≡_, ap, _∙_}
 use native.Mathlib.Omega.{arith}

@@ -1,9 +1,8 @@
 use Prim.Native.Nat.{_-_, _≤_}
-use mathlib.Core.Path.{_≡_, sym, ap, subst, _∙_}
+use mathlib.Core.Path.{sym, ap, subst, _∙_}
 use native.Mathlib.Omega.{arith}
 use lib.ListN.{length, take, drop}
 use Rattle.graph_file.specs.declared.sought.NamePlace.{NamePlace}
-use Rattle.graph_file.specs.NameSought.{nameSought}
 use Rattle.graph_file.proofs.SoughtLaws.{sought-there}
 use borrow.Author.Needs.{needs}
 use Rattle.graph_file.proofs.sought.name_sought.Statement.{statement}

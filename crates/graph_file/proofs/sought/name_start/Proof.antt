@@ -7,7 +7,7 @@ use Rattle.graph_file.proofs.sought.name_start.Tie as tie
 use Rattle.graph_file.proofs.sought.name_start.Reads as reads
 use Rattle.graph_file.proofs.sought.name_start.Lts as lts
 use Rattle.graph_file.proofs.sought.past_kind.Reads as past-kind-reads
-use Rattle.graph_file.proofs.format.has_kinds.Reads as has-kinds-reads
+use Rattle.graph_rows.proofs.has_kinds.Reads as has-kinds-reads
 use Rattle.graph_file.proofs.sought.past_number.Reads as past-number-reads
 use Rattle.graph_file.proofs.sought.past_space.Reads as past-space-reads
 

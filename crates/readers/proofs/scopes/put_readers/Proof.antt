@@ -12,7 +12,7 @@ use Rattle.scope_graph.specs.Rows.{language}
 use Rattle.scope_graph.specs.Ends.{endsAt}
 use Rattle.scope_graph.specs.Readers.{queryFor, readers}
 use Rattle.text_field.specs.Buffer.{Buf, puts}
-use Rattle.graph_file.specs.Decode.{rulesOf, graphOf}
+use Rattle.graph_rows.specs.Decode.{rulesOf, graphOf}
 use Rattle.graph_table.specs.declared.rows.DeclarationRow.{DeclarationRow}
 use Rattle.graph_table.specs.Values.{packed}
 use Rattle.board.specs.Marks.{DeclaringIs}

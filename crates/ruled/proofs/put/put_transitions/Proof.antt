@@ -4,7 +4,7 @@ use mathlib.Core.Path.{_≡_, refl, ap, _∙_}
 use lib.ListN.{length}
 use native.Mathlib.Omega.{arith}
 use Rattle.text_field.specs.Buffer.{Buf, puts}
-use Rattle.graph_file.specs.Formed.{cellsOf}
+use Rattle.graph_rows.specs.Formed.{cellsOf}
 use Rattle.ruled.specs.Ruled.{transitionsTo}
 use Rattle.ruled.proofs.PutLaws.{rows-start, rows-more}
 use Rattle.ruled.proofs.put.put_transitions.Statement.{statement}

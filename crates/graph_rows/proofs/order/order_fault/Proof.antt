@@ -1,0 +1,62 @@
+use Prim.Native.Nat.{_-_, _≤_, _+_, _*_}
+use mathlib.Core.Path.{_≡_, sym, ap, _∙_}
+use native.Mathlib.Omega.{arith}
+use borrow.Author.Needs.{needs}
+use lib.ListN.{drop}
+use Rattle.graph_rows.specs.Order.{someRow, pairFault, orderFault}
+use Rattle.graph_rows.specs.Table.{rowsAt, pairsAt}
+use Rattle.graph_rows.proofs.RowLaws.{some-hit, some-miss, some-none, rows-start}
+use Rattle.graph_rows.proofs.order.order_fault.Statement.{statement}
+use Rattle.graph_rows.proofs.order.order_fault.Tie as tie
+use Rattle.graph_rows.proofs.order.order_fault.Reads as reads
+use Rattle.graph_rows.proofs.order.order_fault.Lts as lts
+use Rattle.graph_rows.proofs.order.is_fault.Reads as is-fault-reads
+use Rattle.graph_rows.proofs.order.pair_at.Reads as pair-at-reads
+
+abbrev Inv-loop : tie.InvT-loop
+Inv-loop table labels pairs i₀ i = (i ≤ pairs) × (someRow (pairFault (pairsAt (labels) (pairs) (table))) (rowsAt (pairs - i) (drop (1 + 6 * labels + 6 * i) table)) ≡ someRow (pairFault (pairsAt (labels) (pairs) (table))) (rowsAt pairs (drop (1 + 6 * labels) table)))
+
+abbrev μ-loop : tie.MeasureT-loop
+μ-loop table labels pairs i₀ i = pairs - i
+
+loop-holds : tie.Need-loop-holds Inv-loop μ-loop
+loop-holds c = let a = c .before .args in (omega arith, ap (someRow (pairFault (pairsAt (a .labels) (a .pairs) (a .table .now)))) (rows-start (a .table .now) (1 + 6 * a .labels) (a .pairs)))
+
+pair-at-requires : tie.Need-pair-at-requires Inv-loop μ-loop
+pair-at-requires c κs = search needs
+
+is-fault-requires : tie.Need-is-fault-requires Inv-loop μ-loop
+is-fault-requires c κs = search needs
+
+returns : tie.Need-returns Inv-loop μ-loop
+unfolding pairsAt orderFault
+returns c = let a = c .before .before .before .before .before .before .args in let l = c .before .before .before .before .loop in sym (sym (l .inv .1) ∙ some-hit (pairFault (pairsAt (a .labels) (a .pairs) (a .table .now))) (a .table .now) (1 + 6 * a .labels) (a .pairs) (l .i) (c .before .before .before .loop-test .taken) (rw (← c .before .before .pair-at .ensures, ← c .before .is-fault .ensures) (c .if1 .taken)))
+
+add-i : tie.Need-add-i Inv-loop μ-loop
+add-i c = omega arith
+
+loop-less : tie.Need-loop-less Inv-loop μ-loop
+loop-less c = omega arith
+
+loop-again : tie.Need-loop-again Inv-loop μ-loop
+unfolding pairsAt orderFault
+loop-again c = let a = c .before .before .before .before .before .before .args in let l = c .before .before .before .before .loop in (omega arith, some-miss (pairFault (pairsAt (a .labels) (a .pairs) (a .table .now))) (a .table .now) (1 + 6 * a .labels) (a .pairs) (l .i) (c .before .before .before .loop-test .taken) (rw (← c .before .before .pair-at .ensures, ← c .before .is-fault .ensures) (c .if1 .left)) ∙ l .inv .1)
+
+returns-2 : tie.Need-returns-2 Inv-loop μ-loop
+unfolding pairsAt orderFault
+returns-2 c = let a = c .before .before .before .args in let l = c .before .loop in sym (sym (l .inv .1) ∙ some-none (pairFault (pairsAt (a .labels) (a .pairs) (a .table .now))) (a .table .now) (1 + 6 * a .labels) (a .pairs) (l .i) (c .loop-test .left))
+
+pub order-fault-spec : {M : Type 1} → statement M
+order-fault-spec =
+    tie.close
+    (tie.spec
+    Inv-loop
+    μ-loop
+    loop-holds
+    pair-at-requires
+    is-fault-requires
+    returns
+    add-i
+    loop-less
+    loop-again
+    returns-2)

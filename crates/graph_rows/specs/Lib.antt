@@ -1,0 +1,14 @@
+pub mod Format
+pub mod Admission
+pub mod LookBack
+pub mod Order
+pub mod Values
+pub mod Way
+pub mod Tested
+pub mod Decode
+pub mod Formed
+pub mod Accepted
+pub mod NameOrder
+pub mod Table
+pub mod Counting
+pub mod Alike
