@@ -1,1 +1,7 @@
 -- Laws of the definitions of specs/, and the promises.
+pub mod Numbers
+pub mod Sections
+pub mod PutIn
+pub mod Rows
+pub mod Built
+pub mod Turns
