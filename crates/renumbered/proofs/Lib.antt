@@ -5,3 +5,5 @@ pub mod PutIn
 pub mod Rows
 pub mod Built
 pub mod Turns
+pub mod Under
+pub mod FormedUnder
