@@ -7,3 +7,4 @@ pub mod Built
 pub mod Turns
 pub mod Under
 pub mod FormedUnder
+pub mod SectionUnder
