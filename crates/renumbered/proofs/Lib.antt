@@ -8,3 +8,5 @@ pub mod Turns
 pub mod Under
 pub mod FormedUnder
 pub mod SectionUnder
+pub mod BackList
+pub mod Promises
