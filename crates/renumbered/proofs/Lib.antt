@@ -9,4 +9,5 @@ pub mod Under
 pub mod FormedUnder
 pub mod SectionUnder
 pub mod BackList
+pub mod Graphs
 pub mod Promises

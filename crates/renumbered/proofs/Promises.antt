@@ -12,7 +12,7 @@ use Rattle.scope_graph.specs.Graph.{Query}
 use Rattle.scope_graph.specs.Renamed.{newNumber, oldNumber, SameElements, edgeUnder, declarationUnder, openUnder, queryUnder, Renumbers, Renamed, RenamedPromises}
 use Rattle.scope_graph.proofs.Lists.{here, there, map-intro, map-elim}
 use Rattle.scope_graph.proofs.Renamed.{renamed-right}
-use Rattle.graph_rows.specs.Format.{Sequence, sectionAt, shapeAt, labelSection, pairSection, transitionSection, acceptSection, countSection, edgeSection, declarationSection, openSection, querySection}
+use Rattle.graph_rows.specs.Format.{queries, sections, sectionAt, shapeAt, labelSection, pairSection, transitionSection, acceptSection, countSection, edgeSection, declarationSection, openSection, querySection}
 use Rattle.graph_rows.specs.Admission.{Row, value, blank}
 use Rattle.graph_rows.specs.Order.{orderFault}
 use Rattle.graph_rows.specs.Tested.{formIn}
@@ -27,6 +27,7 @@ use Rattle.renumbered.specs.Promises.{WayBack, StillFormed, SameGraph, W
 use Rattle.renumbered.proofs.Rows.{sequenced-length, sequenced-has}
 use Rattle.renumbered.proofs.Sections.{row-under}
 use Rattle.renumbered.proofs.SectionUnder.{rows-kept, section-formed, section-back}
+use Rattle.renumbered.proofs.Graphs.{edge-under, declaration-under, open-under, query-under, same-elements, same-sequence}
 use Rattle.renumbered.proofs.BackList.{renumbers, back-once, back-new, back-twice}
 
 -- where a section begins goes by how many rows the sections above have
@@ -153,6 +154,47 @@ module _ (was cells : List ℕ) (t : FormedTable cells) (o : EachOnce (scopesOf 
       (sections-same 9 0 (λ k. rowsUnder (newNumber (backOf was)) form k (rowsIn k (renumberedBy was cells))) (λ k. rowsIn k cells) (λ k a h. rows-back k h))
       ∙ sym (t .in-turn)
 
+  -- the graph
+  five : (k : ℕ) → k < 9 → (row : Row) → row ∈ rowsIn k cells → length row ≡ 5
+  five k h row m = section k h .each row m .five
+
+  abbrev r : Rules
+  r = rulesOf cells
+
+  -- the elements of a section's rows, under the new numbers
+  elements : {A : Type 0} (k : ℕ) → k < 9 → (of : Row → A) (change : A → A) → ((row : Row) → length row ≡ 5 → of (rowUnder f (shapeAt form k .row) row) ≡ change (of row))
+      → SameElements (map of (rowsIn k (renumberedBy was cells))) (map change (map of (rowsIn k cells)))
+  unfolding rowsUnder
+  elements {A} k h of change each =
+      subst (λ (rows : List Row). SameElements (map of rows) (map change (map of (rowsIn k cells)))) (sym (rows-are k h))
+      (same-elements (rowUnder f (shapeAt form k .row)) of change (rowsIn k cells) (λ row m. each row (five k h row m)) (sectionAt k .sequence) (sectionAt k .key))
+
+  new-graph : Renamed (language r) f (graphIn r cells) (graphIn r (renumberedBy was cells))
+  new-graph = record {
+    scopes = scopes-stay;
+    edges = elements edgeSection (omega arith) (edgeOf r) (edgeUnder (language r) f) (edge-under r f form);
+    declarations = elements declarationSection (omega arith) (declarationOf r) (declarationUnder (language r) f) (declaration-under r f form);
+  }
+
+  new-opens : SameElements (opensIn r (renumberedBy was cells)) (map (openUnder (language r) f) (opensIn r cells))
+  new-opens = elements openSection (omega arith) (openPairOf r) (openUnder (language r) f) (open-under r f form)
+
+  new-queries : queriesIn r (renumberedBy was cells) ≡ map (queryUnder (language r) f) (queriesIn r cells)
+  unfolding rowsUnder sequenced sectionAt sections queries
+  new-queries =
+      ap (map (queryOf r)) (rows-are querySection (omega arith))
+      ∙ same-sequence (rowUnder f (shapeAt form querySection .row)) (queryOf r) (queryUnder (language r) f) (rowsIn querySection cells)
+      (λ row m. query-under r f form row (five querySection (omega arith) row m))
+
+  seen : (q : Query (language r)) → q ∈ queriesIn r cells
+      → RenamedPromises (language r) f (oldNumber was) (graphIn r cells) (graphIn r (renumberedBy was cells)) (opensIn r cells) (opensIn r (renumberedBy was cells)) q
+  unfolding graphOf opensOf queriesOf
+  seen q m =
+      let start = accepted .starts q m in
+      let a = accepted .accepted q start in
+      renamed-right .renamed (language r) f (oldNumber was) (graphIn r cells) (graphIn r (renumberedBy was cells)) (opensIn r cells) (opensIn r (renumberedBy was cells)) q
+      (a .laws) (a .in-range) start (accepted .open-at) numbers new-graph new-opens
+
 pub way-back-given : WayBackGiven
 way-back-given was cells t o =
     let n = scopesOf cells in
@@ -167,3 +209,11 @@ way-back-given was cells t o =
 
 pub formed-given : FormedGiven
 formed-given was cells t o = still-formed was cells t o
+
+pub graph-given : GraphGiven
+graph-given was cells t o = record {
+  graph = new-graph was cells t o;
+  opens = new-opens was cells t o;
+  queries = new-queries was cells t o;
+  seen = seen was cells t o;
+}
