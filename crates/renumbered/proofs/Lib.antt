@@ -2,6 +2,7 @@
 pub mod Numbers
 pub mod Sections
 pub mod PutIn
+pub mod Last
 pub mod Rows
 pub mod Built
 pub mod Turns
