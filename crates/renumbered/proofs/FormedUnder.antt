@@ -3,11 +3,10 @@ use Prim.Native.Nat.{ℕ, zero, suc, _+_, _≤_, _<_}
 use mathlib.Core.Path.{_≡_, refl, sym, ap, _∙_}
 use mathlib.Core.List.{List, [], _∷_}
 use mathlib.Core.Bool.{Bool, true, false, not, _&&_, _||_, false≢true}
-use mathlib.Core.Logic.{_⊎_, inl, inr, ⊎-elim}
+use mathlib.Core.Logic.{⊎-elim}
 use native.Mathlib.Omega.{arith}
 use borrow.Author.Tests.{eqb-true, eq-eqb, le-leb, le-ltb, lt-leb, lt-ltb}
-use lib.Dec.{eqb, ltb, leb}
-use lib.ListN.{length}
+use lib.Dec.{eqb}
 use Rattle.scope_graph.specs.Renamed.{Renumbers}
 use Rattle.scope_graph.proofs.Lists.{Two, and-left, and-right, and-both, or-cases, or-left, or-right, not-is}
 use Rattle.graph_rows.specs.Format.{Content, state, scope, mark, count, letter, label, end, name, kind, plain, turn, Item, byte, field, valuesOf, everyItem, hasKinds, hasTurns, edgeShape, declarationShape, queryShape, shapesOf, shapeAt}

@@ -9,7 +9,7 @@ use Rattle.scope_graph.specs.Rows.{Rules, language}
 use Rattle.scope_graph.specs.Renamed.{SameElements, edgeUnder, declarationUnder, openUnder, queryUnder}
 use Rattle.scope_graph.proofs.Lists.{here, there, map-intro, map-elim}
 use Rattle.graph_rows.specs.Format.{Sequence, shapeAt, edgeSection, declarationSection, openSection, querySection}
-use Rattle.graph_rows.specs.Admission.{Row, value}
+use Rattle.graph_rows.specs.Admission.{Row}
 use Rattle.graph_rows.specs.Decode.{nameAt, edgeOf, declarationOf, openPairOf, queryOf}
 use Rattle.renumbered.specs.Renumbered.{valueUnder, rowUnder, sequenced}
 use Rattle.renumbered.proofs.Rows.{sequenced-has}

@@ -12,3 +12,4 @@ pub mod SectionUnder
 pub mod BackList
 pub mod Graphs
 pub mod Promises
+pub mod Examples

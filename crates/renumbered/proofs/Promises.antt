@@ -1,31 +1,28 @@
 -- Proves specs/Promises. Assumes nothing.
-use Prim.Native.Nat.{ℕ, zero, suc, _+_, _*_, _≤_, _<_}
+use Prim.Native.Nat.{ℕ, zero, suc, _≤_, _<_}
 use mathlib.Core.Path.{_≡_, refl, sym, ap, subst, _∙_}
-use mathlib.Core.List.{List, [], _∷_, map}
+use mathlib.Core.List.{List, _∷_, map}
 use mathlib.Core.Bool.{false}
-use mathlib.Core.Logic.{_↔_}
 use native.Mathlib.Omega.{arith}
 use lib.ListN.{length, getD, length-map}
 use Rattle.scope_graph.specs.Language.{_∈_}
 use Rattle.scope_graph.specs.Rows.{Rules, language}
 use Rattle.scope_graph.specs.Graph.{Query}
 use Rattle.scope_graph.specs.Renamed.{newNumber, oldNumber, SameElements, edgeUnder, declarationUnder, openUnder, queryUnder, Renumbers, Renamed, RenamedPromises}
-use Rattle.scope_graph.proofs.Lists.{here, there, map-intro, map-elim}
 use Rattle.scope_graph.proofs.Renamed.{renamed-right}
 use Rattle.graph_rows.specs.Format.{queries, sections, sectionAt, shapeAt, labelSection, pairSection, transitionSection, acceptSection, countSection, edgeSection, declarationSection, openSection, querySection}
 use Rattle.graph_rows.specs.Admission.{Row, value, blank}
 use Rattle.graph_rows.specs.Order.{orderFault}
 use Rattle.graph_rows.specs.Tested.{formIn}
-use Rattle.graph_rows.specs.Decode.{rowsIn, lettersOf, orderPairOf, transitionOf, rulesOf, nameAt, edgeOf, declarationOf, openPairOf, queryOf, scopesOf, graphIn, opensIn, queriesIn, graphOf, opensOf, queriesOf, sectionPlace}
-use Rattle.graph_rows.specs.Formed.{tableOf, cellsFrom, scopesIn, FormedSection, FormedRows, FormedTable}
+use Rattle.graph_rows.specs.Decode.{rowsIn, lettersOf, orderPairOf, transitionOf, rulesOf, edgeOf, declarationOf, openPairOf, queryOf, scopesOf, graphIn, opensIn, queriesIn, graphOf, opensOf, queriesOf, sectionPlace}
+use Rattle.graph_rows.specs.Formed.{tableOf, scopesIn, FormedSection, FormedRows, FormedTable}
 use Rattle.graph_rows.specs.Accepted.{AcceptedTable}
 use Rattle.graph_rows.proofs.DecodeAccepted.{table-accepted}
 use Rattle.graph_rows.proofs.FormedTable.{formed-admitted, table-formed}
 use Rattle.graph_change.proofs.SectionLaws.{sections-same}
-use Rattle.renumbered.specs.Renumbered.{valueUnder, rowUnder, sequenced, rowsUnder, renumberedBy, EachOnce, backOf}
-use Rattle.renumbered.specs.Promises.{WayBack, StillFormed, SameGraph, WayBackGiven, FormedGiven, GraphGiven}
-use Rattle.renumbered.proofs.Rows.{sequenced-length, sequenced-has}
-use Rattle.renumbered.proofs.Sections.{row-under}
+use Rattle.renumbered.specs.Renumbered.{rowUnder, sequenced, rowsUnder, renumberedBy, EachOnce, backOf}
+use Rattle.renumbered.specs.Promises.{StillFormed, WayBackGiven, FormedGiven, GraphGiven}
+use Rattle.renumbered.proofs.Rows.{sequenced-length}
 use Rattle.renumbered.proofs.SectionUnder.{rows-kept, section-formed, section-back}
 use Rattle.renumbered.proofs.Graphs.{edge-under, declaration-under, open-under, query-under, same-elements, same-sequence}
 use Rattle.renumbered.proofs.BackList.{renumbers, back-once, back-new, back-twice}

@@ -1,10 +1,10 @@
 -- The rows of a section under other numbers: they are formed, and the old numbers lead back.
 -- Assumes nothing.
-use Prim.Native.Nat.{ℕ, suc, _≤_, _<_}
+use Prim.Native.Nat.{ℕ, _≤_, _<_}
 use mathlib.Core.Path.{_≡_, refl, sym, ap, subst, _∙_}
 use mathlib.Core.List.{List, [], _∷_, map, List·Memᴰ·cases-cons, List·Memᴰ·not-nil, Memᴰ·cast}
 use mathlib.Core.Bool.{true, false}
-use mathlib.Core.Logic.{_⊎_, _↔_, inl, inr, ⊎-elim}
+use mathlib.Core.Logic.{_↔_, ⊎-elim}
 use native.Mathlib.Omega.{arith}
 use borrow.Author.Tests.{eq-eqb, eqb-true, eqb-false, lt-leb, ne-eqb}
 use lib.Dec.{eqb}
@@ -13,16 +13,15 @@ use Rattle.scope_graph.specs.Language.{_∈_}
 use Rattle.scope_graph.specs.Path.{Distinct}
 use Rattle.scope_graph.specs.Listing.{Pairwise}
 use Rattle.scope_graph.specs.Renamed.{Renumbers}
-use Rattle.scope_graph.proofs.Lists.{Two, here, there, true-false, map-intro, map-elim, map-pairwise, pairwise-weaken}
-use Rattle.graph_rows.specs.Format.{Item, Sequence, ascending, apart, once, free, sectionAt, shapeAt}
-use Rattle.graph_rows.specs.Admission.{Row, value, inRange, keyLess, sameSource, sameEdge}
+use Rattle.scope_graph.proofs.Lists.{Two, here, there, map-intro, map-elim, map-pairwise, pairwise-weaken}
+use Rattle.graph_rows.specs.Format.{Sequence, ascending, apart, once, free, sectionAt, shapeAt}
+use Rattle.graph_rows.specs.Admission.{Row, value, keyLess, sameSource, sameEdge}
 use Rattle.graph_rows.specs.Formed.{InTurn, FormedRow, FormedSection}
 use Rattle.graph_change.specs.Place.{sameKey}
 use Rattle.graph_change.specs.Changed.{insertedAll}
 use Rattle.graph_change.specs.Promises.{Ascending}
 use Rattle.graph_change.proofs.Keys.{less-not-back, less-not-same}
 use Rattle.graph_change.proofs.RowLaws.{one-list, sorted-is, sorted-already}
-use Rattle.graph_change.proofs.SectionLaws.{Five}
 use Rattle.renumbered.specs.Renumbered.{valueUnder, rowUnder, sequenced, rowsUnder}
 use Rattle.renumbered.proofs.Rows.{sequenced-length, sequenced-has}
 use Rattle.renumbered.proofs.Sections.{row-under}
@@ -135,6 +134,12 @@ module _ (n : ℕ) (f b : ℕ → ℕ) (r : Renumbers n f b) (few : n ≤ 99999)
         any-two (map under rows) (edges-under a) x y (sequenced-has ascending key (map under rows) x .0 m) (sequenced-has ascending key (map under rows) y .0 l)
         (λ e. let z : keyLess key x x ≡ true = ap (keyLess key x) e ∙ h in less-not-back key x x z z)) s
 
+    -- and each of them is formed
+    each-under : (q : Sequence) (key : List ℕ) (row : Row) → row ∈ sequenced q key (map under rows) → FormedRow labels n (shapeAt form k .row) row
+    each-under q key row m =
+        let u = map-elim under rows (sequenced-has q key (map under rows) row .0 m) in
+        subst (λ (x : Row). FormedRow labels n (shapeAt form k .row) x) (sym (u .2)) (row-formed n f b r few labels form k (u .0) (each (u .0) (u .1)))
+
     turn-under : (q : Sequence) (key : List ℕ) → InTurn q key rows → InTurn q key (sequenced q key (map under rows))
     unfolding sequenced
     turn-under ascending key t = sorted-under key t
@@ -150,9 +155,7 @@ module _ (n : ℕ) (f b : ℕ → ℕ) (r : Renumbers n f b) (few : n ≤ 99999)
       let least = s .least in
       let most = s .most in
       record {
-        each = λ row m.
-            let u = map-elim under rows (sequenced-has (sectionAt k .sequence) (sectionAt k .key) (map under rows) row .0 m) in
-            subst (λ (x : Row). FormedRow labels n (shapeAt form k .row) x) (sym (u .2)) (row-formed n f b r few labels form k (u .0) (s .each (u .0) (u .1)));
+        each = each-under rows (s .each) (sectionAt k .sequence) (sectionAt k .key);
         in-turn = turn-under rows (s .each) (sectionAt k .sequence) (sectionAt k .key) (s .in-turn);
         least = omega arith;
         most = omega arith;
@@ -184,20 +187,15 @@ module _ (n : ℕ) (f b g h : ℕ → ℕ) (r : Renumbers n f b) (s : Renumbers 
         (map-intro back-is (sequenced-has q key (map there-is rows) (there-is a) .1 (map-intro there-is m))))),
   )
 
-  each-in : (q : Sequence) (key : List ℕ) (row : Row) → row ∈ sequenced q key (map there-is rows) → FormedRow labels n (shapeAt form k .row) row
-  each-in q key row m =
-      let u = map-elim there-is rows (sequenced-has q key (map there-is rows) row .0 m) in
-      subst (λ (x : Row). FormedRow labels n (shapeAt form k .row) x) (sym (u .2)) (row-formed n f b r few labels form k (u .0) (t .each (u .0) (u .1)))
-
   turn-back : (q : Sequence) (key : List ℕ) → InTurn q key rows → InTurn q key (sequenced q key (map there-is rows))
       → sequenced q key (map back-is (sequenced q key (map there-is rows))) ≡ rows
   unfolding sequenced
   turn-back ascending key a c =
       one-list key (insertedAll key (map back-is (insertedAll key (map there-is rows) [])) []) rows
-      (sorted-under n g h s few labels form k (insertedAll key (map there-is rows) []) (each-in ascending key) key c) a (same-rows ascending key)
+      (sorted-under n g h s few labels form k (insertedAll key (map there-is rows) []) (each-under n f b r few labels form k rows (t .each) ascending key) key c) a (same-rows ascending key)
   turn-back apart key a c =
       one-list key (insertedAll key (map back-is (insertedAll key (map there-is rows) [])) []) rows
-      (sorted-under n g h s few labels form k (insertedAll key (map there-is rows) []) (each-in apart key) key (c .0)) (a .0) (same-rows apart key)
+      (sorted-under n g h s few labels form k (insertedAll key (map there-is rows) []) (each-under n f b r few labels form k rows (t .each) apart key) key (c .0)) (a .0) (same-rows apart key)
   turn-back once key a c = map-twice there-is back-is rows one-back
   turn-back free key a c = map-twice there-is back-is rows one-back
 
