@@ -10,7 +10,7 @@ ghost use Rattle.graph_rows.specs.Tested.{formIn};
 ghost use Rattle.renumbered.specs.Renumbered.{valueUnder, rowUnder};
 
 // The new number of scope x: where it first stands in the list.
-fn new_number(was: &[u64], x: u64) -> u64
+pub fn new_number(was: &[u64], x: u64) -> u64
     ensures answer { λ r. ⌜ r ≡ newNumber (now (was .entry)) x ⌝ }
 {
     let mut i: usize = 0;
