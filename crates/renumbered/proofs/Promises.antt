@@ -8,6 +8,7 @@ use lib.ListN.{length, getD, length-map}
 use Rattle.scope_graph.specs.Language.{_∈_}
 use Rattle.scope_graph.specs.Rows.{Rules, language}
 use Rattle.scope_graph.specs.Graph.{Query}
+use Rattle.scope_graph.specs.Listing.{Accepted}
 use Rattle.scope_graph.specs.Renamed.{newNumber, oldNumber, SameElements, edgeUnder, declarationUnder, openUnder, queryUnder, Renumbers, Renamed, RenamedPromises}
 use Rattle.scope_graph.proofs.Renamed.{renamed-right}
 use Rattle.graph_rows.specs.Format.{queries, sections, sectionAt, shapeAt, labelSection, pairSection, transitionSection, acceptSection, countSection, edgeSection, declarationSection, openSection, querySection}
@@ -17,6 +18,7 @@ use Rattle.graph_rows.specs.Tested.{formIn}
 use Rattle.graph_rows.specs.Decode.{rowsIn, lettersOf, orderPairOf, transitionOf, rulesOf, edgeOf, declarationOf, openPairOf, queryOf, scopesOf, graphIn, opensIn, queriesIn, graphOf, opensOf, queriesOf, sectionPlace}
 use Rattle.graph_rows.specs.Formed.{tableOf, scopesIn, FormedSection, FormedRows, FormedTable}
 use Rattle.graph_rows.specs.Accepted.{AcceptedTable}
+use Rattle.graph_rows.proofs.AlikeLaws.{accepted-in}
 use Rattle.graph_rows.proofs.DecodeAccepted.{table-accepted}
 use Rattle.graph_rows.proofs.FormedTable.{formed-admitted, table-formed}
 use Rattle.graph_change.proofs.SectionLaws.{sections-same}
@@ -183,6 +185,11 @@ module _ (was cells : List ℕ) (t : FormedTable cells) (o : EachOnce (scopesOf 
       ∙ same-sequence (rowUnder f (shapeAt form querySection .row)) (queryOf r) (queryUnder (language r) f) (rowsIn querySection cells)
       (λ row m. query-under r f form row (five querySection (omega arith) row m))
 
+  new-accepted : (q : Query (language r)) → q .start < scopesOf cells → Accepted (language r) (graphIn r (renumberedBy was cells)) (opensIn r (renumberedBy was cells)) q
+  new-accepted q h =
+      accepted-in (renumberedBy was cells) (table-accepted (renumberedBy was cells) (formed-admitted (renumberedBy was cells) new-formed)) r rules-stay q
+      (subst (λ (n : ℕ). q .start < n) (sym scopes-stay) h)
+
   seen : (q : Query (language r)) → q ∈ queriesIn r cells
       → RenamedPromises (language r) f (oldNumber was) (graphIn r cells) (graphIn r (renumberedBy was cells)) (opensIn r cells) (opensIn r (renumberedBy was cells)) q
   unfolding graphOf opensOf queriesOf
@@ -212,5 +219,6 @@ graph-given was cells t o = record {
   graph = new-graph was cells t o;
   opens = new-opens was cells t o;
   queries = new-queries was cells t o;
+  accepted = new-accepted was cells t o;
   seen = seen was cells t o;
 }

@@ -7,6 +7,7 @@ use mathlib.Core.List.{List, map}
 use lib.ListN.{length}
 use Rattle.scope_graph.specs.Rows.{language}
 use Rattle.scope_graph.specs.Graph.{Query}
+use Rattle.scope_graph.specs.Listing.{Accepted}
 use Rattle.scope_graph.specs.Renamed.{newNumber, oldNumber, SameElements, openUnder, queryUnder, Renamed, RenamedPromises}
 use Rattle.scope_graph.specs.Language.{_∈_}
 use Rattle.graph_rows.specs.Format.{labelSection, pairSection, transitionSection, acceptSection, countSection}
@@ -46,8 +47,11 @@ pub record SameGraph (was cells : List ℕ) : Type 0 where
       (map (openUnder (language (rulesOf cells)) (newNumber was)) (opensIn (rulesOf cells) cells))
   pub queries : queriesIn (rulesOf cells) (renumberedBy was cells)
       ≡ map (queryUnder (language (rulesOf cells)) (newNumber was)) (queriesIn (rulesOf cells) cells)
-  -- so each query has the same entries under the list, the same `found`, and is settled in one
-  -- exactly if in the other (scope_graph/specs/Renamed)
+  -- it is accepted with these rules, for a query at any scope
+  pub accepted : (q : Query (language (rulesOf cells))) → q .start < scopesOf cells
+      → Accepted (language (rulesOf cells)) (graphIn (rulesOf cells) (renumberedBy was cells)) (opensIn (rulesOf cells) (renumberedBy was cells)) q
+  -- and all that scope_graph/specs/Renamed says of a query holds of each: its entries are the first
+  -- table's under the new numbers, `found` is what it was, and so is whether it is settled
   pub seen : (q : Query (language (rulesOf cells))) → q ∈ queriesIn (rulesOf cells) cells
       → RenamedPromises (language (rulesOf cells)) (newNumber was) (oldNumber was) (graphIn (rulesOf cells) cells)
       (graphIn (rulesOf cells) (renumberedBy was cells)) (opensIn (rulesOf cells) cells) (opensIn (rulesOf cells) (renumberedBy was cells)) q
