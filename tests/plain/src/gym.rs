@@ -10,6 +10,8 @@ use crate::rules;
 
 pub type Refusal = u8;
 pub type Row = [u64; 5];
+/// The rows of each section.
+pub type Sections = [Vec<Row>; 9];
 
 pub const LONGEST: usize = 32_768;
 pub const STOP: u8 = 0;
@@ -107,10 +109,11 @@ const LABELS: usize = 0;
 const ORDER: usize = 1;
 const TRANSITIONS: usize = 2;
 const ACCEPTS: usize = 3;
-const SCOPES: usize = 4;
-const EDGES: usize = 5;
-const DECLARATIONS: usize = 6;
-const QUERIES: usize = 8;
+pub const SCOPES: usize = 4;
+pub const EDGES: usize = 5;
+pub const DECLARATIONS: usize = 6;
+pub const OPEN: usize = 7;
+pub const QUERIES: usize = 8;
 
 /// A file's form, by its number in the graph table.
 #[derive(Clone, Copy, Debug, Default, PartialEq, Eq)]
@@ -681,11 +684,36 @@ pub fn write(table: &[u64], out: &mut [u8]) -> Result<usize, Refusal> {
     Ok(text.len())
 }
 
+/// A text's form and rows.
+pub fn rows_of(text: &[u8]) -> Result<(Form, Sections), Refusal> {
+    let mut sections = Sections::default();
+    let form = read_rows(text, |section, row| sections[section].push(*row))?;
+    Ok((form, sections))
+}
+
+fn labels_of(sections: &Sections) -> Vec<u8> {
+    sections[LABELS].iter().map(|row| row[0] as u8).collect()
+}
+
+/// The text of rows that a file of the form may have.
+pub fn text_of(form: Form, sections: &Sections) -> Vec<u8> {
+    let labels = labels_of(sections);
+    let mut out = Vec::new();
+    for (section, rows) in sections.iter().enumerate() {
+        push_title(&mut out, form, section);
+        for row in rows {
+            let mut row = *row;
+            turn_last(form, section, &mut row);
+            push_line(&mut out, form, section, &row, &labels);
+        }
+    }
+    out
+}
+
 /// A text in the old form or in the one with kinds. A text with turns has kinds. To the old form
 /// 14 is a kind or a turn that it does not show.
 pub fn in_form(text: &[u8], wanted: Form) -> Result<Vec<u8>, Refusal> {
-    let mut sections: [Vec<Row>; 9] = Default::default();
-    let form = read_rows(text, |section, row| sections[section].push(*row))?;
+    let (form, sections) = rows_of(text)?;
     if form == Form::Turns && wanted == Form::Kinds {
         return Ok(text.to_vec());
     }
@@ -696,23 +724,13 @@ pub fn in_form(text: &[u8], wanted: Form) -> Result<Vec<u8>, Refusal> {
     {
         return Err(14);
     }
-    let labels: Vec<u8> = sections[LABELS].iter().map(|row| row[0] as u8).collect();
-    let mut out = Vec::new();
-    for (section, rows) in sections.iter().enumerate() {
-        push_title(&mut out, wanted, section);
-        for row in rows {
-            push_line(&mut out, wanted, section, row, &labels);
-        }
-    }
-    Ok(out)
+    Ok(text_of(wanted, &sections))
 }
 
 /// A text with the path rules of an expression in place of its own, in the form that it has.
 pub fn with_rules(text: &[u8], expression: &[u8]) -> Result<Vec<u8>, Refusal> {
-    let mut sections: [Vec<Row>; 9] = Default::default();
-    let form = read_rows(text, |section, row| sections[section].push(*row))?;
-    let labels: Vec<u8> = sections[LABELS].iter().map(|row| row[0] as u8).collect();
-    let table = rules::table(expression, &labels)?;
+    let (form, mut sections) = rows_of(text)?;
+    let table = rules::table(expression, &labels_of(&sections))?;
     let small = |values: &[u8]| {
         let mut row = [0; 5];
         for (cell, &value) in row.iter_mut().zip(values) {
@@ -723,15 +741,7 @@ pub fn with_rules(text: &[u8], expression: &[u8]) -> Result<Vec<u8>, Refusal> {
     let transitions = table.transitions.iter();
     sections[TRANSITIONS] = transitions.map(|&(q, l, r)| small(&[q, l, r])).collect();
     sections[ACCEPTS] = table.accepts.iter().map(|&q| small(&[q])).collect();
-    let mut out = Vec::new();
-    for (section, rows) in sections.iter_mut().enumerate() {
-        push_title(&mut out, form, section);
-        for row in rows {
-            turn_last(form, section, row);
-            push_line(&mut out, form, section, row, &labels);
-        }
-    }
-    Ok(out)
+    Ok(text_of(form, &sections))
 }
 
 /// The part of the text that is a query's name; empty if the file or the query is refused.
