@@ -70,7 +70,7 @@ def put_renumber(title, text, out, room=None, places=None):
     if isinstance(out, int):
         answer = b"refused %d, all kept\nlist, all kept\n" % out
     else:
-        answer = shown(b"renumbered", out[0], room) + shown(b"list", out[1], places) + b"back the same\n"
+        answer = shown(b"renumbered", out[0], room) + shown(b"list", out[1], places) + b"both, back the same\n"
     assert places <= 4096, title
     case(b"u", "renumber: " + title, answer, text, number=places, room=room)
 

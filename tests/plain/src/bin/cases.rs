@@ -248,7 +248,8 @@ fn renumber(text: &[u8], room: usize, places: usize) -> String {
             let mut again = vec![0; text.len()];
             let gone = answers::back(&out[..n], &list[..m], &mut again);
             let same = gone == Ok(text.len()) && again == text;
-            put("renumbered", &out, n) + &put("list", &list, m) + back(same) + "\n"
+            let both = format!("both, {}\n", back(same));
+            put("renumbered", &out, n) + &put("list", &list, m) + &both
         }
     }
 }
