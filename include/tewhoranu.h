@@ -377,10 +377,10 @@ uint64_t tewhoranu_readers(const uint8_t *text, size_t text_length, size_t place
 uint64_t tewhoranu_renumber(const uint8_t *text, size_t text_length, uint8_t *out, size_t out_length,
                             uint8_t *list, size_t list_length, uint64_t *listed);
 
-/* Writes the file with the numbers that a `was` list gives its scopes: scope n gets the number on the
- * line n of those after the line `was`. Of a file and its list that tewhoranu_renumber wrote this is
- * the file that was renumbered, byte for byte; but any accepted file and any list of the form that has
- * each of its scopes once will do.
+/* Writes the file with the numbers that a `was` list gives its scopes: scope 0 gets the first number
+ * after the line `was`, scope 1 the second, and so on; its rows are sorted again. Of a file and its list
+ * that tewhoranu_renumber wrote this is the file that was renumbered, byte for byte. Any other file and
+ * list will do too, if the list is of that form and has each scope of the file once.
  * Answers 64 and the number of bytes, at most TEWHORANU_TEXT; bytes behind them stay as they were.
  * Refuses by 1 to 6 as tewhoranu_read does, then 17 where it is no such list, then 9. */
 uint64_t tewhoranu_back(const uint8_t *text, size_t text_length, const uint8_t *was, size_t was_length,
