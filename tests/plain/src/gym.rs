@@ -10,8 +10,6 @@ use crate::rules;
 
 pub type Refusal = u8;
 pub type Row = [u64; 5];
-/// The rows of each section.
-pub type Sections = [Vec<Row>; 9];
 
 pub const LONGEST: usize = 32_768;
 pub const STOP: u8 = 0;
@@ -684,20 +682,16 @@ pub fn write(table: &[u64], out: &mut [u8]) -> Result<usize, Refusal> {
     Ok(text.len())
 }
 
-/// A text's form and rows.
-pub fn rows_of(text: &[u8]) -> Result<(Form, Sections), Refusal> {
-    let mut sections = Sections::default();
+/// The rows of a text by section, and its form.
+pub fn sections_of(text: &[u8]) -> Result<(Form, [Vec<Row>; 9]), Refusal> {
+    let mut sections: [Vec<Row>; 9] = Default::default();
     let form = read_rows(text, |section, row| sections[section].push(*row))?;
     Ok((form, sections))
 }
 
-fn labels_of(sections: &Sections) -> Vec<u8> {
-    sections[LABELS].iter().map(|row| row[0] as u8).collect()
-}
-
-/// The text of rows that a file of the form may have.
-pub fn text_of(form: Form, sections: &Sections) -> Vec<u8> {
-    let labels = labels_of(sections);
+/// The text of rows in a form that shows all that they have.
+pub fn push_sections(form: Form, sections: &[Vec<Row>; 9]) -> Vec<u8> {
+    let labels: Vec<u8> = sections[LABELS].iter().map(|row| row[0] as u8).collect();
     let mut out = Vec::new();
     for (section, rows) in sections.iter().enumerate() {
         push_title(&mut out, form, section);
@@ -713,7 +707,7 @@ pub fn text_of(form: Form, sections: &Sections) -> Vec<u8> {
 /// A text in the old form or in the one with kinds. A text with turns has kinds. To the old form
 /// 14 is a kind or a turn that it does not show.
 pub fn in_form(text: &[u8], wanted: Form) -> Result<Vec<u8>, Refusal> {
-    let (form, sections) = rows_of(text)?;
+    let (form, sections) = sections_of(text)?;
     if form == Form::Turns && wanted == Form::Kinds {
         return Ok(text.to_vec());
     }
@@ -724,13 +718,14 @@ pub fn in_form(text: &[u8], wanted: Form) -> Result<Vec<u8>, Refusal> {
     {
         return Err(14);
     }
-    Ok(text_of(wanted, &sections))
+    Ok(push_sections(wanted, &sections))
 }
 
 /// A text with the path rules of an expression in place of its own, in the form that it has.
 pub fn with_rules(text: &[u8], expression: &[u8]) -> Result<Vec<u8>, Refusal> {
-    let (form, mut sections) = rows_of(text)?;
-    let table = rules::table(expression, &labels_of(&sections))?;
+    let (form, mut sections) = sections_of(text)?;
+    let labels: Vec<u8> = sections[LABELS].iter().map(|row| row[0] as u8).collect();
+    let table = rules::table(expression, &labels)?;
     let small = |values: &[u8]| {
         let mut row = [0; 5];
         for (cell, &value) in row.iter_mut().zip(values) {
@@ -741,7 +736,7 @@ pub fn with_rules(text: &[u8], expression: &[u8]) -> Result<Vec<u8>, Refusal> {
     let transitions = table.transitions.iter();
     sections[TRANSITIONS] = transitions.map(|&(q, l, r)| small(&[q, l, r])).collect();
     sections[ACCEPTS] = table.accepts.iter().map(|&q| small(&[q])).collect();
-    Ok(text_of(form, &sections))
+    Ok(push_sections(form, &sections))
 }
 
 /// The part of the text that is a query's name; empty if the file or the query is refused.

@@ -2,9 +2,11 @@
 //! back from both.
 
 use crate::gym::{
-    number, push_number, rows_of, text_of, Refusal, Sections, DECLARATIONS, EDGES, OPEN, QUERIES,
-    SCOPES,
+    number, push_number, push_sections, sections_of, Refusal, Row, DECLARATIONS, EDGES, OPEN,
+    QUERIES, SCOPES,
 };
+
+type Sections = [Vec<Row>; 9];
 
 const TITLE: &[u8] = b"was\n";
 
@@ -65,7 +67,7 @@ fn inverse(list: &[u64]) -> Vec<u64> {
 
 /// The file renumbered, and the list.
 pub fn renumbered(text: &[u8]) -> Result<(Vec<u8>, Vec<u8>), Refusal> {
-    let (form, mut sections) = rows_of(text)?;
+    let (form, mut sections) = sections_of(text)?;
     let list = breadth_first(&sections);
     rename(&mut sections, &inverse(&list));
     let mut was = TITLE.to_vec();
@@ -73,7 +75,7 @@ pub fn renumbered(text: &[u8]) -> Result<(Vec<u8>, Vec<u8>), Refusal> {
         push_number(&mut was, scope);
         was.push(b'\n');
     }
-    Ok((text_of(form, &sections), was))
+    Ok((push_sections(form, &sections), was))
 }
 
 /// The scopes of a list that has each of them once.
@@ -95,8 +97,8 @@ fn listed(was: &[u8], scopes: u64) -> Option<Vec<u64>> {
 
 /// The file with the old numbers.
 pub fn gone_back(text: &[u8], was: &[u8]) -> Result<Vec<u8>, Refusal> {
-    let (form, mut sections) = rows_of(text)?;
+    let (form, mut sections) = sections_of(text)?;
     let list = listed(was, count(&sections)).ok_or(17)?;
     rename(&mut sections, &list);
-    Ok(text_of(form, &sections))
+    Ok(push_sections(form, &sections))
 }
