@@ -367,8 +367,8 @@ uint64_t tewhoranu_readers(const uint8_t *text, size_t text_length, size_t place
  * on are: the start of the first query, or scope 0 of a file without queries; the scopes that a search
  * in breadth meets from there, which follows the edges of each scope in the sequence of their rows,
  * whatever their labels; then, ascending, the scopes that it does not meet. Queries stay in their
- * sequence. The list is the line `was`, then the old number of each new scope, one a line.
- * Each query of the new file has the same entries under the list and the same found, and is settled
+ * sequence. The list has the line `was`, and after it a line for each new scope with its old number.
+ * Under the list a query of the new file has the entries and the found that it had, and it is settled
  * exactly if it was; awaits may name another open place. tewhoranu_back of both is the first file.
  * Answers 64 and the number of bytes of the file, at most TEWHORANU_TEXT, and puts the number of bytes
  * of the list, at most TEWHORANU_WAS, into *listed; bytes behind either stay as they were, and a

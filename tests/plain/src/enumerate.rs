@@ -381,8 +381,8 @@ pub fn is_breadth_first(gym: &Gym, was: &[usize]) -> bool {
         && rest.windows(2).all(|s| s[0] < s[1])
 }
 
-/// Has each query of a gym in another one, in which scope `was[n]` is called n, the same entries
-/// under that list and the same `found`, and is it settled in both or in neither (02, K13)?
+/// Does each query of a gym keep its entries, and so `found`, in another one in which scope `was[n]`
+/// is called n, and is it settled in both or in neither (02, K13)?
 pub fn same_under(was: &[usize], old: &Gym, new: &Gym) -> bool {
     let (graph, other) = (Graph::of(old), Graph::of(new));
     let under = |(path, mark): &Entry| {

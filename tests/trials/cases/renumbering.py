@@ -48,7 +48,7 @@ def is_breadth_first(text, scopes):
 
 
 def same_answers(text, made, scopes):
-    """Has each query the same entries under the list, the same `found`, and is it settled in both or in neither?"""
+    """Does every query keep its entries, renamed by the list, with its `found`, and is it settled in both files or in neither?"""
     old, new = Gym(text), Gym(made)
     for (start, name), (now, also) in zip(old.queries, new.queries):
         under = [([(label, scopes[to]) for label, to in steps], mark) for steps, mark in new.entries(now, also)]
