@@ -9,7 +9,7 @@ ghost use Rattle.gym.specs.Handed.{arguments, handed, queried, meaning};
 
 // What is answered by one text. `Judge` and `Count` hold the query's number, `Readers` the
 // declaration's place; rows and the expression stay where they are, the judged row in the second
-// argument.
+// argument. `Back` has a second file, which its argument names.
 pub enum Reply {
     Old,
     New,
@@ -18,6 +18,9 @@ pub enum Reply {
     Rules,
     Count(usize),
     Readers(usize),
+    Renumber,
+    Was,
+    Back,
     Help,
     Usage,
 }
@@ -135,6 +138,15 @@ fn later_command(count: usize, name: &[u8], first: &[u8]) -> Command
     }
     if is_same(name, b"readers") {
         return with_one(count, readers_asked(first));
+    }
+    if is_same(name, b"renumber") {
+        return alone(count, Command::One(Reply::Renumber));
+    }
+    if is_same(name, b"was") {
+        return alone(count, Command::One(Reply::Was));
+    }
+    if is_same(name, b"back") {
+        return with_one(count, Command::One(Reply::Back));
     }
     if is_same(name, b"help") {
         return alone(count, Command::One(Reply::Help));

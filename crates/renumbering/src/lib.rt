@@ -1,7 +1,10 @@
 // A gym file with its scopes renumbered for storage, and the way back (document 02, K13): the text
 // is read, its table renumbered by a list of its scopes, and written.
+mod alone;
 mod inverse;
 
+pub use crate::alone::file_answer;
+pub use crate::alone::list_answer;
 use crate::inverse::inverse;
 use graph_file::OWN_CELLS;
 use graph_file::SHORT_CELLS;

@@ -17,7 +17,8 @@ use Rattle.conversion.specs.Conversion.{oldOf, newOf}
 use Rattle.ruled.specs.Ruled.{ruledOf}
 use Rattle.readers.specs.Readers.{readersFor}
 use Rattle.renumbering.specs.Renumbering.{renumberOf, roomFor, sizesOf, backFor}
-use Rattle.tewhoranu.specs.Numbers.{written, fileAmount, comparisonCase, comparisonSteps, compared, standingCase, standingSteps, judged}
+use Rattle.renumbering.specs.Alone.{fileSize}
+use Rattle.tewhoranu.specs.Numbers.{written, comparisonCase, comparisonSteps, compared, standingCase, standingSteps, judged}
 
 -- the greatest number of document 01's list ("Who can cause a refusal")
 abbrev pub lastRefusal : ℕ
@@ -75,5 +76,5 @@ pub record Numbers : Type 0 where
   pub toNew : (text : List ℕ) (room : ℕ) → Output (answer (newOf text) room)
   pub rules : (text expression : List ℕ) (room : ℕ) → OutputWith (12 ∷ 13 ∷ []) (answer (ruledOf expression text) room)
   pub readers : (text : List ℕ) (place room : ℕ) → OutputWith (11 ∷ []) (answer (readersFor text place) room)
-  pub renumber : (text : List ℕ) (room lines : ℕ) → Output (fileAmount (sizesOf (roomFor room lines (renumberOf text))))
+  pub renumber : (text : List ℕ) (room lines : ℕ) → Output (fileSize (sizesOf (roomFor room lines (renumberOf text))))
   pub back : (text was : List ℕ) (room : ℕ) → OutputWith (17 ∷ []) (answer (backFor text was) room)

@@ -75,12 +75,8 @@ judged o = told (λ s. caseNumber (standingCase s) (stepsNumber (standingSteps s
 unfoldable pub placeLeft : List ℕ → ℕ → ℕ → ℕ
 placeLeft text query lent = elim (eqb (length (nameSought text query)) 0) [ true ↦ lent | false ↦ placeSought text query .from ]
 
--- A renumbered file is told by its own size, as an output; that of its list (02, K13) goes into a
--- number lent for it, which a refusal leaves as it was.
-unfoldable pub fileAmount : Outcome Sizes → Outcome ℕ
-fileAmount (refused n) = refused n
-fileAmount (done s) = done (s .file)
-
+-- What the number lent for the size of a renumbered file's list holds afterwards (02, K13; the file's
+-- own size is told as any output's is): after a refusal, what it held.
 unfoldable pub listedLeft : Outcome Sizes → ℕ → ℕ
 listedLeft (refused n) lent = lent
 listedLeft (done s) lent = s .list

@@ -4,7 +4,6 @@
 mod numbers;
 
 use crate::numbers::compared_number;
-use crate::numbers::file_answer;
 use crate::numbers::judged_number;
 use crate::numbers::list_bytes;
 use crate::numbers::written_number;
@@ -20,6 +19,7 @@ use path_row::form::Step;
 use path_row::lent::fill;
 use readers::readers;
 use renumbering::back;
+use renumbering::file_answer;
 use renumbering::renumber;
 use resolution::listing;
 use resolution::summary;
@@ -39,7 +39,8 @@ ghost use Rattle.conversion.specs.Conversion.{oldOf, newOf};
 ghost use Rattle.ruled.specs.Ruled.{ruledOf};
 ghost use Rattle.readers.specs.Readers.{readersFor};
 ghost use Rattle.renumbering.specs.Renumbering.{renumberOf, roomFor, sizesOf, fileOf, listOf, backFor};
-ghost use Rattle.tewhoranu.specs.Numbers.{interfaceVersion, written, compared, judged, placeLeft, fileAmount, listedLeft};
+ghost use Rattle.renumbering.specs.Alone.{fileSize};
+ghost use Rattle.tewhoranu.specs.Numbers.{interfaceVersion, written, compared, judged, placeLeft, listedLeft};
 
 // The number that include/tewhoranu.h has as TEWHORANU_VERSION. It goes up when a function gets other
 // arguments or answers than an older header says.
@@ -221,7 +222,7 @@ pub extern "C" fn tewhoranu_renumber(
     listed: &mut u64,
 ) -> u64
     ensures answer { λ r. ⌜ r ≡ written
-        (fileAmount (sizesOf (roomFor (length (now (out .entry))) (length (now (list .entry))) (renumberOf (now (text .entry)))))) ⌝ }
+        (fileSize (sizesOf (roomFor (length (now (out .entry))) (length (now (list .entry))) (renumberOf (now (text .entry)))))) ⌝ }
     ensures file { λ _. ⌜ now (out .exit) ≡ leaves
         (fileOf (roomFor (length (now (out .entry))) (length (now (list .entry))) (renumberOf (now (text .entry))))) (now (out .entry)) ⌝ }
     ensures list { λ _. ⌜ now (list .exit) ≡ leaves

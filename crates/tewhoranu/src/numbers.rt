@@ -9,7 +9,7 @@ ghost use Rattle.text_field.specs.Answer.{answerOf};
 ghost use Rattle.comparison.specs.Compare.{meaning};
 ghost use Rattle.judge.specs.Judge.{meaning as standing};
 ghost use Rattle.renumbering.specs.Renumbering.{numberedOf};
-ghost use Rattle.tewhoranu.specs.Numbers.{caseNumber, stepsNumber, written, compared, judged, fileAmount, listedLeft, Sized};
+ghost use Rattle.tewhoranu.specs.Numbers.{caseNumber, stepsNumber, written, compared, judged, listedLeft, Sized};
 
 // The first number that is no refusal. It is also how far apart two cases are, so that the steps of
 // a path, 63 at most, have room behind each.
@@ -58,16 +58,6 @@ pub fn judged_number(j: Judged) -> u64
         Judged::Shadowed(n) => case_number(1, n),
         Judged::Unreached => case_number(2, NO_STEPS),
         Judged::Refused(n) => n,
-    }
-}
-
-// A renumbered file without its list.
-pub fn file_answer(a: Numbered) -> Answer
-    ensures answer { λ r. ⌜ answerOf r ≡ fileAmount (numberedOf a) ⌝ }
-{
-    match a {
-        Numbered::Refused(n) => Answer::Refused(n),
-        Numbered::Written(file, _) => Answer::Written(file),
     }
 }
 
