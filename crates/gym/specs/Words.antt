@@ -62,10 +62,6 @@ countAsked query = byQuery count query
 unfoldable pub readersAsked : List ℕ → Asked
 readersAsked place = byQuery readers place
 
--- FILE names a second file. Its bytes are handed over beside the input, and its name says nothing.
-unfoldable pub backAsked : List ℕ → Asked
-backAsked file = back
-
 -- A word: its name, how its arguments are shown and what it does, for who does not know it, and what
 -- its arguments ask for.
 pub record Word : Type 0 where
@@ -132,7 +128,9 @@ readersWord =
       asks = withOne readersAsked;
     }
 
--- scopes numbered for storage, the list of their old numbers, the way back by such a list (02, K13)
+-- Scopes numbered for storage, the list of their old numbers, the way back by such a list (02, K13).
+-- FILE names a second file; what is asked does not depend on its name, and what is said is said of
+-- its content.
 unfoldable pub renumberWord : Word
 renumberWord =
     record {
@@ -151,16 +149,19 @@ backWord =
       name = bytes "back";
       shown = bytes " FILE";
       does = bytes "the file with the old numbers again, by the list in FILE";
-      asks = withOne backAsked;
+      asks = withOne (λ file. back);
     }
 
 -- the usage text, as an answer and not as a complaint
 unfoldable pub helpWord : Word
 helpWord = record { name = bytes "help"; shown = bytes ""; does = bytes "this text"; asks = alone help }
 
--- all words; a new one is added to the later ones
+-- all words; a new one is added to the last ones
+unfoldable pub lastWords : List Word
+lastWords = renumberWord ∷ wasWord ∷ backWord ∷ helpWord ∷ []
+
 unfoldable pub laterWords : List Word
-laterWords = rulesWord ∷ countWord ∷ readersWord ∷ renumberWord ∷ wasWord ∷ backWord ∷ helpWord ∷ []
+laterWords = rulesWord ∷ countWord ∷ readersWord ∷ lastWords
 
 unfoldable pub words : List Word
 words = listWord ∷ oldWord ∷ newWord ∷ judgeWord ∷ compareWord ∷ laterWords
