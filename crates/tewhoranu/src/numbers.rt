@@ -61,12 +61,12 @@ pub fn judged_number(j: Judged) -> u64
     }
 }
 
-// How many bytes the list has; after a refusal the number that stood there before.
-pub fn list_bytes(a: Numbered, before: u64) -> u64
-    ensures answer { λ r. ⌜ r ≡ listedLeft (numberedOf a) before ⌝ }
+// How many bytes the list has; after a refusal the number that was held there.
+pub fn list_bytes(a: Numbered, held: u64) -> u64
+    ensures answer { λ r. ⌜ r ≡ listedLeft (numberedOf a) held ⌝ }
 {
     match a {
-        Numbered::Refused(_) => before,
+        Numbered::Refused(_) => held,
         Numbered::Written(_, list) => list as u64,
     }
 }
