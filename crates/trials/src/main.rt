@@ -11,6 +11,7 @@ mod input;
 mod judged;
 mod lent;
 mod listings;
+mod numbered;
 mod rows;
 mod ruled_files;
 mod say;
@@ -38,6 +39,7 @@ fn text_case(kind: u8, text: &[u8], number: usize, room: usize) {
         b'e' => edges::finding(text, number),
         b'o' => converted::converting(Form::Old, text, room),
         b'k' => converted::converting(Form::Kinds, text, room),
+        b'u' => numbered::renumbering(text, room, number),
         _ => say::unknown(),
     }
 }
@@ -56,6 +58,7 @@ fn case(h: Head, body: &[u8]) {
         b'c' => rows::comparing(text, first, bytes(body, middle, body.len()), number, room),
         b'j' => judged::judging(text, number, first, room),
         b'x' => ruled_files::ruling(text, first, room),
+        b'v' => numbered::going_back(text, first, room),
         b'q' => changes::finding(text, first, number),
         b'i' | b't' | b'm' => changes::changing(kind, text, first, number, room),
         _ => text_case(kind, text, number, room),

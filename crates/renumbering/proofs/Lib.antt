@@ -1,0 +1,1 @@
+-- Laws of renumbering and of the way back, and the promises. Assumes nothing.

@@ -1,0 +1,1 @@
+-- Laws of the list and of its text, and the promises. Assumes nothing.
