@@ -1,1 +1,8 @@
 -- Laws of the list and of its text, and the promises. Assumes nothing.
+pub mod Growing
+pub mod Meeting
+pub mod CellLaws
+pub mod ListedLaws
+pub mod WritingLaws
+pub mod ReadingLaws
+pub mod RowLaws
