@@ -10,8 +10,8 @@ use lib.Seq.{length-take-le, take-append-seam, drop-append-add, drop-drop, set-s
 use Rattle.scope_graph.specs.Rows.{anyOf}
 use Rattle.graph_rows.specs.Format.{mostScopes}
 use Rattle.was.specs.Order.{isListed, withNew}
-use Rattle.was.specs.Cells.{atFront, Scopes}
-use Rattle.was.proofs.Growing.{Longer, longer-size, new-there, new-put}
+use Rattle.was.specs.Cells.{atFront, Scopes, Begins}
+use Rattle.was.proofs.Growing.{scopes-size, scopes-room, Longer, longer-size, new-there, new-put}
 
 pub front-size : (numbers cells : List ℕ) → length numbers ≤ length cells → length (atFront numbers cells) ≡ length cells
 unfolding atFront
@@ -54,30 +54,36 @@ more-size cells n x h =
 
 -- What the cells hold so far, if they were `first` at the start: k different scopes.
 pub record Held (first cells : List ℕ) (k : ℕ) : Type 0 where
-  pub size : length cells ≡ mostScopes
-  pub most : k ≤ mostScopes
+  pub begins : Begins cells k
   pub is : cells ≡ atFront (take k cells) first
-  pub scopes : Scopes mostScopes (take k cells)
 
-pub held-start : (cells : List ℕ) (k : ℕ) → length cells ≡ mostScopes → k ≤ mostScopes → Scopes mostScopes (take k cells) → Held cells cells k
-held-start cells k size most s = record { size = size; most = most; is = sym (front-own k cells (omega arith)); scopes = s }
+pub held-start : (cells : List ℕ) (k : ℕ) → Begins cells k → Held cells cells k
+held-start cells k b = record { begins = b; is = let s = b .size in let m = b .most in sym (front-own k cells (omega arith)) }
 
 module _ (first cells : List ℕ) (k : ℕ) (so : Held first cells k) (new after : List ℕ) (n : ℕ)
-    (longer : Longer (take k cells) new) (s : Scopes mostScopes new) (fits : length new ≤ mostScopes)
-    (count : n ≡ length new) (is : after ≡ atFront new cells) where
+    (longer : Longer (take k cells) new) (s : Scopes mostScopes new) (count : n ≡ length new) (is : after ≡ atFront new cells) where
   pub held-take : take n after ≡ new
   held-take = ap (λ (l : List ℕ). take n l) is ∙ ap (λ (j : ℕ). take j (atFront new cells)) count ∙ front-take new cells
 
   pub held-grown : Held first after n
   held-grown = record {
-    size = let z = so .size in ap length is ∙ front-size new cells (omega arith) ∙ so .size;
-    most = omega arith;
+    begins = let z = so .begins .size in let fits = scopes-size mostScopes new s in record {
+      size = ap length is ∙ front-size new cells (omega arith) ∙ so .begins .size;
+      most = omega arith;
+      scopes = subst (λ (l : List ℕ). Scopes mostScopes l) (sym held-take) s;
+    };
     is =
         is ∙ ap (λ (l : List ℕ). atFront new l) (so .is)
         ∙ front-front (take k cells) new first (longer-size (take k cells) new longer)
         ∙ ap (λ (l : List ℕ). atFront l first) (sym held-take);
-    scopes = subst (λ (l : List ℕ). Scopes mostScopes l) (sym held-take) s;
   }
+
+-- the cells hold all of a list
+pub held-all : (first cells : List ℕ) (k : ℕ) (l : List ℕ) → Held first cells k → take k cells ≡ l → (k ≡ length l) × (cells ≡ atFront l first)
+held-all first cells k l so e =
+    let s = so .begins .size in
+    let m = so .begins .most in
+    (sym (length-take-le k cells (omega arith)) ∙ ap length e, so .is ∙ ap (λ (z : List ℕ). atFront z first) e)
 
 -- a number put, or there already
 module _ (cells : List ℕ) (n x : ℕ) (size : length cells ≡ mostScopes) (most : n ≤ mostScopes) where
@@ -93,3 +99,12 @@ module _ (cells : List ℕ) (n x : ℕ) (size : length cells ≡ mostScopes) (mo
     more-size cells n x (omega arith) ∙ ap length (sym (new-put (take n cells) x e)),
     front-more cells n x (omega arith) ∙ ap (λ (l : List ℕ). atFront l cells) (sym (new-put (take n cells) x e)),
   )
+
+-- there is a cell for a scope that is not listed yet
+pub begun-room : (cells : List ℕ) (n x : ℕ) → Begins cells n → x < mostScopes → isListed x (take n cells) ≡ false → n < mostScopes
+begun-room cells n x b h e =
+    let s = b .size in
+    let m = b .most in
+    let r = scopes-room mostScopes (take n cells) x (b .scopes) h e in
+    let l = length-take-le n cells (omega arith) in
+    omega arith

@@ -85,7 +85,7 @@ longer-in l r w x m = subst (λ (z : List ℕ). x ∈ z) (sym (w .is)) (Memᴰ·
 pub longer-size : (l r : List ℕ) → Longer l r → length l ≤ length r
 longer-size l r w = let a = length-append l (w .more) in let e = ap length (w .is) in omega arith
 
-new-longer : (l : List ℕ) (x : ℕ) → Longer l (withNew l x)
+pub new-longer : (l : List ℕ) (x : ℕ) → Longer l (withNew l x)
 new-longer l x =
     ⊎-elim (λ e. record { more = []; is = new-there l x e ∙ sym (append-nil l) })
     (λ e. record { more = x ∷ []; is = new-put l x e }) (Two (isListed x l))

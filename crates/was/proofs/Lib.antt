@@ -6,3 +6,5 @@ pub mod ListedLaws
 pub mod WritingLaws
 pub mod ReadingLaws
 pub mod RowLaws
+pub mod Walking
+pub mod ReadingTurns

@@ -3,14 +3,15 @@
 use Prim.Native.Nat.{ℕ, suc, _+_, _-_, _*_, _/_, _≤_, _<_}
 use mathlib.Core.Path.{_≡_, refl, sym, ap, _∙_}
 use mathlib.Core.List.{List, [], _∷_, map}
+use mathlib.Core.Logic.{⊎-elim}
 use native.Mathlib.Omega.{arith}
 use native.Mathlib.Numerals.{add-one}
 use lib.ListN.{length, getD, take, drop}
-use Rattle.scope_graph.specs.Language.{_∈_}
 use Rattle.graph_rows.specs.Admission.{Row, value, blank}
 use Rattle.graph_table.specs.Sections.{leading, firstRow, startOf, partOf, rowsOf}
-use Rattle.graph_table.specs.Rows.{hopAt, rowHops, nextRow}
-use Rattle.graph_table.proofs.Leading.{start-first, start-next, start-within}
+use Rattle.graph_table.specs.Rows.{rowHops, nextRow}
+use Rattle.graph_table.proofs.Tests.{below-or}
+use Rattle.graph_table.proofs.Leading.{start-first, start-next}
 use Rattle.graph_table.proofs.Parts.{row-at, row-past, value-cell}
 use Rattle.graph_table.proofs.Laws.{rows-none, rows-own, next-row}
 use Rattle.was.specs.Cells.{scopesBy}
@@ -50,13 +51,25 @@ module _ (edges : List ℕ) (s : ℕ) where
   unfolding scopesBy
   from-all = refl
 
-  -- looked for from a place on: what the next row leads to, and the rest
-  pub from-next : (q p : ℕ) → p ≡ nextRow edges s q → p < length edges
-      → scopesFrom edges s q ≡ getD edges (p + 3) 0 ∷ scopesFrom edges s (p + 6)
-  from-next q p e h = let r = next-row {l = edges} {s = s} {p = q} e in ap (map (λ h. h .to)) (r .hops h)
+  -- what a row of s leads to, and the rest
+  pub from-row : (p : ℕ) → p + 6 ≤ length edges → getD edges (p + 1) 0 ≡ s → scopesFrom edges s p ≡ getD edges (p + 3) 0 ∷ scopesFrom edges s (p + 6)
+  from-row p h e = ap (map (λ h. h .to)) (rows-own edges s p h e)
 
-  pub from-end : (q p : ℕ) → p ≡ nextRow edges s q → length edges ≤ p → scopesFrom edges s q ≡ []
-  from-end q p e h = let r = next-row {l = edges} {s = s} {p = q} e in ap (map (λ h. h .to)) (r .none h)
+  pub from-none : (p : ℕ) → length edges ≤ p → scopesFrom edges s p ≡ []
+  from-none p h = ap (map (λ h. h .to)) (rows-none edges s p (omega arith))
 
-  pub next-whole : (q p : ℕ) → p ≡ nextRow edges s q → p < length edges → (p + 6 ≤ length edges) × (q ≤ p)
-  next-whole q p e h = let r = next-row {l = edges} {s = s} {p = q} e in (r .whole h, r .on h)
+  -- the next row from a place on
+  module _ (q p : ℕ) (e : p ≡ nextRow edges s q) where
+    pub next-is : p < length edges → (p + 6 ≤ length edges) × (getD edges (p + 1) 0 ≡ s)
+    next-is h = let r = next-row {l = edges} {s = s} {p = q} e in (r .whole h, r .leaves h)
+
+    pub next-past : (b : ℕ) → b < length edges → b < q → b < p
+    next-past b h k =
+        let r = next-row {l = edges} {s = s} {p = q} e in
+        ⊎-elim (λ (y : p < length edges). let on = r .on y in omega arith) (λ (n : length edges ≤ p). omega arith) (below-or p (length edges))
+
+    pub from-next : scopesFrom edges s q ≡ scopesFrom edges s p
+    from-next =
+        let r = next-row {l = edges} {s = s} {p = q} e in
+        ⊎-elim (λ (y : p < length edges). ap (map (λ h. h .to)) (r .hops y) ∙ sym (from-row p (r .whole y) (r .leaves y)))
+        (λ (n : length edges ≤ p). ap (map (λ h. h .to)) (r .none n) ∙ sym (from-none p n)) (below-or p (length edges))
