@@ -8,3 +8,4 @@ pub mod ReadingLaws
 pub mod RowLaws
 pub mod Walking
 pub mod ReadingTurns
+pub mod Tables

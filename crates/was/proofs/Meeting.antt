@@ -10,7 +10,7 @@ use native.Mathlib.Omega.{arith}
 use lib.ListN.{length, length-append}
 use Rattle.scope_graph.specs.Language.{_∈_}
 use Rattle.scope_graph.specs.Computed.{firstOf}
-use Rattle.scope_graph.proofs.Lists.{Two, here, there, not-is, is-not, firstOf-none}
+use Rattle.scope_graph.proofs.Lists.{Two, here, there, not-is, is-not, flatMap-elim}
 use Rattle.scope_graph.proofs.Pigeon.{in-true, in-test, not-in, not-in-test}
 use Rattle.graph_rows.specs.Format.{mostScopes}
 use Rattle.was.specs.Order.{isListed, withNew, gathered, metFrom, nextMet, met, metAll}
@@ -143,3 +143,32 @@ module _ (after : ℕ → List ℕ) where
       more (λ x m. b x (there m))
       ∙ ap (λ (z : List ℕ). rounds (gathered z ts)) (sym (new-put l t new)))
       (Two (isListed t l))
+
+-- what is met are different scopes
+module _ (after : ℕ → List ℕ) (n : ℕ) (below : (s t : ℕ) → t ∈ after s → t < n) where
+  from-below : (l : List ℕ) (t : ℕ) → t ∈ metFrom after l → t < n
+  unfolding metFrom
+  from-below l t m = let r = flatMap-elim after l m in below (r .0) t (r .2)
+
+  scopes-step : (l : List ℕ) (t : ℕ) → Scopes n l → nextMet after l ≡ some t → Scopes n (l ++ (t ∷ []))
+  unfolding nextMet
+  scopes-step l t s e =
+      let r = first-at (λ x. not (isListed x l)) (metFrom after l) t e in
+      scopes-more n l t s (from-below l t (subst (λ (z : List ℕ). t ∈ z) (sym (r .is)) (Memᴰ·append-right (r .above) here))) (not-is (isListed t l) (r .meets))
+
+  scopes-on : (left : ℕ) (l : List ℕ) → Scopes n l → Scopes n (met after left l)
+  unfolding met
+  scopes-on zero l s = s
+  scopes-on (suc left) l s = by (nextMet after l) refl (λ t e. scopes-on left (l ++ (t ∷ [])) (scopes-step l t s e))
+    where
+      by : (o : Option ℕ) → nextMet after l ≡ o → ((t : ℕ) → nextMet after l ≡ some t → Scopes n (met after left (l ++ (t ∷ []))))
+          → Scopes n (elim o as (λ _. List ℕ) [ none ↦ l | some t ↦ met after left (l ++ (t ∷ [])) ])
+      by none e k = s
+      by (some t) e k = k t e
+
+  pub met-scopes : (start : ℕ) → start < n → Scopes n (metAll after start)
+  unfolding metAll
+  met-scopes start h = scopes-on mostScopes (start ∷ []) (record {
+    once = ((λ m. List·Memᴰ·not-nil m), tt);
+    below = λ x m. let e = List·Memᴰ·eq-of-singleton m in omega arith;
+  })

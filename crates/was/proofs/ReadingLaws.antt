@@ -1,28 +1,22 @@
 -- Reading the list's text, step by step. Assumes nothing.
-use Prim.Native.Nat.{ℕ, zero, suc, _+_, _-_, _≤_, _<_}
+use Prim.Native.Nat.{ℕ, suc, _+_, _≤_, _<_}
 use mathlib.Core.Path.{_≡_, refl, sym, ap, _∙_}
 use mathlib.Core.Bool.{Bool, true, false, not, _&&_, _||_}
-use mathlib.Core.Logic.{_⊎_, inl, inr, ⊎-elim}
 use mathlib.Core.List.{List, [], _∷_, _++_}
 use native.Mathlib.Omega.{arith}
 use lib.Dec.{eqb, leb}
-use lib.ListN.{length, getD, take, drop, replicate}
+use lib.ListN.{length, getD, drop}
 use lib.Seq.{drop-drop}
-use borrow.Author.Tests.{eq-eqb, ne-eqb, le-leb, lt-leb, leb-true, leb-false}
+use borrow.Author.Tests.{eq-eqb, ne-eqb, le-leb, lt-leb}
 use Rattle.text_field.specs.Number.{numberHere, numberPlaced, numberMeaning}
-use Rattle.text_field.specs.Outcome.{Outcome, refused, done, andThen, refuseIf}
+use Rattle.text_field.specs.Outcome.{refused, done, andThen, refuseIf}
 use Rattle.text_field.specs.declared.NumberRead.{NumberRead}
 use Rattle.text_field.specs.declared.NumberRead.the-variants.{Number, NoNumber}
 use Rattle.text_field.proofs.Steps.{drop-next, drop-end}
-use Rattle.text_field.proofs.OutcomeLaws.{done-same, not-done}
-use Rattle.scope_graph.proofs.Lists.{Two}
 use Rattle.graph_rows.specs.Way.{startsWith, isEmpty}
-use Rattle.graph_rows.specs.Format.{mostScopes}
 use Rattle.graph_file.proofs.SoughtStart.{placed-number, unplaced-number}
-use Rattle.was.specs.declared.text.WasList.{WasList}
 use Rattle.was.specs.Order.{isListed}
-use Rattle.was.specs.WasText.{wasLine, beginsWith, endedBy, lineNumber, numbersAfter, readWas}
-use Rattle.was.specs.Cells.{atFront, inCells, listRead}
+use Rattle.was.specs.WasText.{beginsWith, endedBy, lineNumber, numbersAfter}
 
 -- the names line
 pub begins-short : (names text : List ℕ) → length text < length names → beginsWith names text ≡ false

@@ -7,19 +7,21 @@ use native.Mathlib.Omega.{arith}
 use native.Mathlib.Nat.{sub-zero}
 use native.Mathlib.Numerals.{add-one}
 use lib.Dec.{leb}
-use lib.ListN.{length, set, take, drop, length-set, length-append}
+use lib.ListN.{length, set, take, drop, replicate, length-set, length-append}
 use lib.Seq.{drop-drop, take-suc-set}
 use Rattle.text_field.specs.Number.{numberPlaced}
-use Rattle.text_field.specs.Outcome.{Outcome, refused, done}
+use Rattle.text_field.specs.Outcome.{Outcome, refused, done, refuseIf}
 use Rattle.text_field.specs.declared.NumberRead.the-variants.{Number, NoNumber}
+use Rattle.text_field.proofs.ByteLaws.{clash}
 use Rattle.text_field.proofs.Steps.{drop-end}
 use Rattle.text_field.proofs.OutcomeLaws.{done-same, not-done}
 use Rattle.graph_rows.specs.Format.{mostScopes}
 use Rattle.graph_file.proofs.SoughtStart.{placed-number, unplaced-number}
 use borrow.Author.Tests.{leb-true, leb-false}
+use Rattle.was.specs.declared.text.WasList.{WasList}
 use Rattle.was.specs.Order.{isListed}
-use Rattle.was.specs.WasText.{lineNumber, numbersAfter}
-use Rattle.was.specs.Cells.{atFront}
+use Rattle.was.specs.WasText.{wasLine, beginsWith, lineNumber, numbersAfter, readWas}
+use Rattle.was.specs.Cells.{atFront, inCells, listRead}
 use Rattle.was.proofs.CellLaws.{front-front, front-own, front-more}
 use Rattle.was.proofs.ReadingLaws.{numbers-none, numbers-high, numbers-twice, numbers-next, numbers-over, numbers-more}
 
@@ -104,3 +106,26 @@ module _ (text : List ℕ) (at n : ℕ) (first cells : List ℕ) (k p : ℕ) (so
     reading-end true e =
         told-yes whole first cells (take k cells) true (sym last ∙ numbers-over n (take k cells) (drop p text) (drop-end text p (leb-true (length text) p (sym e)))) (so .is) refl
     reading-end false e = told-no whole first cells (sym last ∙ numbers-more n (take k cells) text p (leb-false (length text) p (sym e)))
+
+-- the answer as the list that was read
+module _ (first cells : List ℕ) (zeros : first ≡ replicate mostScopes 0) where
+  pub listed-no : (o : Outcome (List ℕ)) (r : Bool) → Told o first cells r → r ≡ false
+      → _≡_ {A = WasList} (record { ok = false; numbers = replicate mostScopes 0 }) (listRead o)
+  unfolding listRead
+  listed-no (refused k) r told e = refl
+  listed-no (done l) r told e = absurd (clash (told .0 l refl .0) e)
+
+  pub listed-yes : (o : Outcome (List ℕ)) (r : Bool) → Told o first cells r → r ≡ true
+      → _≡_ {A = WasList} (record { ok = true; numbers = cells }) (listRead o)
+  unfolding listRead inCells
+  listed-yes (refused k) r told e = absurd (clash e (told .1 k refl))
+  listed-yes (done l) r told e = ap (λ (z : List ℕ). record { ok = true; numbers = z }) (told .0 l refl .1 ∙ ap (atFront l) zeros)
+
+module _ (n : ℕ) (text : List ℕ) where
+  pub was-none : beginsWith wasLine text ≡ false → _≡_ {A = WasList} (record { ok = false; numbers = replicate mostScopes 0 }) (listRead (readWas n text))
+  unfolding readWas refuseIf listRead
+  was-none e = rw e
+
+  pub was-begins : beginsWith wasLine text ≡ true → numbersAfter n n [] (drop 4 text) ≡ readWas n text
+  unfolding readWas refuseIf
+  was-begins e = rw e

@@ -16,7 +16,7 @@ use Rattle.was.specs.Order.{withNew, gathered, metFrom, metAll}
 use Rattle.was.specs.Cells.{atFront, scopesBy, Scopes, Begins}
 use Rattle.was.proofs.Growing.{scopes-new, scopes-gathered, new-longer, longer-in, longer-size, gathered-longer, gathered-in, gathered-next}
 use Rattle.was.proofs.Meeting.{met-append, met-one, rounds, rounds-start, rounds-end, rounds-gather}
-use Rattle.was.proofs.CellLaws.{front-take, front-more, Held, held-start, held-take, held-grown, held-all}
+use Rattle.was.proofs.CellLaws.{front-take, front-front, front-more, Held, held-start, held-take, held-grown, held-all}
 use Rattle.was.proofs.RowLaws.{scopesFrom, from-all, from-row, from-none, next-is, next-past, from-next}
 
 -- the scopes that the rows of s lead to, row by row
@@ -98,6 +98,7 @@ module _ (first : List ℕ) (n : ℕ) where
 -- The list as its own queue: the first i scopes are passed, and what they meet is listed.
 pub record Queue (after : ℕ → List ℕ) (start : ℕ) (first cells : List ℕ) (n i : ℕ) : Type 0 where
   pub held : Held first cells n
+  pub some : 1 ≤ n
   pub within : i ≤ n
   pub all : rounds after (take n cells) ≡ metAll after start
   pub passed : (x : ℕ) → x ∈ metFrom after (take i (take n cells)) → x ∈ take n cells
@@ -121,6 +122,7 @@ module _ (after : ℕ → List ℕ) (start : ℕ) (first : List ℕ) (below : (s
       };
       is = front-more first 0 start (omega arith) ∙ ap (λ (l : List ℕ). atFront l first) (sym (one size));
     };
+    some = omega arith;
     within = omega arith;
     all = ap (rounds after) (one size) ∙ rounds-start after start;
     passed = λ x m. absurd (List·Memᴰ·not-nil m);
@@ -180,6 +182,7 @@ module _ (after : ℕ → List ℕ) (start : ℕ) (first : List ℕ) (below : (s
         pub queue-next : Queue after start first next m (i + 1)
         queue-next = record {
           held = held-grown first cells n (so .held) (gathered listed (after scope)) next m (gathered-longer (after scope) listed) grown count put;
+          some = let z = size in let w = longer in let o = so .some in omega arith;
           within = let z = size in let w = longer in omega arith;
           all =
               ap (rounds after) is
@@ -190,3 +193,21 @@ module _ (after : ℕ → List ℕ) (start : ℕ) (first : List ℕ) (below : (s
               (⊎-elim (λ j. longer-in listed (gathered listed (after scope)) (gathered-longer (after scope) listed) x (so .passed x j))
               (λ j. gathered-in (after scope) listed x j) (List·Memᴰ·append-cases (metFrom after (take i listed)) (in-part x y)));
         }
+
+-- The loop begins with the start put already; seen from the cells before that, it ends alike.
+module _ (after : ℕ → List ℕ) (start : ℕ) (first : List ℕ) (below : (s t : ℕ) → t ∈ after s → t < mostScopes) (size : length first ≡ mostScopes) where
+  pub queue-begun : start < mostScopes → Queue after start (set first 0 start) (set first 0 start) 1 0
+  queue-begun h =
+      let q = queue-start after start first below size h in
+      record { held = held-start (set first 0 start) 1 (q .held .begins); some = q .some; within = q .within; all = q .all; passed = q .passed }
+
+  pub queue-all : (cells : List ℕ) (n i : ℕ) → Queue after start (set first 0 start) cells n i → n ≤ i
+      → (n ≡ length (metAll after start)) × (cells ≡ atFront (metAll after start) first)
+  queue-all cells n i so h =
+      let e = queue-end after start (set first 0 start) below cells n i so h in
+      let o = so .some in
+      let l = e .0 in (
+        e .0,
+        e .1 ∙ ap (atFront (metAll after start)) (front-more first 0 start (omega arith))
+            ∙ front-front (start ∷ []) (metAll after start) first (omega arith),
+      )
