@@ -9,3 +9,6 @@ pub mod RowLaws
 pub mod Walking
 pub mod ReadingTurns
 pub mod Tables
+pub mod Breadth
+pub mod Taken
+pub mod Promises

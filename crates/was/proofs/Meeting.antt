@@ -18,7 +18,7 @@ use Rattle.was.specs.Cells.{Scopes}
 use Rattle.was.proofs.Growing.{new-there, new-put, scopes-more, scopes-size, gathered-append, gathered-there, gathered-longer, gathered-in, longer-in}
 
 -- the first that meets the test, behind elements that do not
-first-behind : {A : Type 0} (f : A → Bool) (p q : List A) → ((a : A) → a ∈ p → f a ≡ false) → firstOf f (p ++ q) ≡ firstOf f q
+pub first-behind : {A : Type 0} (f : A → Bool) (p q : List A) → ((a : A) → a ∈ p → f a ≡ false) → firstOf f (p ++ q) ≡ firstOf f q
 unfolding firstOf
 first-behind f [] q h = refl
 first-behind f (x ∷ p) q h = rw (h x here, firstOf) (first-behind f p q (λ a m. h a (there m)))
@@ -39,7 +39,7 @@ pub record FirstAt {A : Type 0} (f : A → Bool) (l : List A) (x : A) : Type 0 w
   pub passed : (a : A) → a ∈ above → f a ≡ false
   pub meets : f x ≡ true
 
-first-at : {A : Type 0} (f : A → Bool) (l : List A) (x : A) → firstOf f l ≡ some x → FirstAt f l x
+pub first-at : {A : Type 0} (f : A → Bool) (l : List A) (x : A) → firstOf f l ≡ some x → FirstAt f l x
 unfolding firstOf
 first-at f [] x e = absurd (let z : _≡_ {A = ℕ} 0 1 = cc in omega arith)
 first-at {A} f (y ∷ l) x e = by (f y) refl e (first-at f l x)
@@ -76,7 +76,7 @@ module _ (after : ℕ → List ℕ) where
   met-one s = append-nil (after s)
 
   -- what is listed already is not next
-  listed-passed : (l p : List ℕ) → ((t : ℕ) → t ∈ p → t ∈ l) → (t : ℕ) → t ∈ p → not (isListed t l) ≡ false
+  pub listed-passed : (l p : List ℕ) → ((t : ℕ) → t ∈ p → t ∈ l) → (t : ℕ) → t ∈ p → not (isListed t l) ≡ false
   listed-passed l p h t m = ap not (in-test t l (h t m))
 
   next-some : (l p q : List ℕ) (t : ℕ) → metFrom after l ≡ p ++ (t ∷ q) → ((x : ℕ) → x ∈ p → x ∈ l) → isListed t l ≡ false → nextMet after l ≡ some t
@@ -150,7 +150,7 @@ module _ (after : ℕ → List ℕ) (n : ℕ) (below : (s t : ℕ) → t ∈ aft
   unfolding metFrom
   from-below l t m = let r = flatMap-elim after l m in below (r .0) t (r .2)
 
-  scopes-step : (l : List ℕ) (t : ℕ) → Scopes n l → nextMet after l ≡ some t → Scopes n (l ++ (t ∷ []))
+  pub scopes-step : (l : List ℕ) (t : ℕ) → Scopes n l → nextMet after l ≡ some t → Scopes n (l ++ (t ∷ []))
   unfolding nextMet
   scopes-step l t s e =
       let r = first-at (λ x. not (isListed x l)) (metFrom after l) t e in
