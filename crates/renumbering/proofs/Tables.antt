@@ -187,7 +187,7 @@ module _ (cells : List ℕ) (was : WasRead cells) (text : List ℕ) (n : ℕ) (c
   back-none t out =
       let k = read-no (readWas n text) r is (readWas n text) refl t in
       let e : readWas (scopesOf cells) text ≡ refused 17 =
-          ap (λ (m : ℕ). readWas m text) (sym count) ∙ k .1 ∙ ap refused (reads-right n text small .refusal (k .0) (k .1)) in
+      ap (λ (m : ℕ). readWas m text) (sym count) ∙ k .1 ∙ ap refused (reads-right n text small .refusal (k .0) (k .1)) in
       let b : backText text cells ≡ refused 17 = rw e in
       (answer-refused (backText text cells) 17 (length out) b, leaves-refused (backText text cells) 17 out b)
 

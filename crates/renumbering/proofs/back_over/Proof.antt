@@ -1,54 +1,44 @@
+-- `back_over` meets its contract. Assumes nothing.
+use Rattle.text_field.specs.Answer.{answerOf}
+use Rattle.graph_file.proofs.TableLaws.{made-read, over-refused, over-written}
+use Rattle.renumbering.proofs.Tables.{back-refused, back-read}
 use borrow.Author.Needs.{needs}
 use Rattle.renumbering.proofs.back_over.Statement.{statement}
 use Rattle.renumbering.proofs.back_over.Tie as tie
-use Rattle.renumbering.proofs.back_over.Reads as reads
-use Rattle.renumbering.proofs.back_over.Lts as lts
-use Rattle.graph_file.proofs.read_over.Reads as read-over-reads
-use Rattle.renumbering.proofs.write_back.Reads as write-back-reads
 
--- src/lib.rt:145:9
 read-over-requires : tie.Need-read-over-requires
 read-over-requires c κs = search needs
 
--- src/lib.rt:147:25
 enum-known-a : tie.Need-enum-known-a
 enum-known-a c = search needs
 
--- src/lib.rt:148:25
 enum-known-a-2 : tie.Need-enum-known-a-2
 enum-known-a-2 c = search needs
 
--- src/lib.rt:148:42
 slice-reshare-prefix-write-back : tie.Need-slice-reshare-prefix-write-back
-slice-reshare-prefix-write-back c = ?
+slice-reshare-prefix-write-back c = (over-written (c .before .before .before .before .before .before .before .before .before .before .before .args .text .now) _ _ (c .before .before .before .before .before .read-over .ensures .0) (c .before .before .before .before .before .read-over .ensures .1) _ (c .before .a2 .given .1)) .within
 
--- src/lib.rt:148:42
 slice-aggregate-write-back : tie.Need-slice-aggregate-write-back
-slice-aggregate-write-back c = ?
+slice-aggregate-write-back c = (over-written (c .before .before .before .before .before .before .before .before .before .before .before .before .args .text .now) _ _ (c .before .before .before .before .before .before .read-over .ensures .0) (c .before .before .before .before .before .before .read-over .ensures .1) _ (c .before .before .a2 .given .1)) .taken
 
--- src/lib.rt:148:31
 write-back-requires : tie.Need-write-back-requires
-write-back-requires c κs = ?
+write-back-requires c κs = made-read (c .before .before .before .before .before .before .before .before .before .before .before .before .before .args .text .now) _ _ (over-written (c .before .before .before .before .before .before .before .before .before .before .before .before .before .args .text .now) _ _ (c .before .before .before .before .before .before .before .read-over .ensures .0) (c .before .before .before .before .before .before .before .read-over .ensures .1) _ (c .before .before .before .a2 .given .1))
 
--- src/lib.rt:140:1
 same-length : tie.Need-same-length
 same-length c = search needs
 
--- src/lib.rt:140:1
 returns : tie.Need-returns
-returns c = ?
+unfolding answerOf
+returns c = let a = c .before .before .before .before .before .before .before .before .before .before .before .args in back-refused (a .text .now) (a .was .now) _ (a .out .now) (over-refused (a .text .now) _ _ (c .before .before .before .before .before .read-over .ensures .0) _ (c .before .a .given .1))
 
--- src/lib.rt:140:1
 same-length-2 : tie.Need-same-length-2
 same-length-2 c = search needs
 
--- src/lib.rt:140:1
 same-length-3 : tie.Need-same-length-3
 same-length-3 c = search needs
 
--- src/lib.rt:140:1
 returns-2 : tie.Need-returns-2
-returns-2 c = ?
+returns-2 c = let a = c .before .before .before .before .before .before .before .before .before .before .before .before .before .before .before .before .args in back-read (a .text .now) (a .was .now) _ _ (over-written (c .before .before .before .before .before .before .before .before .before .before .before .before .before .before .before .before .args .text .now) _ _ (c .before .before .before .before .before .before .before .before .before .before .read-over .ensures .0) (c .before .before .before .before .before .before .before .before .before .before .read-over .ensures .1) _ (c .before .before .before .before .before .before .a2 .given .1)) _ _ (a .out .now) (c .before .before .write-back .ensures)
 
 pub back-over-spec : {M : Type 1} → statement M
 back-over-spec =

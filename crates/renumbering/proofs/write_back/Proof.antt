@@ -1,56 +1,45 @@
+-- `write_back` meets its contract. Assumes nothing.
+use native.Mathlib.Omega.{arith}
+use borrow.Author.Tests.{not-true, not-false}
+use Rattle.text_field.specs.Answer.{answerOf}
+use Rattle.renumbering.proofs.Tables.{scopes-most, back-none, numbers-within, numbers-count, numbers-most, numbers-once, back-within, back-count, back-each, back-written}
 use borrow.Author.Needs.{needs}
 use Rattle.renumbering.proofs.write_back.Statement.{statement}
 use Rattle.renumbering.proofs.write_back.Tie as tie
-use Rattle.renumbering.proofs.write_back.Reads as reads
-use Rattle.renumbering.proofs.write_back.Lts as lts
-use Rattle.renumbering.proofs.inverse.inverse.Reads as inverse-reads
-use Rattle.renumbering.proofs.write_by.Reads as write-by-reads
-use Rattle.was.proofs.scope_count.Reads as scope-count-reads
-use Rattle.was.proofs.read_was.Reads as read-was-reads
 
--- src/lib.rt:129:13
 scope-count-requires : tie.Need-scope-count-requires
 scope-count-requires c κs = search needs
 
--- src/lib.rt:130:9
 read-was-requires : tie.Need-read-was-requires
-read-was-requires c κs = ?
+read-was-requires c κs = let e = c .scope-count .ensures in let m = scopes-most (c .before .before .before .before .args .table .now) (c .before .before .before .before .pre) in omega arith
 
--- src/lib.rt:132:9
 returns : tie.Need-returns
-returns c = ?
+unfolding answerOf
+returns c = back-none (c .before .before .before .before .before .before .before .args .table .now) (c .before .before .before .before .before .before .before .pre) (c .before .before .before .before .before .before .before .args .was .now) _ (c .before .before .before .scope-count .ensures) _ (c .before .before .read-was .ensures) (not-true _ (c .if1 .taken)) (c .before .before .before .before .before .before .before .args .out .now)
 
--- src/lib.rt:135:24
 array-share-prefix-numbers : tie.Need-array-share-prefix-numbers
-array-share-prefix-numbers c = ?
+array-share-prefix-numbers c = numbers-within (c .before .before .before .before .before .before .before .before .args .table .now) (c .before .before .before .before .before .before .before .before .pre) (c .before .before .before .before .before .before .before .before .args .was .now) _ (c .before .before .before .before .scope-count .ensures) _ (c .before .before .before .read-was .ensures) (not-false _ (c .before .if1 .left))
 
--- src/lib.rt:135:24
 slice-aggregate-inverse : tie.Need-slice-aggregate-inverse
-slice-aggregate-inverse c = ?
+slice-aggregate-inverse c = numbers-count (c .before .before .before .before .before .before .before .before .before .args .table .now) (c .before .before .before .before .before .before .before .before .before .pre) (c .before .before .before .before .before .before .before .before .before .args .was .now) _ (c .before .before .before .before .before .scope-count .ensures) _ (c .before .before .before .before .read-was .ensures) (not-false _ (c .before .before .if1 .left))
 
--- src/lib.rt:135:16
 inverse-requires : tie.Need-inverse-requires
-inverse-requires c κs = ?
+inverse-requires c κs = (numbers-most (c .before .before .before .before .before .before .before .before .before .args .table .now) (c .before .before .before .before .before .before .before .before .before .pre) (c .before .before .before .before .before .before .before .before .before .args .was .now) _ (c .before .before .before .before .before .scope-count .ensures) _ (c .before .before .before .before .read-was .ensures) (not-false _ (c .before .before .if1 .left)), numbers-once (c .before .before .before .before .before .before .before .before .before .args .table .now) (c .before .before .before .before .before .before .before .before .before .pre) (c .before .before .before .before .before .before .before .before .before .args .was .now) _ (c .before .before .before .before .before .scope-count .ensures) _ (c .before .before .before .before .read-was .ensures) (not-false _ (c .before .before .if1 .left)))
 
--- src/lib.rt:136:21
 array-share-prefix-back : tie.Need-array-share-prefix-back
-array-share-prefix-back c = ?
+array-share-prefix-back c = back-within (c .before .before .before .before .before .before .before .before .before .before .args .table .now) (c .before .before .before .before .before .before .before .before .before .before .pre) (c .before .before .before .before .before .before .before .before .before .before .args .was .now) _ (c .before .before .before .before .before .before .scope-count .ensures) _ (c .before .before .before .before .before .read-was .ensures) (not-false _ (c .before .before .before .if1 .left)) _ (c .inverse .ensures)
 
--- src/lib.rt:136:21
 slice-aggregate-write-by : tie.Need-slice-aggregate-write-by
-slice-aggregate-write-by c = ?
+slice-aggregate-write-by c = back-count (c .before .before .before .before .before .before .before .before .before .before .before .args .table .now) (c .before .before .before .before .before .before .before .before .before .before .before .pre) (c .before .before .before .before .before .before .before .before .before .before .before .args .was .now) _ (c .before .before .before .before .before .before .before .scope-count .ensures) _ (c .before .before .before .before .before .before .read-was .ensures) (not-false _ (c .before .before .before .before .if1 .left)) _ (c .before .inverse .ensures)
 
--- src/lib.rt:136:5
 write-by-requires : tie.Need-write-by-requires
-write-by-requires c κs = ?
+write-by-requires c κs = (c .before .before .before .before .before .before .before .before .before .before .before .before .pre, back-each (c .before .before .before .before .before .before .before .before .before .before .before .before .args .table .now) (c .before .before .before .before .before .before .before .before .before .before .before .before .pre) (c .before .before .before .before .before .before .before .before .before .before .before .before .args .was .now) _ (c .before .before .before .before .before .before .before .before .scope-count .ensures) _ (c .before .before .before .before .before .before .before .read-was .ensures) (not-false _ (c .before .before .before .before .before .if1 .left)) _ (c .before .before .inverse .ensures))
 
--- src/lib.rt:124:1
 same-length : tie.Need-same-length
 same-length c = search needs
 
--- src/lib.rt:124:1
 returns-2 : tie.Need-returns-2
-returns-2 c = ?
+returns-2 c = back-written (c .before .before .before .before .before .before .before .before .before .before .before .before .before .before .before .args .table .now) (c .before .before .before .before .before .before .before .before .before .before .before .before .before .before .before .pre) (c .before .before .before .before .before .before .before .before .before .before .before .before .before .before .before .args .was .now) _ (c .before .before .before .before .before .before .before .before .before .before .before .scope-count .ensures) _ (c .before .before .before .before .before .before .before .before .before .before .read-was .ensures) (not-false _ (c .before .before .before .before .before .before .before .before .if1 .left)) _ (c .before .before .before .before .before .inverse .ensures) _ (c .before .before .before .before .before .before .before .before .before .before .before .before .before .before .before .args .out .now) _ (c .before .before .write-by .ensures)
 
 pub write-back-spec : {M : Type 1} → statement M
 write-back-spec =
