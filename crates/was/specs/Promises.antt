@@ -4,12 +4,13 @@ use Prim.Native.Nat.{ℕ, _≤_, _<_}
 use mathlib.Core.Path.{_≡_}
 use mathlib.Core.Logic.{_↔_}
 use mathlib.Core.List.{List, [], _∷_, _++_}
-use lib.ListN.{length}
+use lib.ListN.{length, getD}
 use Rattle.scope_graph.specs.Language.{_∈_}
 use Rattle.scope_graph.specs.Path.{Distinct}
 use Rattle.scope_graph.specs.Rows.{language}
 use Rattle.scope_graph.specs.Listing.{Pairwise}
 use Rattle.text_field.specs.Outcome.{refused, done}
+use Rattle.graph_rows.specs.Format.{mostScopes}
 use Rattle.graph_rows.specs.Decode.{rulesOf, scopesOf, graphOf, queriesOf}
 use Rattle.graph_file.specs.File.{WasRead}
 use Rattle.was.specs.Order.{scopesAfter, metFrom, gathered, startIn, wasList}
@@ -35,6 +36,7 @@ pub record ByMeetings (after : ℕ → List ℕ) (start : ℕ) (list : List ℕ)
 pub record ListRight (cells : List ℕ) : Type 0 where
   pub each : HoldsEach (scopesOf cells) (wasList cells)
   pub size : length (wasList cells) ≡ scopesOf cells
+  pub first : getD (wasList cells) 0 0 ≡ startIn (queriesOf cells)
   pub by-meetings : ByMeetings (scopesAfter (language (rulesOf cells)) (graphOf cells .edges)) (startIn (queriesOf cells)) (wasList cells)
   pub text-short : length (wasText (wasList cells)) ≤ 196
 
@@ -42,13 +44,13 @@ abbrev pub ListsRight : Type 0
 ListsRight = (cells : List ℕ) → WasRead cells → ListRight cells
 
 -- a text is read as a list exactly if it is the list's text and the list has each number once, and
--- nothing but 17 refuses it
+-- nothing but 17 refuses it; no file has more than 64 scopes
 pub record ReadRight (n : ℕ) (text : List ℕ) : Type 0 where
   pub exactly : (list : List ℕ) → (readWas n text ≡ done list) ↔ ((text ≡ wasText list) × HoldsEach n list)
   pub refusal : (k : ℕ) → readWas n text ≡ refused k → k ≡ 17
 
 abbrev pub ReadsRight : Type 0
-ReadsRight = (n : ℕ) (text : List ℕ) → ReadRight n text
+ReadsRight = (n : ℕ) (text : List ℕ) → n ≤ mostScopes → ReadRight n text
 
 pub record Promises : Type 0 where
   pub lists : ListsRight
