@@ -4,7 +4,6 @@ mod order;
 mod text;
 
 pub use order::list_scopes;
-pub use order::scope_count;
 pub use text::WasList;
 pub use text::put_was;
 pub use text::read_was;

@@ -1,22 +1,19 @@
 // A file's scopes, breadth-first. The list is its own queue: the scopes in it are taken one after
 // the other, and what their edges lead to is put after the last.
-use graph_table::COUNT;
+use board::scope_count;
+use board::section_rows;
 use graph_table::EDGES;
 use graph_table::QUERIES;
 use graph_table::ROW;
-use graph_table::SECTION;
 use graph_table::edge_row;
-use graph_table::first_row;
 use graph_table::first_value;
 use graph_table::next_row;
-use graph_table::rows_from;
 ghost use mathlib.Core.Path.{_≡_};
 ghost use Prim.Native.Nat.{ℕ, _≤_, _<_};
 ghost use lib.ListN.{length, getD, take};
 ghost use Rattle.scope_graph.specs.Language.{_∈_};
 ghost use Rattle.scope_graph.specs.Readers.{numbersBelow};
 ghost use Rattle.graph_rows.specs.Admission.{value, blank};
-ghost use Rattle.graph_rows.specs.Decode.{scopesOf};
 ghost use Rattle.graph_rows.specs.Format.{mostScopes};
 ghost use Rattle.graph_file.specs.File.{WasRead};
 ghost use Rattle.graph_table.specs.Sections.{partOf, rowsOf};
@@ -26,34 +23,16 @@ ghost use Rattle.was.specs.Cells.{atFront, inCells, scopesBy, Begins};
 // The scopes of a file at most.
 const MOST: usize = 64;
 
-// The rows of section k.
-fn rows_in(table: &[u64], k: usize) -> &[u64]
-    requires section { ⌜ k < 9 ⌝ }
-    ensures answer { λ r. ⌜ now r ≡ partOf k (now (table .entry)) ⌝ }
-{
-    let from = rows_from(table, SECTION, k as u64, first_row(table));
-    let to = rows_from(table, SECTION, k as u64 + 1, from);
-    &table[from..to]
-}
-
 // The first value of the first row of section k, 0 if it has no row.
 fn first_in(table: &[u64], k: usize) -> u64
     requires section { ⌜ k < 9 ⌝ }
     ensures answer { λ r. ⌜ r ≡ value (getD (rowsOf (partOf k (now (table .entry)))) 0 blank) 0 ⌝ }
 {
-    let rows = rows_in(table, k);
+    let rows = section_rows(table, k);
     if rows.len() < ROW {
         return 0;
     }
     first_value(rows, 0)
-}
-
-// How many scopes the file has.
-pub fn scope_count(table: &[u64]) -> u64
-    requires read { ⌜ WasRead (now table) ⌝ }
-    ensures answer { λ r. ⌜ r ≡ scopesOf (now (table .entry)) ⌝ }
-{
-    first_in(table, COUNT)
 }
 
 // Does the list hold the number?
@@ -143,7 +122,7 @@ pub fn list_scopes(table: &[u64]) -> [u64; 64]
     ensures answer { λ r. ⌜ r ≡ inCells (wasList (now (table .entry))) ⌝ }
 {
     let mut list = [0u64; MOST];
-    let n = list_met(rows_in(table, EDGES), first_in(table, QUERIES), &mut list);
+    let n = list_met(section_rows(table, EDGES), first_in(table, QUERIES), &mut list);
     list_unmet(&mut list, n, scope_count(table));
     list
 }

@@ -11,17 +11,17 @@ use borrow.Author.Needs.{needs}
 use Rattle.was.proofs.order.first_in.Statement.{statement}
 use Rattle.was.proofs.order.first_in.Tie as tie
 
-rows-in-requires : tie.Need-rows-in-requires
-rows-in-requires c κs = search needs
+section-rows-requires : tie.Need-section-rows-requires
+section-rows-requires c κs = search needs
 
 returns : tie.Need-returns
-returns c = first-none _ (c .if1 .taken) ∙ ap (λ (l : List ℕ). value (getD (rowsOf l) 0 blank) 0) (c .before .rows-in .ensures)
+returns c = first-none _ (c .if1 .taken) ∙ ap (λ (l : List ℕ). value (getD (rowsOf l) 0 blank) 0) (c .before .section-rows .ensures)
 
 first-value-requires : tie.Need-first-value-requires
 first-value-requires c κs = search needs
 
 returns-2 : tie.Need-returns-2
-returns-2 c = first-there _ _ (c .before .if1 .left) (c .first-value .ensures) ∙ ap (λ (l : List ℕ). value (getD (rowsOf l) 0 blank) 0) (c .before .before .rows-in .ensures)
+returns-2 c = first-there _ _ (c .before .if1 .left) (c .first-value .ensures) ∙ ap (λ (l : List ℕ). value (getD (rowsOf l) 0 blank) 0) (c .before .before .section-rows .ensures)
 
 pub first-in-spec : {M : Type 1} → statement M
-first-in-spec = tie.close (tie.spec rows-in-requires returns first-value-requires returns-2)
+first-in-spec = tie.close (tie.spec section-rows-requires returns first-value-requires returns-2)
