@@ -14,6 +14,7 @@ use Rattle.text_field.specs.Answer.{answer}
 use Rattle.graph_rows.specs.Format.{textBytes}
 use Rattle.graph_rows.specs.Decode.{rulesOf, scopesOf, graphIn, opensIn, queriesIn}
 use Rattle.graph_file.specs.File.{readCells}
+use Rattle.renumbered.specs.Renumbered.{backOf}
 use Rattle.was.specs.Order.{wasList}
 use Rattle.was.specs.WasText.{wasText}
 use Rattle.was.specs.Promises.{HoldsEach, ListRight}
@@ -44,10 +45,12 @@ abbrev pub StillSeen : Type 0
 StillSeen = (text cells : List ℕ) (r : Renumbering) → readCells text ≡ done cells → renumberOf text ≡ done r
     → (after : List ℕ) × (readCells (r .file) ≡ done after) × SameSeen (wasList cells) cells after
 
--- The way back takes any file and any list of its scopes, breadth-first or not.
+-- The way back takes any file and any list of its scopes, breadth-first or not, and what comes of
+-- the file sees the same too, under the numbers that the list tells.
 abbrev pub AnyList : Type 0
 AnyList = (text cells list : List ℕ) → readCells text ≡ done cells → HoldsEach (scopesOf cells) list
-    → (file : List ℕ) × (backFor text (wasText list) ≡ done file)
+    → (file : List ℕ) × (after : List ℕ) × (backFor text (wasText list) ≡ done file) × (readCells file ≡ done after)
+    × SameSeen (backOf list) cells after
 
 -- Which refusals there are. What is refused by 1 to 6 is refused by that number. Of a file that is
 -- read nothing but 9 refuses the renumbering, exactly if either buffer is too short; a buffer of the
