@@ -1,9 +1,9 @@
 -- The promises of specs/Promises. Assumes nothing.
-use Prim.Native.Nat.{ℕ, _≤_, _<_}
+use Prim.Native.Nat.{ℕ, _<_}
 use mathlib.Core.Path.{_≡_, refl, sym, ap, _∙_, subst}
 use mathlib.Core.Bool.{Bool, true, false, _||_}
 use mathlib.Core.Logic.{_⊎_, inl, inr, ⊎-elim, _↔_}
-use mathlib.Core.List.{List, [], _∷_}
+use mathlib.Core.List.{List}
 use native.Mathlib.Omega.{arith}
 use lib.Dec.{ltb}
 use lib.ListN.{length}
@@ -12,12 +12,12 @@ use Rattle.text_field.specs.Outcome.{Outcome, refused, done, andThen, refuseIf}
 use Rattle.text_field.specs.Answer.{answer}
 use Rattle.text_field.proofs.AnswerLaws.{answer-refused}
 use Rattle.text_field.proofs.OutcomeLaws.{done-same, not-done, Went, went}
-use Rattle.scope_graph.proofs.Lists.{Two, or-cases, or-left, or-right}
-use Rattle.graph_rows.specs.Format.{textBytes, mostScopes}
+use Rattle.scope_graph.proofs.Lists.{or-cases, or-left, or-right}
+use Rattle.graph_rows.specs.Format.{textBytes}
 use Rattle.graph_rows.specs.Decode.{scopesOf}
 use Rattle.graph_rows.specs.Formed.{FormedTable}
 use Rattle.graph_file.specs.File.{readCells, writeText}
-use Rattle.graph_file.proofs.InverseFile.{read-then-written, written-short, written-then-read}
+use Rattle.graph_file.proofs.InverseFile.{read-then-written, written-short}
 use Rattle.graph_file.proofs.Promises.{read-formed, nothing-but-nine}
 use Rattle.renumbered.specs.Renumbered.{renumberedBy, EachOnce, backOf}
 use Rattle.renumbered.proofs.Promises.{way-back-given, formed-given, graph-given}

@@ -111,11 +111,11 @@ fn list_met(edges: &[u64], start: u64, list: &mut [u64]) -> usize
 {
     list[0] = start;
     let mut n: usize = 1;
-    let mut i: usize = 0;
-    while i < n {
-        let s = list[i];
+    let mut next: usize = 0;
+    while next < n {
+        let s = list[next];
         n = gather(edges, s, list, n);
-        i += 1;
+        next += 1;
     }
     n
 }
