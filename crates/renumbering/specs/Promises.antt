@@ -20,8 +20,8 @@ use Rattle.was.specs.WasText.{wasText}
 use Rattle.was.specs.Promises.{HoldsEach, ListRight}
 use Rattle.renumbering.specs.Renumbering.{Renumbering, renumberOf, roomFor, backFor}
 
--- of a text that is read there is always a renumbering; its list is the breadth-first one, with each
--- scope once
+-- of a text that is read there is always a renumbering; its list is the breadth-first one, with
+-- each scope once
 abbrev pub Renumbered : Type 0
 Renumbered = (text cells : List ℕ) → readCells text ≡ done cells
     → (r : Renumbering) × (renumberOf text ≡ done r) × (r .list ≡ wasText (wasList cells)) × ListRight cells
@@ -30,9 +30,10 @@ Renumbered = (text cells : List ℕ) → readCells text ≡ done cells
 abbrev pub ThereAndBack : Type 0
 ThereAndBack = (text : List ℕ) (r : Renumbering) → renumberOf text ≡ done r → backFor (r .file) (r .list) ≡ done text
 
--- Two tables that see the same under a list: with the same rules the queries of the second are those
--- of the first under the new numbers, in the same sequence; and each has the same entries under the
--- list, the same `found`, and is settled in one exactly if in the other (`RenamedPromises`).
+-- Two tables that see the same under a list: with the same rules the queries of the second are
+-- those of the first under the new numbers, in the same sequence. Each sees the entries of its
+-- counterpart, renumbered; both have one `found`, and neither is settled without the other
+-- (`RenamedPromises`).
 pub record SameSeen (was cells after : List ℕ) : Type 0 where
   pub rules : rulesOf after ≡ rulesOf cells
   pub queries : queriesIn (rulesOf cells) after ≡ map (queryUnder (language (rulesOf cells)) (newNumber was)) (queriesIn (rulesOf cells) cells)
@@ -53,9 +54,9 @@ AnyList = (text cells list : List ℕ) → readCells text ≡ done cells → Hol
     × SameSeen (backOf list) cells after
 
 -- Which refusals there are. What is refused by 1 to 6 is refused by that number. Of a file that is
--- read nothing but 9 refuses the renumbering, exactly if either buffer is too short; a buffer of the
--- longest file's length and one of 196 bytes are not. On the way back 17 refuses exactly a text that
--- is no list of the file's scopes, and nothing but 9 comes beside it.
+-- read nothing but 9 refuses the renumbering, exactly if either buffer is too short; a buffer of
+-- the longest file's length and one of 196 bytes are not. On the way back 17 refuses exactly a text
+-- that is no list of the file's scopes, and nothing but 9 comes beside it.
 pub record Refusals : Type 0 where
   pub reading : (text : List ℕ) (n : ℕ) → readCells text ≡ refused n → (renumberOf text ≡ refused n) × ((was : List ℕ) → backFor text was ≡ refused n)
   pub renumbering : (text cells : List ℕ) → readCells text ≡ done cells → (out lines n : ℕ) → roomFor out lines (renumberOf text) ≡ refused n

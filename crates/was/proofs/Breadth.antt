@@ -1,4 +1,5 @@
--- Which list it is: each scope once, and those that are met at their first meetings. Assumes nothing.
+-- Which list it is: each scope once, and those that are met at their first meetings. Assumes
+-- nothing.
 use Prim.Native.Nat.{ℕ, zero, suc, _+_, _≤_, _<_}
 use mathlib.Core.Path.{_≡_, refl, sym, ap, _∙_, subst}
 use mathlib.Core.Bool.{Bool, true, false, not}

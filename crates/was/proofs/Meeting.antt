@@ -1,5 +1,5 @@
--- What is met, scope by scope: the next one is the first that is new, so taking the listed scopes in
--- turn finds the same list. Assumes nothing.
+-- What is met, scope by scope: the next one is the first that is new, so taking the listed scopes
+-- in turn finds the same list. Assumes nothing.
 use Prim.Native.Nat.{ℕ, zero, suc, _-_, _<_}
 use mathlib.Core.Path.{_≡_, refl, sym, ap, _∙_, subst}
 use mathlib.Core.Bool.{Bool, true, false, not}

@@ -136,8 +136,8 @@ fn list_unmet(list: &mut [u64], n: usize, count: u64) -> usize
     k
 }
 
-// The scopes breadth-first, from the first query's start along all edges, then those that are not
-// met. The list has as many numbers as there are scopes; the cells after them are 0.
+// Lists all scopes: those that are met along edges from where the first query starts, nearest first,
+// then the others. There are as many numbers as scopes; the cells after them are 0.
 pub fn list_scopes(table: &[u64]) -> [u64; 64]
     requires read { ⌜ WasRead (now table) ⌝ }
     ensures answer { λ r. ⌜ r ≡ inCells (wasList (now (table .entry))) ⌝ }

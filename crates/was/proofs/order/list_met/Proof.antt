@@ -1,5 +1,5 @@
--- `list_met` meets its contract. The loop's invariant is `Queue`: what the scopes above the next one
--- meet is listed, and the list grows to the one that is due. Assumes nothing.
+-- `list_met` meets its contract. The loop's invariant is `Queue`: what the scopes above the next
+-- one meet is listed, and the list grows to the one that is due. Assumes nothing.
 use Prim.Native.Nat.{_-_}
 use mathlib.Core.Path.{sym, _∙_}
 use native.Mathlib.Omega.{arith}

@@ -1,5 +1,5 @@
--- `list_unmet` meets its contract. The loop's invariant is `Missing`: the scopes below s are gathered.
--- Assumes nothing.
+-- `list_unmet` meets its contract. The loop's invariant is `Missing`: the scopes below s are
+-- gathered. Assumes nothing.
 use Prim.Native.Nat.{_-_, _≤_}
 use mathlib.Core.Path.{sym, _∙_}
 use native.Mathlib.Omega.{arith}

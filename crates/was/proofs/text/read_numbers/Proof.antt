@@ -1,5 +1,5 @@
--- `read_numbers` meets its contract. The loop's invariant is `Reading`: k numbers are read, and what
--- is left gives the whole. Assumes nothing.
+-- `read_numbers` meets its contract. The loop's invariant is `Reading`: k numbers are read, and
+-- what is left gives the whole. Assumes nothing.
 use Prim.Native.Nat.{_-_}
 use mathlib.Core.Path.{refl, sym, _∙_}
 use native.Mathlib.Omega.{arith}
