@@ -1,8 +1,9 @@
 -- How the code holds a list: at the front of 64 cells. Assumes nothing: these are definitions.
-use Prim.Native.Nat.{ℕ, _<_}
+use Prim.Native.Nat.{ℕ, _≤_, _<_}
+use mathlib.Core.Path.{_≡_}
 use mathlib.Core.Bool.{true, false}
 use mathlib.Core.List.{List, _++_, map}
-use lib.ListN.{length, drop, replicate}
+use lib.ListN.{length, take, drop, replicate}
 use Rattle.scope_graph.specs.Language.{_∈_}
 use Rattle.scope_graph.specs.Path.{Distinct}
 use Rattle.text_field.specs.Outcome.{Outcome, refused, done}
@@ -27,7 +28,13 @@ listRead (done numbers) = record { ok = true; numbers = inCells numbers }
 unfoldable pub scopesBy : List ℕ → ℕ → List ℕ
 scopesBy edges s = map (λ h. h .to) (rowHops edges s)
 
--- different numbers, each a scope's
-pub record Scopes (list : List ℕ) : Type 0 where
+-- different numbers below n
+pub record Scopes (n : ℕ) (list : List ℕ) : Type 0 where
   pub once : Distinct list
-  pub below : (x : ℕ) → x ∈ list → x < mostScopes
+  pub below : (x : ℕ) → x ∈ list → x < n
+
+-- 64 cells that begin with n scopes
+pub record Begins (cells : List ℕ) (n : ℕ) : Type 0 where
+  pub size : length cells ≡ mostScopes
+  pub most : n ≤ mostScopes
+  pub scopes : Scopes mostScopes (take n cells)

@@ -11,9 +11,7 @@ use graph_table::first_value;
 use graph_table::next_row;
 use graph_table::rows_from;
 ghost use mathlib.Core.Path.{_≡_};
-ghost use mathlib.Core.Bool.{false};
-ghost use mathlib.Core.List.{_∷_, []};
-ghost use Prim.Native.Nat.{ℕ, _+_, _≤_, _<_};
+ghost use Prim.Native.Nat.{ℕ, _≤_, _<_};
 ghost use lib.ListN.{length, getD, take};
 ghost use Rattle.scope_graph.specs.Language.{_∈_};
 ghost use Rattle.scope_graph.specs.Readers.{numbersBelow};
@@ -23,7 +21,7 @@ ghost use Rattle.graph_rows.specs.Format.{mostScopes};
 ghost use Rattle.graph_file.specs.File.{WasRead};
 ghost use Rattle.graph_table.specs.Sections.{partOf, rowsOf};
 ghost use Rattle.was.specs.Order.{isListed, withNew, gathered, metAll, wasList};
-ghost use Rattle.was.specs.Cells.{atFront, inCells, scopesBy, Scopes};
+ghost use Rattle.was.specs.Cells.{atFront, inCells, scopesBy, Begins};
 
 // The scopes of a file at most.
 const MOST: usize = 64;
@@ -58,13 +56,12 @@ pub fn scope_count(table: &[u64]) -> u64
     first_in(table, COUNT)
 }
 
-// Is the number among the first n?
-pub(crate) fn is_listed(list: &[u64; 64], n: usize, x: u64) -> bool
-    requires within { ⌜ n ≤ mostScopes ⌝ }
-    ensures answer { λ r. ⌜ r ≡ isListed x (take n (now (list .entry))) ⌝ }
+// Does the list hold the number?
+pub(crate) fn is_listed(list: &[u64], x: u64) -> bool
+    ensures answer { λ r. ⌜ r ≡ isListed x (now (list .entry)) ⌝ }
 {
     let mut i: usize = 0;
-    while i < n {
+    while i < list.len() {
         if list[i] == x {
             return true;
         }
@@ -74,13 +71,13 @@ pub(crate) fn is_listed(list: &[u64; 64], n: usize, x: u64) -> bool
 }
 
 // Puts the scope after the first n, unless it is one of them. Returns how many there are then.
-fn with_scope(list: &mut [u64; 64], n: usize, s: u64) -> usize
+fn with_scope(list: &mut [u64], n: usize, s: u64) -> usize
     requires scope { ⌜ s < mostScopes ⌝ }
-    requires listed { ⌜ (n ≤ mostScopes) × Scopes (take n (now list)) ⌝ }
+    requires listed { ⌜ Begins (now list) n ⌝ }
     ensures count { λ r. ⌜ r ≡ length (withNew (take n (now (list .entry))) s) ⌝ }
     ensures memory { λ r. ⌜ now (list .exit) ≡ atFront (withNew (take n (now (list .entry))) s) (now (list .entry)) ⌝ }
 {
-    if is_listed(list, n, s) {
+    if is_listed(&list[..n], s) {
         return n;
     }
     list[n] = s;
@@ -88,9 +85,9 @@ fn with_scope(list: &mut [u64; 64], n: usize, s: u64) -> usize
 }
 
 // Puts the scopes that the edges of s lead to after the first n, in row sequence, each once.
-fn gather(edges: &[u64], s: u64, list: &mut [u64; 64], n: usize) -> usize
+fn gather(edges: &[u64], s: u64, list: &mut [u64], n: usize) -> usize
     requires scopes { ⌜ ((t : ℕ) → t ∈ scopesBy (now edges) s → t < mostScopes) ⌝ }
-    requires listed { ⌜ (n ≤ mostScopes) × Scopes (take n (now list)) ⌝ }
+    requires listed { ⌜ Begins (now list) n ⌝ }
     ensures count { λ r. ⌜ r ≡ length (gathered (take n (now (list .entry))) (scopesBy (now (edges .entry)) s)) ⌝ }
     ensures memory { λ r. ⌜ now (list .exit) ≡ atFront (gathered (take n (now (list .entry))) (scopesBy (now (edges .entry)) s)) (now (list .entry)) ⌝ }
 {
@@ -105,27 +102,28 @@ fn gather(edges: &[u64], s: u64, list: &mut [u64; 64], n: usize) -> usize
 }
 
 // Lists the scopes that are met from the start.
-fn list_met(edges: &[u64], start: u64, list: &mut [u64; 64]) -> usize
+fn list_met(edges: &[u64], start: u64, list: &mut [u64]) -> usize
     requires start { ⌜ start < mostScopes ⌝ }
+    requires size { ⌜ length (now list) ≡ mostScopes ⌝ }
     requires scopes { ⌜ ((s t : ℕ) → t ∈ scopesBy (now edges) s → t < mostScopes) ⌝ }
     ensures count { λ r. ⌜ r ≡ length (metAll (scopesBy (now (edges .entry))) start) ⌝ }
     ensures memory { λ r. ⌜ now (list .exit) ≡ atFront (metAll (scopesBy (now (edges .entry))) start) (now (list .entry)) ⌝ }
 {
     list[0] = start;
     let mut n: usize = 1;
-    let mut i: usize = 0;
-    while i < n {
-        let s = list[i];
+    let mut next: usize = 0;
+    while next < n {
+        let s = list[next];
         n = gather(edges, s, list, n);
-        i += 1;
+        next += 1;
     }
     n
 }
 
 // Puts those of the first `count` scopes that are not listed after the first n, ascending.
-fn list_unmet(list: &mut [u64; 64], n: usize, count: u64) -> usize
+fn list_unmet(list: &mut [u64], n: usize, count: u64) -> usize
     requires count { ⌜ count ≤ mostScopes ⌝ }
-    requires listed { ⌜ (n ≤ mostScopes) × Scopes (take n (now list)) ⌝ }
+    requires listed { ⌜ Begins (now list) n ⌝ }
     ensures count { λ r. ⌜ r ≡ length (gathered (take n (now (list .entry))) (numbersBelow count)) ⌝ }
     ensures memory { λ r. ⌜ now (list .exit) ≡ atFront (gathered (take n (now (list .entry))) (numbersBelow count)) (now (list .entry)) ⌝ }
 {
@@ -138,8 +136,8 @@ fn list_unmet(list: &mut [u64; 64], n: usize, count: u64) -> usize
     k
 }
 
-// The scopes breadth-first, from the first query's start along all edges, then those that are not
-// met. The list has as many numbers as there are scopes; the cells after them are 0.
+// Lists all scopes: those that are met along edges from where the first query starts, nearest first,
+// then the others. There are as many numbers as scopes; the cells after them are 0.
 pub fn list_scopes(table: &[u64]) -> [u64; 64]
     requires read { ⌜ WasRead (now table) ⌝ }
     ensures answer { λ r. ⌜ r ≡ inCells (wasList (now (table .entry))) ⌝ }

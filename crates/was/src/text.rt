@@ -9,7 +9,7 @@ ghost use mathlib.Core.Path.{_≡_};
 ghost use mathlib.Core.Bool.{true, false};
 ghost use mathlib.Core.List.{List, []};
 ghost use Prim.Native.Nat.{ℕ, _≤_};
-ghost use lib.ListN.{drop};
+ghost use lib.ListN.{length, drop};
 ghost use Rattle.text_field.specs.Buffer.{Buf, puts};
 ghost use Rattle.text_field.specs.Number.{numberPlaced};
 ghost use Rattle.text_field.specs.Outcome.{refused, done};
@@ -17,8 +17,8 @@ ghost use Rattle.graph_rows.specs.Format.{mostScopes};
 ghost use Rattle.was.specs.WasText.{numberLine, wasText, beginsWith, lineNumber, numbersAfter, readWas};
 ghost use Rattle.was.specs.Cells.{atFront, listRead};
 
-// What was read as a list: whether it is one, and its numbers, with zeros after them. Of a text that
-// is no list all numbers are 0.
+// What was read as a list: whether it is one, and its numbers, with zeros after them. Of a text
+// that is no list all numbers are 0.
 pub struct WasList {
     pub ok: bool,
     pub numbers: [u64; 64],
@@ -80,8 +80,9 @@ fn number_line(text: &[u8], at: usize) -> NumberRead
 
 // Reads n different numbers below n from the lines at a place on, after which the text must end.
 // Returns whether that is so; the list then begins with them.
-fn read_numbers(text: &[u8], at: usize, n: usize, list: &mut [u64; 64]) -> bool
+fn read_numbers(text: &[u8], at: usize, n: usize, list: &mut [u64]) -> bool
     requires count { ⌜ n ≤ mostScopes ⌝ }
+    requires size { ⌜ length (now list) ≡ mostScopes ⌝ }
     ensures read { λ r. ⌜ ((numbers : List ℕ) → numbersAfter n n [] (drop at (now (text .entry))) ≡ done numbers
         → (r ≡ true) × (now (list .exit) ≡ atFront numbers (now (list .entry)))) ⌝ }
     ensures refused { λ r. ⌜ ((k : ℕ) → numbersAfter n n [] (drop at (now (text .entry))) ≡ refused k → r ≡ false) ⌝ }
@@ -95,7 +96,7 @@ fn read_numbers(text: &[u8], at: usize, n: usize, list: &mut [u64; 64]) -> bool
         if n as u64 <= v {
             return false;
         }
-        if is_listed(list, k, v) {
+        if is_listed(&list[..k], v) {
             return false;
         }
         list[k] = v;
