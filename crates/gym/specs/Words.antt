@@ -62,6 +62,10 @@ countAsked query = byQuery count query
 unfoldable pub readersAsked : List ℕ → Asked
 readersAsked place = byQuery readers place
 
+-- FILE names a second file. Its bytes are handed over beside the input, and its name says nothing.
+unfoldable pub backAsked : List ℕ → Asked
+backAsked file = back
+
 -- A word: its name, how its arguments are shown and what it does, for who does not know it, and what
 -- its arguments ask for.
 pub record Word : Type 0 where
@@ -128,9 +132,7 @@ readersWord =
       asks = withOne readersAsked;
     }
 
--- Scopes numbered for storage, the list of their old numbers, the way back by such a list (02, K13).
--- FILE names a second file; what is asked does not depend on its name, and what is said is said of
--- its content.
+-- scopes numbered for storage, the list of their old numbers, the way back by such a list (02, K13)
 unfoldable pub renumberWord : Word
 renumberWord =
     record {
@@ -149,7 +151,7 @@ backWord =
       name = bytes "back";
       shown = bytes " FILE";
       does = bytes "the file with the old numbers again, by the list in FILE";
-      asks = withOne (λ file. back);
+      asks = withOne backAsked;
     }
 
 -- the usage text, as an answer and not as a complaint

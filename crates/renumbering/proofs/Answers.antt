@@ -2,13 +2,13 @@
 use Prim.Native.Nat.{ℕ, _≤_, _<_}
 use mathlib.Core.Path.{_≡_, refl, sym, ap, _∙_}
 use mathlib.Core.Bool.{Bool, true, false, _||_}
-use mathlib.Core.List.{List, [], _∷_, _++_}
+use mathlib.Core.List.{List, _++_}
 use native.Mathlib.Omega.{arith}
 use native.Mathlib.Nat.{zero-add}
 use lib.Dec.{ltb}
-use lib.ListN.{length, take, drop, replicate, length-append, length-drop, length-replicate}
+use lib.ListN.{length, take, drop, replicate, length-append, length-replicate}
 use lib.Seq.{take-append-seam, length-take-le}
-use borrow.Author.Tests.{lt-ltb, le-ltb, ltb-true, ltb-false}
+use borrow.Author.Tests.{lt-ltb, le-ltb, ltb-true}
 use Rattle.text_field.specs.Buffer.{Buf, puts}
 use Rattle.text_field.specs.Outcome.{Outcome, refused, done, andThen, refuseIf}
 use Rattle.text_field.specs.Answer.{answer, leaves, answerOf}
@@ -19,7 +19,7 @@ use Rattle.text_field.proofs.AnswerLaws.{leaves-fits, leaves-short}
 use Rattle.text_field.proofs.OutcomeLaws.{done-same, not-done}
 use Rattle.renumbering.specs.declared.Numbered.{Numbered}
 use Rattle.renumbering.specs.declared.Numbered.the-variants.{Refused, Written}
-use Rattle.renumbering.specs.Renumbering.{Renumbering, roomFor, Sizes, sizesOf, fileOf, listOf, numberedOf}
+use Rattle.renumbering.specs.Renumbering.{Renumbering, roomFor, sizesOf, fileOf, listOf, numberedOf}
 
 -- what must hold at the end: the answer, and each buffer
 abbrev pub Told : Outcome Renumbering → List ℕ → List ℕ → Numbered → List ℕ → List ℕ → Type 0

@@ -2,3 +2,4 @@
 pub mod InverseLaws
 pub mod Answers
 pub mod Tables
+pub mod Promises

@@ -1,8 +1,8 @@
 -- A table that was read, renumbered by a list of its scopes and written. Assumes nothing.
 use Prim.Native.Nat.{ℕ, _≤_, _<_}
 use mathlib.Core.Path.{_≡_, refl, sym, ap, _∙_, subst}
-use mathlib.Core.Bool.{Bool, true, false}
-use mathlib.Core.List.{List, [], _∷_, _++_}
+use mathlib.Core.Bool.{true, false}
+use mathlib.Core.List.{List, _++_}
 use native.Mathlib.Omega.{arith}
 use lib.ListN.{length, take, drop, replicate, length-append, length-replicate}
 use lib.Seq.{take-at, length-take-le}
@@ -30,7 +30,7 @@ use Rattle.was.specs.WasText.{wasText, readWas}
 use Rattle.was.specs.Cells.{inCells, listRead}
 use Rattle.was.specs.Promises.{HoldsEach}
 use Rattle.was.proofs.CellLaws.{front-size, front-take}
-use Rattle.was.proofs.Breadth.{holds-size, holds-scopes}
+use Rattle.was.proofs.Breadth.{holds-size}
 use Rattle.was.proofs.Taken.{reads-right}
 use Rattle.was.proofs.Promises.{lists-right}
 use Rattle.renumbering.specs.declared.Numbered.{Numbered}

@@ -22,7 +22,6 @@ ghost use mathlib.Core.Path.{_≡_};
 ghost use Prim.Native.Nat.{_≤_};
 ghost use lib.ListN.{length};
 ghost use Rattle.text_field.specs.Answer.{answer, leaves, answerOf};
-ghost use Rattle.text_field.specs.Outcome.{done};
 ghost use Rattle.graph_rows.specs.Decode.{scopesOf};
 ghost use Rattle.graph_file.specs.File.{WasRead, writeText};
 ghost use Rattle.graph_file.specs.Reader.{TextRoom};
@@ -152,8 +151,8 @@ fn back_over(text: &[u8], table: &mut [u64], was: &[u8], out: &mut [u8]) -> Answ
     }
 }
 
-// Writes the text with its scopes under the old numbers that a list tells: refusals 1 to 6, then 17,
-// then 9. After a refusal the buffer is as it was.
+// Writes the text with its scopes under the old numbers that a list tells: refusals 1 to 6, then
+// 17, then 9. After a refusal the buffer is as it was.
 pub fn back(text: &[u8], was: &[u8], out: &mut [u8]) -> Answer
     ensures answer { λ r. ⌜ answerOf r ≡ answer (backFor (now (text .entry)) (now (was .entry))) (length (now (out .entry))) ⌝ }
     ensures memory { λ _. ⌜ now (out .exit) ≡ leaves (backFor (now (text .entry)) (now (was .entry))) (now (out .entry)) ⌝ }

@@ -1,28 +1,27 @@
--- Which list it is: each scope once, and those that are met at their first meetings. Assumes nothing.
+-- Which list it is: each scope once, and those that are met at their first meetings. Assumes
+-- nothing.
 use Prim.Native.Nat.{ℕ, zero, suc, _+_, _≤_, _<_}
 use mathlib.Core.Path.{_≡_, refl, sym, ap, _∙_, subst}
 use mathlib.Core.Bool.{Bool, true, false, not}
 use mathlib.Core.Option.{Option, some, none}
-use mathlib.Core.Logic.{⊎-elim}
-use mathlib.Core.List.{List, [], _∷_, _++_, append-assoc, Memᴰ·append-left, Memᴰ·append-right, List·Memᴰ·append-cases, List·Memᴰ·not-nil, List·Memᴰ·eq-of-singleton}
+use mathlib.Core.List.{List, [], _∷_, _++_, append-assoc, Memᴰ·append-right, List·Memᴰ·not-nil, List·Memᴰ·eq-of-singleton}
 use native.Mathlib.Omega.{arith}
 use lib.ListN.{length, length-append}
 use Rattle.scope_graph.specs.Language.{_∈_}
 use Rattle.scope_graph.specs.Path.{Distinct}
 use Rattle.scope_graph.specs.Computed.{firstOf}
-use Rattle.scope_graph.specs.Listing.{Pairwise}
 use Rattle.scope_graph.specs.Readers.{numbersBelow}
 use Rattle.scope_graph.specs.TakenIn.{NoneTwice}
-use Rattle.scope_graph.proofs.Lists.{Two, here, there, not-is, is-not, keep-intro, keep-pairwise, firstOf-none, pairwise-weaken}
+use Rattle.scope_graph.proofs.Lists.{not-is, keep-pairwise, firstOf-none, pairwise-weaken}
 use Rattle.scope_graph.proofs.Pigeon.{in-true}
 use Rattle.scope_graph.proofs.Sequences.{once-length, once-all}
 use Rattle.scope_graph.proofs.Readers.{numbers-elim, numbers-intro, numbers-ascend}
 use Rattle.graph_rows.specs.Format.{mostScopes}
-use Rattle.was.specs.Order.{isListed, withNew, gathered, metFrom, nextMet, met, metAll, unmet, breadthFirst}
+use Rattle.was.specs.Order.{isListed, gathered, metFrom, nextMet, met, metAll, unmet, breadthFirst}
 use Rattle.was.specs.Promises.{HoldsEach, ByMeetings}
 use Rattle.was.specs.Cells.{Scopes}
-use Rattle.was.proofs.Growing.{new-put, scopes-size, scopes-gathered, gathered-append, gathered-there, gathered-longer, gathered-in, longer-in, gathered-unmet}
-use Rattle.was.proofs.Meeting.{first-behind, FirstAt, first-at, met-append, listed-passed, scopes-step, met-scopes}
+use Rattle.was.proofs.Growing.{new-put, scopes-size, scopes-gathered, gathered-append, gathered-there, gathered-in, gathered-unmet}
+use Rattle.was.proofs.Meeting.{first-behind, first-at, met-append, listed-passed, scopes-step, met-scopes}
 
 not-not : (b : Bool) → not b ≡ false → b ≡ true
 not-not true e = refl

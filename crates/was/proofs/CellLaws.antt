@@ -1,13 +1,11 @@
 -- A list at the front of cells, as it grows. Assumes nothing.
 use Prim.Native.Nat.{ℕ, suc, _+_, _-_, _≤_, _<_}
-use mathlib.Core.Path.{_≡_, refl, sym, ap, _∙_, subst}
-use mathlib.Core.Bool.{Bool, true, false}
+use mathlib.Core.Path.{_≡_, sym, ap, _∙_, subst}
+use mathlib.Core.Bool.{true, false}
 use mathlib.Core.List.{List, [], _∷_, _++_, append-assoc}
 use native.Mathlib.Omega.{arith}
-use native.Mathlib.Numerals.{add-one}
-use lib.ListN.{length, getD, set, take, drop, length-append, length-drop, length-set, take-append-drop}
-use lib.Seq.{length-take-le, take-append-seam, drop-append-add, drop-drop, set-split, take-suc}
-use Rattle.scope_graph.specs.Rows.{anyOf}
+use lib.ListN.{length, set, take, drop, length-append, length-drop, take-append-drop}
+use lib.Seq.{length-take-le, take-append-seam, drop-append-add, drop-drop, set-split}
 use Rattle.graph_rows.specs.Format.{mostScopes}
 use Rattle.was.specs.Order.{isListed, withNew}
 use Rattle.was.specs.Cells.{atFront, Scopes, Begins}

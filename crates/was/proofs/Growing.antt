@@ -1,23 +1,20 @@
 -- Lists that grow by numbers that they do not hold yet. Assumes nothing.
 use Prim.Native.Nat.{ℕ, _+_, _≤_, _<_}
 use mathlib.Core.Path.{_≡_, refl, sym, ap, _∙_, subst}
-use mathlib.Core.Bool.{Bool, true, false, not, _||_}
-use mathlib.Core.Logic.{_⊎_, inl, inr, ⊎-elim}
+use mathlib.Core.Bool.{Bool, true, false, not}
+use mathlib.Core.Logic.{⊎-elim}
 use mathlib.Core.List.{List, [], _∷_, _++_, append-assoc, append-nil, List·Memᴰ·head, List·Memᴰ·cases-cons, List·Memᴰ·not-nil, List·Memᴰ·append-cases, List·Memᴰ·eq-of-singleton, Memᴰ·append-left, Memᴰ·append-right}
 use native.Mathlib.Omega.{arith}
 use native.Mathlib.Numerals.{add-one}
-use lib.Dec.{eqb}
 use lib.ListN.{length, length-append}
-use borrow.Author.Tests.{eqb-true, eq-eqb, ne-eqb}
 use Rattle.scope_graph.specs.Language.{_∈_}
 use Rattle.scope_graph.specs.Path.{Distinct}
-use Rattle.scope_graph.specs.Rows.{anyOf}
 use Rattle.scope_graph.specs.Computed.{keep}
 use Rattle.scope_graph.specs.Readers.{numbersBelow}
 use Rattle.scope_graph.specs.Listing.{Pairwise}
-use Rattle.scope_graph.proofs.Lists.{Two, here, there, keep-elim}
+use Rattle.scope_graph.proofs.Lists.{Two, here, there}
 use Rattle.scope_graph.proofs.Pigeon.{in-true, in-test, not-in, not-in-test, distinct-bounded}
-use Rattle.scope_graph.proofs.Readers.{numbers-elim, numbers-ascend}
+use Rattle.scope_graph.proofs.Readers.{numbers-ascend}
 use Rattle.was.specs.Order.{isListed, withNew, gathered, unmet}
 use Rattle.was.specs.Cells.{Scopes}
 

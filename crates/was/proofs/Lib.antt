@@ -11,4 +11,5 @@ pub mod ReadingTurns
 pub mod Tables
 pub mod Breadth
 pub mod Taken
+pub mod Examples
 pub mod Promises

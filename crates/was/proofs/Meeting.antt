@@ -1,21 +1,21 @@
--- What is met, scope by scope: the next one is the first that is new, so taking the listed scopes in
--- turn finds the same list. Assumes nothing.
-use Prim.Native.Nat.{ℕ, zero, suc, _+_, _-_, _≤_, _<_}
+-- What is met, scope by scope: the next one is the first that is new, so taking the listed scopes
+-- in turn finds the same list. Assumes nothing.
+use Prim.Native.Nat.{ℕ, zero, suc, _-_, _<_}
 use mathlib.Core.Path.{_≡_, refl, sym, ap, _∙_, subst}
 use mathlib.Core.Bool.{Bool, true, false, not}
 use mathlib.Core.Option.{Option, some, none}
-use mathlib.Core.Logic.{_⊎_, inl, inr, ⊎-elim}
+use mathlib.Core.Logic.{⊎-elim}
 use mathlib.Core.List.{List, [], _∷_, _++_, flatMap, append-assoc, append-nil, List·Memᴰ·cases-cons, List·Memᴰ·not-nil, List·Memᴰ·append-cases, List·Memᴰ·eq-of-singleton, Memᴰ·append-left, Memᴰ·append-right}
 use native.Mathlib.Omega.{arith}
 use lib.ListN.{length, length-append}
 use Rattle.scope_graph.specs.Language.{_∈_}
 use Rattle.scope_graph.specs.Computed.{firstOf}
 use Rattle.scope_graph.proofs.Lists.{Two, here, there, not-is, is-not, flatMap-elim}
-use Rattle.scope_graph.proofs.Pigeon.{in-true, in-test, not-in, not-in-test}
+use Rattle.scope_graph.proofs.Pigeon.{in-true, in-test}
 use Rattle.graph_rows.specs.Format.{mostScopes}
-use Rattle.was.specs.Order.{isListed, withNew, gathered, metFrom, nextMet, met, metAll}
+use Rattle.was.specs.Order.{isListed, gathered, metFrom, nextMet, met, metAll}
 use Rattle.was.specs.Cells.{Scopes}
-use Rattle.was.proofs.Growing.{new-there, new-put, scopes-more, scopes-size, gathered-append, gathered-there, gathered-longer, gathered-in, longer-in}
+use Rattle.was.proofs.Growing.{new-there, new-put, scopes-more, scopes-size}
 
 -- the first that meets the test, behind elements that do not
 pub first-behind : {A : Type 0} (f : A → Bool) (p q : List A) → ((a : A) → a ∈ p → f a ≡ false) → firstOf f (p ++ q) ≡ firstOf f q

@@ -16,6 +16,7 @@ use Rattle.was.proofs.WritingLaws.{text-short}
 use Rattle.was.proofs.Tables.{scopes-most, start-below, after-below}
 use Rattle.was.proofs.Breadth.{holds-size, breadth-holds, breadth-meets}
 use Rattle.was.proofs.Taken.{reads-right}
+use Rattle.was.proofs.Examples.{example-listed}
 
 -- what begins with the start has it first
 first-is : (after : ℕ → List ℕ) (start : ℕ) (list : List ℕ) → ByMeetings after start list → getD list 0 0 ≡ start
@@ -53,4 +54,4 @@ lists-right cells was = record {
 }
 
 pub promises : Promises
-promises = record { lists = lists-right; reads = reads-right }
+promises = record { lists = lists-right; reads = reads-right; example = example-listed }

@@ -1,18 +1,16 @@
 -- What the list is made of, for a table that was read: where it starts, and the scopes that edges
 -- lead to. Assumes nothing.
-use Prim.Native.Nat.{ℕ, zero, suc, _≤_, _<_}
+use Prim.Native.Nat.{ℕ, _≤_, _<_}
 use mathlib.Core.Path.{_≡_, refl, sym, ap, _∙_, subst}
-use mathlib.Core.List.{List, [], _∷_, _++_, map, List·Memᴰ·cases-cons, List·Memᴰ·not-nil}
-use mathlib.Core.Logic.{⊎-elim}
+use mathlib.Core.List.{List, [], _∷_, _++_, map}
 use native.Mathlib.Omega.{arith}
 use lib.ListN.{length, getD, take, replicate, length-append, length-replicate}
 use Rattle.scope_graph.specs.Language.{_∈_, Language}
 use Rattle.scope_graph.specs.Graph.{Edge, Query, InRange}
-use Rattle.scope_graph.specs.Path.{HopOf, Hop, tos}
-use Rattle.scope_graph.specs.Turns.{Turned}
+use Rattle.scope_graph.specs.Path.{Hop, tos}
 use Rattle.scope_graph.specs.Rows.{Rules, language}
 use Rattle.scope_graph.specs.Computed.{keep, hopsAt}
-use Rattle.scope_graph.proofs.Lists.{here, there, keep-elim, map-elim}
+use Rattle.scope_graph.proofs.Lists.{here, keep-elim, map-elim}
 use Rattle.scope_graph.specs.Readers.{numbersBelow}
 use Rattle.graph_rows.specs.Format.{mostScopes, edgeSection, querySection}
 use Rattle.graph_rows.specs.Admission.{Row, value, blank}
@@ -20,7 +18,6 @@ use Rattle.graph_rows.specs.Decode.{rowsIn, rulesOf, edgeOf, queryOf, scopesOf,
 use Rattle.graph_rows.specs.Accepted.{AcceptedTable}
 use Rattle.graph_file.specs.File.{WasRead}
 use Rattle.graph_table.specs.Sections.{partOf, rowsOf}
-use Rattle.graph_table.specs.Rows.{rowHops, allHops}
 use Rattle.board.proofs.SectionLaws.{all-hops}
 use Rattle.board.proofs.Accepted.{edges-found}
 use Rattle.board.proofs.Queries.{accepted, rows-are}

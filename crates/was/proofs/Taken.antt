@@ -1,14 +1,13 @@
 -- A text is read as a list exactly if it is that list's text. Assumes nothing.
 use Prim.Native.Nat.{ℕ, zero, suc, _+_, _≤_, _<_}
 use mathlib.Core.Path.{_≡_, refl, sym, ap, _∙_, subst}
-use mathlib.Core.Bool.{Bool, true, false, not, _&&_, _||_}
-use mathlib.Core.Logic.{_⊎_, inl, inr, ⊎-elim}
+use mathlib.Core.Bool.{Bool, true, false, not, _||_}
+use mathlib.Core.Logic.{⊎-elim}
 use mathlib.Core.List.{List, [], _∷_, _++_, flatMap, append-assoc, append-nil, List·Memᴰ·head, List·Memᴰ·cases-cons, List·Memᴰ·not-nil, Memᴰ·append-right}
 use native.Mathlib.Omega.{arith}
-use native.Mathlib.Numerals.{add-one}
 use lib.Dec.{eqb, leb}
-use lib.ListN.{length, getD, take, drop, length-append}
-use lib.Seq.{drop-drop, drop-append-add, drop-append-seam}
+use lib.ListN.{length, drop, length-append}
+use lib.Seq.{drop-drop, drop-append-seam}
 use borrow.Author.Tests.{eqb-true, eq-eqb, leb-false}
 use Rattle.text_field.specs.Bytes.{within, isDigit}
 use Rattle.text_field.specs.Number.{numberText, numberHere, numberMeaning}
@@ -26,7 +25,7 @@ use Rattle.graph_rows.specs.Way.{startsWith, isEmpty}
 use Rattle.graph_rows.specs.Format.{mostScopes}
 use Rattle.was.specs.Order.{isListed}
 use Rattle.was.specs.WasText.{wasLine, numberLine, wasText, beginsWith, endedBy, lineNumber, numbersAfter, readWas}
-use Rattle.was.specs.Promises.{HoldsEach, ReadRight, ReadsRight}
+use Rattle.was.specs.Promises.{HoldsEach, ReadsRight}
 use Rattle.was.specs.Cells.{Scopes}
 use Rattle.was.proofs.Growing.{scopes-more}
 use Rattle.was.proofs.ReadingLaws.{numbers-over, numbers-next}

@@ -1,5 +1,5 @@
 -- The loops that grow the list: what holds between two turns. Assumes nothing.
-use Prim.Native.Nat.{ℕ, zero, suc, _+_, _≤_, _<_}
+use Prim.Native.Nat.{ℕ, suc, _+_, _≤_, _<_}
 use mathlib.Core.Path.{_≡_, refl, sym, ap, _∙_, subst}
 use mathlib.Core.Logic.{⊎-elim}
 use mathlib.Core.List.{List, [], _∷_, _++_, flatMap, List·Memᴰ·not-nil, List·Memᴰ·append-cases, List·Memᴰ·eq-of-singleton}
@@ -17,7 +17,7 @@ use Rattle.was.specs.Cells.{atFront, scopesBy, Scopes, Begins}
 use Rattle.was.proofs.Growing.{scopes-new, scopes-gathered, new-longer, longer-in, longer-size, gathered-longer, gathered-in, gathered-next}
 use Rattle.was.proofs.Meeting.{met-append, met-one, rounds, rounds-start, rounds-end, rounds-gather}
 use Rattle.was.proofs.CellLaws.{front-take, front-front, front-more, Held, held-start, held-take, held-grown, held-all}
-use Rattle.was.proofs.RowLaws.{scopesFrom, from-all, from-row, from-none, next-is, next-past, from-next}
+use Rattle.was.proofs.RowLaws.{scopesFrom, from-all, from-row, from-none, next-is, from-next}
 
 -- the scopes that the rows of s lead to, row by row
 pub record Gathering (edges : List ℕ) (s : ℕ) (first : List ℕ) (n : ℕ) (cells : List ℕ) (k p : ℕ) : Type 0 where

@@ -12,7 +12,8 @@ use Rattle.scope_graph.specs.Listing.{Pairwise}
 use Rattle.text_field.specs.Outcome.{refused, done}
 use Rattle.graph_rows.specs.Format.{mostScopes}
 use Rattle.graph_rows.specs.Decode.{rulesOf, scopesOf, graphOf, queriesOf}
-use Rattle.graph_file.specs.File.{WasRead}
+use Rattle.graph_file.specs.File.{readCells, WasRead}
+use Rattle.board.specs.Example.{exampleText}
 use Rattle.was.specs.Order.{scopesAfter, metFrom, gathered, startIn, wasList}
 use Rattle.was.specs.WasText.{wasText, readWas}
 
@@ -23,8 +24,8 @@ pub record HoldsEach (n : ℕ) (list : List ℕ) : Type 0 where
 
 -- Which list it is. First come the scopes that are met, and they are what they themselves meet: the
 -- start, then all scopes that their edges lead to, from the first of them on and at each in row
--- sequence, every one at its first meeting. (A list with this equation is found from its front on, so
--- there is only one.) The scopes that are not met stand after them, ascending.
+-- sequence, every one at its first meeting. (A list with this equation is found from its front on,
+-- so there is only one.) The scopes that are not met stand after them, ascending.
 pub record ByMeetings (after : ℕ → List ℕ) (start : ℕ) (list : List ℕ) : Type 0 where
   pub reached : List ℕ
   pub others : List ℕ
@@ -52,6 +53,12 @@ pub record ReadRight (n : ℕ) (text : List ℕ) : Type 0 where
 abbrev pub ReadsRight : Type 0
 ReadsRight = (n : ℕ) (text : List ℕ) → n ≤ mostScopes → ReadRight n text
 
+-- Document 01's example. Its first query starts at lane 2, whose edges lead to the profile 4 and
+-- the wall 1; the wall leads to the site 0; lane 3 is not met.
+abbrev pub ExampleListed : Type 0
+ExampleListed = (cells : List ℕ) → readCells exampleText ≡ done cells → wasList cells ≡ 2 ∷ 4 ∷ 1 ∷ 0 ∷ 3 ∷ []
+
 pub record Promises : Type 0 where
   pub lists : ListsRight
   pub reads : ReadsRight
+  pub example : ExampleListed

@@ -90,11 +90,11 @@ fn list_met(edges: &[u64], start: u64, list: &mut [u64]) -> usize
 {
     list[0] = start;
     let mut n: usize = 1;
-    let mut i: usize = 0;
-    while i < n {
-        let s = list[i];
+    let mut next: usize = 0;
+    while next < n {
+        let s = list[next];
         n = gather(edges, s, list, n);
-        i += 1;
+        next += 1;
     }
     n
 }
@@ -115,8 +115,8 @@ fn list_unmet(list: &mut [u64], n: usize, count: u64) -> usize
     k
 }
 
-// The scopes breadth-first, from the first query's start along all edges, then those that are not
-// met. The list has as many numbers as there are scopes; the cells after them are 0.
+// Lists all scopes: those that are met along edges from where the first query starts, nearest first,
+// then the others. There are as many numbers as scopes; the cells after them are 0.
 pub fn list_scopes(table: &[u64]) -> [u64; 64]
     requires read { ⌜ WasRead (now table) ⌝ }
     ensures answer { λ r. ⌜ r ≡ inCells (wasList (now (table .entry))) ⌝ }

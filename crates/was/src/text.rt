@@ -17,8 +17,8 @@ ghost use Rattle.graph_rows.specs.Format.{mostScopes};
 ghost use Rattle.was.specs.WasText.{numberLine, wasText, beginsWith, lineNumber, numbersAfter, readWas};
 ghost use Rattle.was.specs.Cells.{atFront, listRead};
 
-// What was read as a list: whether it is one, and its numbers, with zeros after them. Of a text that
-// is no list all numbers are 0.
+// What was read as a list: whether it is one, and its numbers, with zeros after them. Of a text
+// that is no list all numbers are 0.
 pub struct WasList {
     pub ok: bool,
     pub numbers: [u64; 64],

@@ -2,7 +2,6 @@
 use Prim.Native.Nat.{ℕ}
 use mathlib.Core.Path.{_∙_, ap}
 use mathlib.Core.List.{List}
-use native.Mathlib.Omega.{arith}
 use lib.ListN.{getD}
 use Rattle.graph_rows.specs.Admission.{value, blank}
 use Rattle.graph_table.specs.Sections.{rowsOf}

@@ -1,7 +1,7 @@
 -- `gather` meets its contract. The loop's invariant is `Gathering`: the row at p is the next of the
 -- scope, and what is gathered so far, with what is left, is what is due. Assumes nothing.
 use Prim.Native.Nat.{_-_, _+_}
-use mathlib.Core.Path.{_≡_, sym, ap, _∙_}
+use mathlib.Core.Path.{sym, ap, _∙_}
 use native.Mathlib.Omega.{arith}
 use lib.ListN.{length}
 use borrow.Author.Needs.{needs}

@@ -1,7 +1,7 @@
--- `list_unmet` meets its contract. The loop's invariant is `Missing`: the scopes below s are gathered.
--- Assumes nothing.
+-- `list_unmet` meets its contract. The loop's invariant is `Missing`: the scopes below s are
+-- gathered. Assumes nothing.
 use Prim.Native.Nat.{_-_, _≤_}
-use mathlib.Core.Path.{_≡_, sym, _∙_}
+use mathlib.Core.Path.{sym, _∙_}
 use native.Mathlib.Omega.{arith}
 use Rattle.was.proofs.Walking.{Missing, missing-start, missing-next, missing-end}
 use Rattle.was.proofs.order.list_unmet.Statement.{statement}

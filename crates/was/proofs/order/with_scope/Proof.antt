@@ -2,9 +2,6 @@
 use mathlib.Core.Path.{sym, _∙_}
 use native.Mathlib.Omega.{arith}
 use lib.Seq.{length-take-le}
-use borrow.Author.Tests.{not-true, not-false}
-use Rattle.graph_rows.specs.Format.{mostScopes}
-use Rattle.was.proofs.Growing.{scopes-room}
 use Rattle.was.proofs.CellLaws.{put-none, put-one, begun-room}
 use borrow.Author.Needs.{needs}
 use Rattle.was.proofs.order.with_scope.Statement.{statement}

@@ -1,9 +1,5 @@
 -- `number_line` meets its contract. Assumes nothing.
-use Prim.Native.Nat.{ℕ}
-use mathlib.Core.Path.{_≡_, sym, _∙_}
-use lib.ListN.{drop}
-use Rattle.text_field.specs.Number.{numberHere, numberPlaced}
-use Rattle.text_field.specs.declared.NumberRead.the-variants.{Number}
+use mathlib.Core.Path.{sym, _∙_}
 use Rattle.was.proofs.ReadingLaws.{line-none, line-ends, line-other, line-there}
 use borrow.Author.Needs.{needs}
 use Rattle.was.proofs.text.number_line.Statement.{statement}

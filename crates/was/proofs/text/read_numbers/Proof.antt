@@ -1,7 +1,7 @@
--- `read_numbers` meets its contract. The loop's invariant is `Reading`: k numbers are read, and what
--- is left gives the whole. Assumes nothing.
+-- `read_numbers` meets its contract. The loop's invariant is `Reading`: k numbers are read, and
+-- what is left gives the whole. Assumes nothing.
 use Prim.Native.Nat.{_-_}
-use mathlib.Core.Path.{_≡_, refl, sym, _∙_}
+use mathlib.Core.Path.{refl, sym, _∙_}
 use native.Mathlib.Omega.{arith}
 use lib.Seq.{length-take-le}
 use borrow.Author.Needs.{needs}

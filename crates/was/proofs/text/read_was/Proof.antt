@@ -1,6 +1,6 @@
 -- `read_was` meets its contract. Assumes nothing.
 use mathlib.Core.Path.{refl, sym, _∙_}
-use lib.ListN.{replicate, drop}
+use lib.ListN.{replicate}
 use borrow.Author.Tests.{not-true, not-false}
 use mathlib.Core.Path.{ap}
 use Rattle.was.specs.Cells.{listRead}
