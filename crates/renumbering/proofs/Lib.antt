@@ -3,3 +3,4 @@ pub mod InverseLaws
 pub mod Answers
 pub mod Tables
 pub mod Promises
+pub mod AloneLaws
