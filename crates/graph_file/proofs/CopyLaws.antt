@@ -32,18 +32,25 @@ copy-over own n out i w h l e =
     let d : n ≡ i = omega arith in
     ap (λ (j : ℕ). (out, j)) d ∙ puts-none (out, i) (drop i (take n own)) (copy-none own n i h) ∙ e
 
--- bytes copied if they fit: all are copied, or the buffer is too short and nothing has been
-module _ (own : List ℕ) (n : ℕ) (made : n ≤ length own) (lent out : List ℕ) (i : ℕ) where
-  pub copied-all : n ≤ i → i ≤ n → ((out ≡ lent) × (i ≡ 0)) ⊎ (n ≤ length lent) → puts (out, i) (drop i (take n own)) ≡ puts (lent, 0) (take n own)
-      → out ≡ leaves (done (take n own)) lent
-  copied-all h l s e =
-      let room : n ≤ length lent = ⊎-elim (λ (z : (out ≡ lent) × (i ≡ 0)). let zero = z .1 in omega arith) (λ (f : n ≤ length lent). f) s in
-      leaves-fits (done (take n own)) (take n own) refl lent out n (omega (arith, length-take n own)) (copy-over own n out i (puts (lent, 0) (take n own)) h l e)
+-- bytes copied if they fit: none of them, or all
+module _ (own : List ℕ) (n : ℕ) (made : n ≤ length own) (lent out : List ℕ) (last i : ℕ) (over : last ≤ i) (within : i ≤ last)
+    (e : puts (out, i) (drop i (take last own)) ≡ puts (lent, 0) (take last own)) where
+  copied-some : _≡_ {A = Buf} (out, last) (puts (lent, 0) (take last own))
+  copied-some = copy-over own last out i (puts (lent, 0) (take last own)) over within e
 
-  pub copied-none : length lent < n → ((out ≡ lent) × (i ≡ 0)) ⊎ (n ≤ length lent) → out ≡ leaves (done (take n own)) lent
-  copied-none h s =
-      let kept : out ≡ lent = ⊎-elim (λ (z : (out ≡ lent) × (i ≡ 0)). z .0) (λ (f : n ≤ length lent). absurd (omega arith)) s in
-      kept ∙ leaves-short (done (take n own)) (take n own) refl lent (omega (arith, length-take n own))
+  copied-none : length lent < n → last ≡ 0 → out ≡ leaves (done (take n own)) lent
+  unfolding puts
+  copied-none h z =
+      ap (λ (b : Buf). b .0) (copied-some ∙ ap (λ (j : ℕ). puts (lent, 0) (take j own)) z)
+      ∙ leaves-short (done (take n own)) (take n own) refl lent (omega (arith, length-take n own))
+
+  copied-all : n ≤ length lent → last ≡ n → out ≡ leaves (done (take n own)) lent
+  copied-all h z =
+      leaves-fits (done (take n own)) (take n own) refl lent out last (omega (arith, length-take n own))
+      (copied-some ∙ ap (λ (j : ℕ). puts (lent, 0) (take j own)) z)
+
+  pub copied-fitting : ((length lent < n) × (last ≡ 0)) ⊎ ((n ≤ length lent) × (last ≡ n)) → out ≡ leaves (done (take n own)) lent
+  copied-fitting came = ⊎-elim (λ (t : (length lent < n) × (last ≡ 0)). copied-none (t .0) (t .1)) (λ (t : (n ≤ length lent) × (last ≡ n)). copied-all (t .0) (t .1)) came
 
 -- the cells that reading gives
 pub cells-refused : (r : Part) (u text : List ℕ) → partOutcome r u text ≡ readStage text → (r .refusal ≡ 0 → ⊥) → readCells text ≡ refused (r .refusal)

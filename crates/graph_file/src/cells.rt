@@ -25,8 +25,9 @@ pub fn copy_fitting(own: &[u8], n: usize, out: &mut [u8])
     requires made { ⌜ n ≤ length (now own) ⌝ }
     ensures memory { λ _. ⌜ now (out .exit) ≡ leaves (done (take n (now (own .entry)))) (now (out .entry)) ⌝ }
 {
+    let end = if out.len() < n { 0 } else { n };
     let mut i: usize = 0;
-    while i < n && n <= out.len() {
+    while i < end {
         out[i] = own[i];
         i += 1;
     }

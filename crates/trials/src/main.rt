@@ -10,6 +10,7 @@ mod files;
 mod input;
 mod judged;
 mod lent;
+mod lines;
 mod listings;
 mod numbered;
 mod rows;
@@ -29,6 +30,8 @@ fn text_case(kind: u8, text: &[u8], number: usize, room: usize) {
     match kind {
         b'r' => files::reading(text, room),
         b'w' => files::writing_of(text, room),
+        b'y' => files::testing(text),
+        b'z' => lines::line_from(text, number),
         b'n' => files::seeking(text, number),
         b'l' => listings::listed(text, number, room),
         b's' => listings::summed(text, room),
@@ -60,7 +63,8 @@ fn case(h: Head, body: &[u8]) {
         b'x' => ruled_files::ruling(text, first, room),
         b'v' => numbered::going_back(text, first, room),
         b'q' => changes::finding(text, first, number),
-        b'i' | b't' | b'm' => changes::changing(kind, text, first, number, room),
+        b'Q' => changes::edge_sought(text, first),
+        b'i' | b't' | b'm' | b'I' | b'T' => changes::changing(kind, text, first, number, room),
         _ => text_case(kind, text, number, room),
     }
 }

@@ -642,8 +642,8 @@ fn push_title(out: &mut Vec<u8>, form: Form, section: usize) {
     out.push(b'\n');
 }
 
-/// Writes a graph table's text; answers the bytes written.
-pub fn write(table: &[u64], out: &mut [u8]) -> Result<usize, Refusal> {
+/// A graph table's text, or what the table is refused by.
+pub fn text_of(table: &[u64]) -> Result<Vec<u8>, Refusal> {
     let (&form, rows) = table.split_first().ok_or(2)?;
     let form = Form::ALL.into_iter().find(|&f| f as u64 == form).ok_or(2)?;
     let mut admission = Admission::new(form);
@@ -677,6 +677,12 @@ pub fn write(table: &[u64], out: &mut [u8]) -> Result<usize, Refusal> {
     if !admission.order_is_strict() {
         return Err(6);
     }
+    Ok(text)
+}
+
+/// Writes a graph table's text; answers the bytes written.
+pub fn write(table: &[u64], out: &mut [u8]) -> Result<usize, Refusal> {
+    let text = text_of(table)?;
     let lent = out.get_mut(..text.len()).ok_or(9)?;
     lent.copy_from_slice(&text);
     Ok(text.len())

@@ -96,6 +96,20 @@ fn write(body: &[u8], room: usize) -> String {
     }
 }
 
+fn tested(body: &[u8]) -> String {
+    let refusal = gym::text_of(&numbers(body)).err().unwrap_or(0);
+    format!("tested {refusal}\n")
+}
+
+/// The line from a place on: where its LF stands, and the place after it.
+fn line_from(text: &[u8], at: usize) -> String {
+    let rest = text.get(at..).unwrap_or(&[]);
+    match rest.iter().position(|&b| b == b'\n') {
+        None => "no line\n".to_string(),
+        Some(n) => format!("line {} next {}\n", at + n, at + n + 1),
+    }
+}
+
 fn apart(row: &[u8], room: usize) -> String {
     let Some(parts) = PathRow::parse(row) else {
         return "refused 8\n".to_string();
@@ -175,6 +189,12 @@ fn row_values(body: &[u8]) -> [u64; 5] {
 fn row_place(body: &[u8], section: u64, row: &[u8]) -> String {
     let (at, there) = row_changes::place(&numbers(body), section, &row_values(row));
     format!("{} {at}\n", if there { "there" } else { "free" })
+}
+
+fn edge_sought(body: &[u8], row: &[u8]) -> String {
+    let there = row_changes::has_edge(&numbers(body), &row_values(row));
+    let answer = if there { "has it" } else { "has it not" };
+    format!("{answer}\n")
 }
 
 /// A table of `room` cells with those of a body at its front, changed, and the sum of all of them.
@@ -294,6 +314,8 @@ fn main() -> io::Result<()> {
         let answer = match words[0] {
             "r" => read(text, room),
             "w" => write(text, room),
+            "y" => tested(text),
+            "z" => line_from(text, number),
             "n" => format!(
                 "seeks <{}>\n",
                 String::from_utf8_lossy(gym::name_sought(text, number))
@@ -308,6 +330,11 @@ fn main() -> io::Result<()> {
             "t" => changed(text, room, |cells| {
                 row_changes::removed(cells, number as u64, &row_values(first))
             }),
+            "Q" => edge_sought(text, first),
+            "I" => changed(text, room, |cells| {
+                row_changes::put_at(cells, number, &numbers(first))
+            }),
+            "T" => changed(text, room, |cells| row_changes::taken_at(cells, number)),
             "m" => changed(text, room, |cells| {
                 row_changes::replaced(cells, number as u64, &numbers(first))
             }),

@@ -15,17 +15,13 @@ put-text-requires : tie.Need-put-text-requires
 put-text-requires c κs = search needs
 
 copy-fitting-requires : tie.Need-copy-fitting-requires
-copy-fitting-requires c κs = let s = c .before .before .before .before .before .before .before .before .before in let a = s .args in text-within (a .table .now) (s .pre .0) (a .text .now) (c .before .before .before .before .put-text .last .1 .0) (c .before .before .before .before .put-text .result) (omega (arith, s .pre .1)) (c .before .before .before .before .put-text .ensures) (c .before .before .before .before .put-text .kept .1 .0)
+copy-fitting-requires c κs = let s = c .before .before .before .before .before .before .before .before .before in let a = s .args in let within = text-within (a .table .now) (s .pre .0) (a .text .now) (c .before .before .before .before .put-text .last .1 .0) (c .before .before .before .before .put-text .result) (omega (arith, s .pre .1)) (c .before .before .before .before .put-text .ensures) (c .before .before .before .before .put-text .kept .1 .0) in omega arith
 
 same-length : tie.Need-same-length
 same-length c = search needs
 
 same-length-2 : tie.Need-same-length-2
 same-length-2 c = search needs
-
-returns : tie.Need-returns
-unfolding answerOf
-returns c = let s = c .before .before .before .before .before .before .before .before .before .before .before .before .before in let a = s .args in told-small (a .table .now) (s .pre .0) (a .text .now) (c .before .before .before .before .before .before .before .before .put-text .last .1 .0) (c .before .before .before .before .before .before .before .before .put-text .result) (omega (arith, s .pre .1)) (c .before .before .before .before .before .before .before .before .put-text .ensures) (a .out .now) _ (c .before .before .before .copy-fitting .ensures) (omega (arith, c .before .before .before .copy-fitting .kept .1 .1 .0, c .if1 .taken))
 
 same-length-3 : tie.Need-same-length-3
 same-length-3 c = search needs
@@ -36,6 +32,10 @@ same-length-4 c = search needs
 returns-2 : tie.Need-returns-2
 unfolding answerOf
 returns-2 c = let s = c .before .before .before .before .before .before .before .before .before .before .before .before .before in let a = s .args in told-copied (a .table .now) (s .pre .0) (a .text .now) (c .before .before .before .before .before .before .before .before .put-text .last .1 .0) (c .before .before .before .before .before .before .before .before .put-text .result) (omega (arith, s .pre .1)) (c .before .before .before .before .before .before .before .before .put-text .ensures) (a .out .now) _ (c .before .before .before .copy-fitting .ensures) (omega (arith, c .before .before .before .copy-fitting .kept .1 .1 .0, c .if1 .left))
+
+returns : tie.Need-returns
+unfolding answerOf
+returns c = let s = c .before .before .before .before .before .before .before .before .before .before .before .before .before in let a = s .args in told-small (a .table .now) (s .pre .0) (a .text .now) (c .before .before .before .before .before .before .before .before .put-text .last .1 .0) (c .before .before .before .before .before .before .before .before .put-text .result) (omega (arith, s .pre .1)) (c .before .before .before .before .before .before .before .before .put-text .ensures) (a .out .now) _ (c .before .before .before .copy-fitting .ensures) (omega (arith, c .before .before .before .copy-fitting .kept .1 .1 .0, c .if1 .taken))
 
 pub put-measured-spec : {M : Type 1} → statement M
 put-measured-spec =
