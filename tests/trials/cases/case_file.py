@@ -24,10 +24,12 @@ them are its text, the next ROW its first path row, and the rest its second.
   I  the text is cells in hexadecimal, and the first row six: these are put at place NUMBER of the table, which has ROOM cells; T  six are taken out there
   Q  the text is cells in hexadecimal, and the first row five values: has the table that edge, at whatever turn?
   k  the text is converted to the form with kinds into a lent buffer of ROOM bytes, and what comes out to the old form
+  u  the text's scopes are renumbered into lent buffers of ROOM bytes for the file and NUMBER for the list, and go back by what comes out
+  v  the text's scopes go back by the list that is the first row, into a lent buffer of ROOM bytes
 """
 
 # the cases whose text is a gym file's, those of converting left out
-OF_FILES = b"rncjlsa"  # counts and readers, b, f and d, have large files of their own
+OF_FILES = b"rncjlsa"  # counts, readers and numbering, b, f, d, u and v, have large files of their own
 
 CASES = []
 TITLES = set()

@@ -249,6 +249,31 @@ fn shown(verb: &str, room: usize, put: impl Fn(&mut [u8]) -> Result<usize, u8>) 
     }
 }
 
+/// A text with its scopes renumbered, the list in a buffer of its own, and the way back from both.
+fn renumber(text: &[u8], room: usize, places: usize) -> String {
+    let (mut out, mut list) = (vec![b'#'; room], vec![b'#'; places]);
+    match answers::renumber(text, &mut out, &mut list) {
+        Err(number) => format!(
+            "refused {number}, all {}\nlist, all {}\n",
+            kept(&out, b'#'),
+            kept(&list, b'#')
+        ),
+        Ok((n, m)) => {
+            let put = |verb, lent: &[u8], n| {
+                shown(verb, lent.len(), |out| {
+                    out.copy_from_slice(lent);
+                    Ok(n)
+                })
+            };
+            let mut again = vec![0; text.len()];
+            let gone = answers::back(&out[..n], &list[..m], &mut again);
+            let same = gone == Ok(text.len()) && again == text;
+            let both = format!("both, {}\n", back(same));
+            put("renumbered", &out, n) + &put("list", &list, m) + &both
+        }
+    }
+}
+
 fn counted(text: &[u8], query: usize) -> String {
     match answers::beginnings(text, query) {
         Err(number) => format!("refused {number}\n"),
@@ -323,6 +348,8 @@ fn main() -> io::Result<()> {
             "k" => convert(text, room, answers::to_new, answers::to_old),
             "x" => shown("ruled", room, |out| answers::rules(text, first, out)),
             "d" => shown("readers", room, |out| answers::readers(text, number, out)),
+            "u" => renumber(text, room, number),
+            "v" => shown("back", room, |out| answers::back(text, first, out)),
             "a" => (0..number).map(listing).chain([summary()]).collect(),
             _ => "A KIND UNKNOWN HERE\n".to_string(),
         };
