@@ -1,0 +1,4 @@
+// A gym file drawn in the DOT language, for Graphviz (document 02, K14).
+mod drawing;
+
+pub use drawing::dot;
