@@ -6,35 +6,42 @@ use mathlib.Core.Logic.{⊎-elim}
 use mathlib.Core.List.{List, [], _∷_, _++_, map, flatMap}
 use native.Mathlib.Omega.{arith}
 use native.Mathlib.Numerals.{add-one}
+use borrow.Author.Tests.{eq-eqb, ne-eqb}
 use lib.Dec.{eqb}
 use lib.ListN.{length, getD, take, drop, length-map, List·getD-map}
 use Rattle.scope_graph.specs.Language.{_∈_}
 use Rattle.scope_graph.specs.Graph.{Edge, InRange, Query}
 use Rattle.scope_graph.specs.Rows.{language}
+use Rattle.scope_graph.specs.Readers.{numbersBelow}
 use Rattle.scope_graph.proofs.Lists.{here, there, map-intro, map-elim}
+use Rattle.scope_graph.proofs.Readers.{numbers-elim}
+use Rattle.text_field.specs.Buffer.{Buf, puts}
 use Rattle.graph_rows.specs.Format.{labelSection, countSection, edgeSection}
 use Rattle.graph_rows.specs.Admission.{Row, value, rowOf, blank}
 use Rattle.graph_rows.specs.Order.{someRow}
 use Rattle.graph_rows.specs.Decode.{rowsIn, lettersOf, rulesOf, scopesOf, edgeOf, graphOf}
 use Rattle.graph_rows.specs.Formed.{otherTurn, otherTurns}
 use Rattle.graph_rows.specs.Accepted.{AcceptedTable}
+use Rattle.graph_rows.proofs.RowLaws.{row-cells}
 use Rattle.graph_file.specs.File.{WasRead}
 use Rattle.graph_file.proofs.InverseField.{capital-byte}
+use Rattle.graph_table.specs.declared.rows.EdgeRow.{EdgeRow}
+use Rattle.graph_table.specs.Values.{edgeRow}
 use Rattle.graph_table.specs.Sections.{leading, firstRow, startOf, partOf, rowsOf}
 use Rattle.graph_table.proofs.Leading.{start-first, start-next, start-within, first-within}
-use Rattle.graph_table.proofs.Parts.{rows-count, rows-none, row-at, value-cell}
+use Rattle.graph_table.proofs.Parts.{rows-count, rows-next, rows-none, row-at, value-cell}
 use Rattle.graph_table.proofs.Tests.{below-or}
 use Rattle.board.specs.Promises.{Sound}
 use Rattle.board.proofs.Capitals.{capitals}
 use Rattle.board.proofs.Queries.{getD-in, accepted, sound, rows-are}
-use Rattle.dot.specs.Drawing.{DrawnEdge, edgeLine, drawnEdge, drawnEdges}
+use Rattle.dot.specs.Drawing.{DrawnEdge, droppedIf, openLine, edgeLine, closeLine, drawnEdge, drawnEdges, drawingOf}
 use Rattle.dot.specs.Rows.{letterByte, drawnBy, edgeLines}
-use Rattle.dot.proofs.Texts.{Narrow}
+use Rattle.dot.proofs.Texts.{scopeLines, whole-puts, below-length, Narrow, drawing-short}
 
 -- where a section's rows stand
-module _ (k : ℕ) (t : List ℕ) (from : ℕ) (starts : from ≡ firstRow t + leading 0 k (drop (firstRow t) t)) where
+module _ (k : ℕ) (t : List ℕ) (p : ℕ) (first : p ≡ firstRow t) (from : ℕ) (starts : from ≡ p + leading 0 k (drop p t)) where
   from-is : from ≡ startOf k t
-  from-is = starts ∙ start-first k t
+  from-is = starts ∙ ap (λ (n : ℕ). n + leading 0 k (drop n t)) first ∙ start-first k t
 
   pub from-within : from ≤ length t
   from-within = let e = from-is in let w = start-within k t in omega arith
@@ -53,6 +60,28 @@ module _ (k : ℕ) (t : List ℕ) (from : ℕ) (starts : from ≡ firstRow t + l
     part-is =
         ap (λ (n : ℕ). take (n - from) (drop from t)) (to-is ∙ ap (λ (n : ℕ). startOf n t) (add-one k))
         ∙ ap (λ (n : ℕ). take (startOf (suc k) t - n) (drop n t)) from-is
+
+-- whether some row from a place on has another turn than 0
+module _ (edges : List ℕ) (p : ℕ) (row : EdgeRow) (e : row ≡ edgeRow edges p) (h : 6 ≤ length edges - p) where
+  turn-here : otherTurn (rowOf (drop p edges)) ≡ not (eqb (row .turn) 0)
+  unfolding otherTurn
+  turn-here = ap (λ (r : Row). not (eqb (value r 3) 0)) (row-cells edges p) ∙ ap (λ (r : EdgeRow). not (eqb (r .turn) 0)) (sym e)
+
+  turn-next : someRow otherTurn (rowsOf (drop p edges)) ≡ (not (eqb (row .turn) 0) || someRow otherTurn (rowsOf (drop (p + 6) edges)))
+  unfolding someRow
+  turn-next =
+      ap (someRow otherTurn) (rows-next edges p h)
+      ∙ ap (λ (b : Bool). b || someRow otherTurn (rowsOf (drop (p + 6) edges))) turn-here
+
+  pub turn-hit : (row .turn ≡ 0 → ⊥) → someRow otherTurn (rowsOf (drop p edges)) ≡ true
+  turn-hit n = turn-next ∙ rw (ne-eqb (row .turn) 0 n)
+
+  pub turn-miss : row .turn ≡ 0 → someRow otherTurn (rowsOf (drop (p + 6) edges)) ≡ someRow otherTurn (rowsOf (drop p edges))
+  turn-miss z = sym (turn-next ∙ rw (eq-eqb (row .turn) 0 z))
+
+pub turn-end : (edges : List ℕ) (p : ℕ) → length edges - p < 6 → someRow otherTurn (rowsOf (drop p edges)) ≡ false
+unfolding someRow
+turn-end edges p h = ap (someRow otherTurn) (rows-none edges p h)
 
 -- a table that was read
 module _ (cells : List ℕ) (was : WasRead cells) where
@@ -86,7 +115,7 @@ module _ (cells : List ℕ) (was : WasRead cells) where
 
   -- an edge row's label is listed, and its letter is found
   module _ (row : Row) (m : row ∈ rowsIn edgeSection cells) where
-    edge : Edge (language (rulesOf cells))
+    abbrev edge : Edge (language (rulesOf cells))
     edge = edgeOf (rulesOf cells) row
 
     stands : edge ∈ graphOf cells .edges
@@ -149,3 +178,30 @@ module _ (cells : List ℕ) (was : WasRead cells) where
   edges-narrow e m =
       let r = map-elim (drawnEdge (lettersOf cells)) (rowsIn edgeSection cells) m in
       rw (r .2) (row-narrow (r .0) (r .1))
+
+  -- the drawing, by what the code finds of the table
+  pub table-puts : (edges labels : List ℕ) → edges ≡ partOf edgeSection cells → labels ≡ partOf labelSection cells → (dropped : Bool) → dropped ≡ someRow otherTurn (rowsOf edges)
+      → (count : ℕ) → count ≡ scopesOf cells → (b c d e f : Buf) → c ≡ puts b (droppedIf dropped ++ openLine) → d ≡ puts c (scopeLines count)
+      → e ≡ puts d (edgeLines labels edges) → f ≡ puts e closeLine → f ≡ puts b (drawingOf cells)
+  unfolding drawingOf
+  table-puts edges labels edges-at labels-at dropped told count counted b c d e f head lines rows close =
+      let lost : dropped ≡ otherTurns cells = told ∙ ap (λ (l : List ℕ). someRow otherTurn (rowsOf l)) edges-at ∙ turn-is in
+      let drawn-lines : edgeLines labels edges ≡ flatMap edgeLine (drawnEdges cells) =
+      ap (λ (l : List ℕ). edgeLines l edges) labels-at ∙ ap (edgeLines (partOf labelSection cells)) edges-at ∙ edges-are in
+      whole-puts (otherTurns cells) (numbersBelow (scopesOf cells)) (drawnEdges cells) b c d e f
+      (head ∙ ap (λ (t : Bool). puts b (droppedIf t ++ openLine)) lost)
+      (lines ∙ ap (λ (n : ℕ). puts c (scopeLines n)) counted)
+      (rows ∙ ap (puts d) drawn-lines)
+      close
+
+  -- and how long it can be
+  pub drawing-most : length (drawingOf cells) ≤ 11556
+  unfolding drawingOf drawnEdges
+  drawing-most =
+      let scopes = t .scopes-most in
+      let count = below-length (scopesOf cells) in
+      let edges = sound cells was .edges-few in
+      let drawn = length-map (rowsIn edgeSection cells) (drawnEdge (lettersOf cells)) in
+      let short = drawing-short (otherTurns cells) (numbersBelow (scopesOf cells)) (drawnEdges cells)
+      (λ s m. let k = numbers-elim (scopesOf cells) s m in omega arith) edges-narrow in
+      omega arith

@@ -14,10 +14,11 @@ use Rattle.text_field.specs.Buffer.{Buf, put, puts}
 use Rattle.text_field.proofs.NumberLaws.{length-below}
 use Rattle.text_field.proofs.BufferLaws.{puts-then, puts-step, puts-one, puts-none}
 use Rattle.graph_rows.specs.Admission.{Row, rowOf, value}
+use Rattle.graph_rows.proofs.RowLaws.{row-cells}
 use Rattle.graph_table.specs.declared.rows.EdgeRow.{EdgeRow}
 use Rattle.graph_table.specs.Sections.{rowsOf}
 use Rattle.graph_table.specs.Values.{edgeRow}
-use Rattle.graph_table.proofs.Parts.{rows-next, rows-none, value-cell}
+use Rattle.graph_table.proofs.Parts.{rows-next, rows-none}
 use Rattle.dot.specs.Drawing.{droppedLine, droppedIf, openLine, scopeLine, DrawnEdge, arrow, beforeLetter, afterLetter, edgeLine, closeLine, drawingText}
 use Rattle.dot.specs.Rows.{drawn, drawnBy, letterByte, edgeLines}
 
@@ -77,7 +78,7 @@ module _ (labels edges : List ℕ) (p : ℕ) where
   row-drawn row e x f =
       ap (drawn row) f
       ∙ ap (λ (r : EdgeRow). drawn r (letterByte labels (r .label))) e
-      ∙ sym (rw (value-cell edges p 0 (omega arith), value-cell edges p 1 (omega arith), value-cell edges p 2 (omega arith)))
+      ∙ sym (ap (drawnBy labels) (row-cells edges p))
 
   edges-next : 6 ≤ length edges - p → edgeLines labels (drop p edges) ≡ edgeLine (drawnBy labels (rowOf (drop p edges))) ++ edgeLines labels (drop (p + 6) edges)
   unfolding edgeLines flatMap
@@ -103,6 +104,12 @@ whole-puts dropped scopes edges b c d e f head lines rows close =
     let x = puts-then c d f (flatMap scopeLine scopes) (flatMap edgeLine edges ++ closeLine) lines y in
     puts-then b c f (droppedIf dropped ++ openLine) (flatMap scopeLine scopes ++ (flatMap edgeLine edges ++ closeLine)) head x
     ∙ ap (puts b) (append-assoc (droppedIf dropped) openLine (flatMap scopeLine scopes ++ (flatMap edgeLine edges ++ closeLine)))
+
+-- there are n numbers below n
+pub below-length : (n : ℕ) → length (numbersBelow n) ≡ n
+unfolding numbersBelow
+below-length zero = refl
+below-length (suc n) = let l = length-append (numbersBelow n) (n ∷ []) in let h = below-length n in omega arith
 
 -- how long the lines are: a scope's has four bytes at most, an edge's 22
 scope-short : (s : ℕ) → s < 64 → length (scopeLine s) ≤ 4
