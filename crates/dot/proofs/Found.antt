@@ -35,6 +35,7 @@ use Rattle.board.specs.Promises.{Sound}
 use Rattle.board.proofs.Capitals.{capitals}
 use Rattle.board.proofs.Queries.{getD-in, accepted, sound, rows-are}
 use Rattle.dot.specs.Drawing.{DrawnEdge, droppedIf, openLine, edgeLine, closeLine, drawnEdge, drawnEdges, drawingOf}
+use Rattle.dot.specs.Promises.{InFile}
 use Rattle.dot.specs.Rows.{letterByte, drawnBy, edgeLines}
 use Rattle.dot.proofs.Texts.{scopeLines, whole-puts, below-length, Narrow, drawing-short}
 
@@ -157,6 +158,18 @@ module _ (cells : List ℕ) (was : WasRead cells) where
     pub row-drawn : drawnBy (partOf labelSection cells) row ≡ drawnEdge (lettersOf cells) row
     unfolding drawnBy drawnEdge
     row-drawn = rw letter-is
+
+    -- what is drawn of the row is in the file
+    pub row-in-file : InFile cells (drawnEdge (lettersOf cells) row)
+    unfolding drawnEdge edgeOf graphOf lettersOf
+    row-in-file = record {
+      from = in-range .from-scope edge stands;
+      to = in-range .to-scope edge stands;
+      letter =
+          let n = length-map (rowsIn labelSection cells) (λ (r : Row). value r 0) in
+          let listed = label-listed in
+          getD-in (lettersOf cells) (value row 1) 0 (omega arith);
+    }
 
     row-narrow : Narrow (drawnEdge (lettersOf cells) row)
     unfolding drawnEdge edgeOf

@@ -3,3 +3,4 @@
 pub mod Texts
 pub mod Found
 pub mod Answers
+pub mod Promises

@@ -3,7 +3,6 @@
 use Prim.Native.Nat.{ℕ, _≤_, _<_}
 use mathlib.Core.Path.{_≡_}
 use mathlib.Core.Logic.{_↔_}
-use mathlib.Core.Bool.{false}
 use mathlib.Core.Option.{some}
 use mathlib.Core.List.{List, [], _∷_, _++_}
 use lib.ListN.{length}
@@ -12,10 +11,10 @@ use Rattle.scope_graph.specs.Graph.{Edge}
 use Rattle.scope_graph.specs.Rows.{language}
 use Rattle.text_field.specs.Outcome.{refused, done}
 use Rattle.text_field.specs.Answer.{answer}
-use Rattle.graph_rows.specs.Decode.{rulesOf, graphOf}
+use Rattle.graph_rows.specs.Decode.{lettersOf, rulesOf, scopesOf, graphOf}
 use Rattle.graph_file.specs.File.{readCells}
 use Rattle.board.specs.Example.{exampleText}
-use Rattle.dot.specs.Drawing.{DrawnEdge, droppedLine, drawingText, drawingOf, dotOf}
+use Rattle.dot.specs.Drawing.{DrawnEdge, droppedLine, drawnEdges, drawingOf, dotOf}
 
 -- the text begins with the line
 abbrev pub Begins : List ℕ → List ℕ → Type 0
@@ -46,14 +45,38 @@ drawingBytes = 11556
 abbrev pub Longest : Type 0
 Longest = (text cells : List ℕ) → readCells text ≡ done cells → length (drawingOf cells) ≤ drawingBytes
 
--- document 01's example: five scopes, and the edges `1 P 0`, `2 I 4`, `2 P 1`, `3 P 1`
+-- An edge of a drawing is between scopes of the file, and its letter is one of the file's labels.
+pub record InFile (cells : List ℕ) (e : DrawnEdge) : Type 0 where
+  pub from : e .from < scopesOf cells
+  pub to : e .to < scopesOf cells
+  pub letter : e .letter ∈ lettersOf cells
+
+-- so it is with every edge drawn of a text that is read
+abbrev pub EdgesInFile : Type 0
+EdgesInFile = (text cells : List ℕ) → readCells text ≡ done cells → (e : DrawnEdge) → e ∈ drawnEdges cells → InFile cells e
+
+-- Document 01's example drawn, line by line: the graph opened, the scopes 0 to 4, the edges `1 P 0`,
+-- `2 I 4`, `2 P 1` and `3 P 1`, the graph closed. It has no turns.
+abbrev pub exampleDrawing : List ℕ
+exampleDrawing =
+    100 ∷ 105 ∷ 103 ∷ 114 ∷ 97 ∷ 112 ∷ 104 ∷ 32 ∷ 115 ∷ 99 ∷ 111 ∷ 112 ∷ 101 ∷ 115 ∷ 32 ∷ 123 ∷ 10 ∷
+    48 ∷ 59 ∷ 10 ∷
+    49 ∷ 59 ∷ 10 ∷
+    50 ∷ 59 ∷ 10 ∷
+    51 ∷ 59 ∷ 10 ∷
+    52 ∷ 59 ∷ 10 ∷
+    49 ∷ 32 ∷ 45 ∷ 62 ∷ 32 ∷ 48 ∷ 32 ∷ 91 ∷ 108 ∷ 97 ∷ 98 ∷ 101 ∷ 108 ∷ 61 ∷ 34 ∷ 80 ∷ 34 ∷ 93 ∷ 59 ∷ 10 ∷
+    50 ∷ 32 ∷ 45 ∷ 62 ∷ 32 ∷ 52 ∷ 32 ∷ 91 ∷ 108 ∷ 97 ∷ 98 ∷ 101 ∷ 108 ∷ 61 ∷ 34 ∷ 73 ∷ 34 ∷ 93 ∷ 59 ∷ 10 ∷
+    50 ∷ 32 ∷ 45 ∷ 62 ∷ 32 ∷ 49 ∷ 32 ∷ 91 ∷ 108 ∷ 97 ∷ 98 ∷ 101 ∷ 108 ∷ 61 ∷ 34 ∷ 80 ∷ 34 ∷ 93 ∷ 59 ∷ 10 ∷
+    51 ∷ 32 ∷ 45 ∷ 62 ∷ 32 ∷ 49 ∷ 32 ∷ 91 ∷ 108 ∷ 97 ∷ 98 ∷ 101 ∷ 108 ∷ 61 ∷ 34 ∷ 80 ∷ 34 ∷ 93 ∷ 59 ∷ 10 ∷
+    125 ∷ 10 ∷ []
+
 abbrev pub ExampleDrawn : Type 0
-ExampleDrawn = dotOf exampleText ≡ done (drawingText false (0 ∷ 1 ∷ 2 ∷ 3 ∷ 4 ∷ [])
-    (record { from = 1; letter = 80; to = 0 } ∷ record { from = 2; letter = 73; to = 4 }
-    ∷ record { from = 2; letter = 80; to = 1 } ∷ record { from = 3; letter = 80; to = 1 } ∷ []))
+ExampleDrawn = dotOf exampleText ≡ done exampleDrawing
 
 pub record Promises : Type 0 where
   pub turns : TurnsTold
   pub refusals : Refusals
   pub longest : Longest
+  pub in-file : EdgesInFile
   pub example : ExampleDrawn
