@@ -38,29 +38,6 @@ use Rattle.dot.specs.Promises.{InFile}
 use Rattle.dot.specs.Rows.{letterByte, drawnBy, edgeLines}
 use Rattle.dot.proofs.Texts.{scopeLines, whole-puts, below-length, Narrow, drawing-short}
 
--- where a section's rows stand
-module _ (k : ℕ) (t : List ℕ) (p : ℕ) (first : p ≡ firstRow t) (from : ℕ) (starts : from ≡ p + leading 0 k (drop p t)) where
-  from-is : from ≡ startOf k t
-  from-is = starts ∙ ap (λ (n : ℕ). n + leading 0 k (drop n t)) first ∙ start-first k t
-
-  pub from-within : from ≤ length t
-  from-within = let e = from-is in let w = start-within k t in omega arith
-
-  module _ (to : ℕ) (ends : to ≡ from + leading 0 (k + 1) (drop from t)) where
-    to-is : to ≡ startOf (k + 1) t
-    to-is =
-        let e = from-is in
-        ends ∙ ap (λ (n : ℕ). n + leading 0 (k + 1) (drop n t)) e ∙ sym (start-next k (k + 1) t (omega arith))
-
-    pub to-within : (from ≤ to) × (to ≤ length t)
-    to-within = let e = to-is in let w = start-within (k + 1) t in (omega arith, omega arith)
-
-    pub part-is : take (to - from) (drop from t) ≡ partOf k t
-    unfolding partOf
-    part-is =
-        ap (λ (n : ℕ). take (n - from) (drop from t)) (to-is ∙ ap (λ (n : ℕ). startOf n t) (add-one k))
-        ∙ ap (λ (n : ℕ). take (startOf (suc k) t - n) (drop n t)) from-is
-
 -- whether some row from a place on has another turn than 0
 module _ (edges : List ℕ) (p : ℕ) (row : EdgeRow) (e : row ≡ edgeRow edges p) (h : 6 ≤ length edges - p) where
   turn-here : otherTurn (rowOf (drop p edges)) ≡ not (eqb (row .turn) 0)
@@ -92,22 +69,6 @@ map-same {A} {B} f g (x ∷ l) h = ap (λ (y : B). y ∷ map f l) (h x here) ∙
 module _ (cells : List ℕ) (was : WasRead cells) where
   t : AcceptedTable cells
   t = accepted cells was
-
-  -- the count of scopes stands in the one row of its section
-  pub count-is : getD (partOf countSection cells) 1 0 ≡ scopesOf cells
-  unfolding scopesOf
-  count-is =
-      ⊎-elim
-      (λ (few : length (partOf countSection cells) < 6).
-      let none : rowsOf (partOf countSection cells) ≡ [] = rows-none (partOf countSection cells) 0 (omega arith) in
-      let least = t .scopes-least in
-      let zero-scopes : scopesOf cells ≡ 0 = ap (λ (l : List Row). value (getD l 0 blank) 0) (sym (rows-are cells was countSection) ∙ none) in
-      absurd (omega arith))
-      (λ (six : 6 ≤ length (partOf countSection cells)).
-      sym (ap (λ (l : List Row). value (getD l 0 blank) 0) (sym (rows-are cells was countSection))
-      ∙ ap (λ (row : Row). value row 0) (row-at (partOf countSection cells) 0 (omega arith))
-      ∙ value-cell (partOf countSection cells) 0 0 (omega arith)))
-      (below-or (length (partOf countSection cells)) 6)
 
   pub turn-is : someRow otherTurn (rowsOf (partOf edgeSection cells)) ≡ otherTurns cells
   unfolding otherTurns

@@ -1,8 +1,8 @@
 // The lines of a drawing.
 use crate::rows::has_turn;
 use crate::rows::letter_byte;
-use crate::rows::scope_count;
-use crate::rows::section_rows;
+use board::scope_count;
+use board::section_rows;
 use graph_table::EDGES;
 use graph_table::EdgeRow;
 use graph_table::LABELS;

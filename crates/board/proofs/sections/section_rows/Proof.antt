@@ -1,10 +1,10 @@
 -- `section_rows` meets its contract. Assumes nothing.
 use native.Mathlib.Omega.{arith}
 use Rattle.graph_table.proofs.Leading.{first-within}
-use Rattle.dot.proofs.Found.{from-within, to-within, part-is}
+use Rattle.board.proofs.SectionFound.{from-within, to-within, part-is}
 use borrow.Author.Needs.{needs}
-use Rattle.dot.proofs.rows.section_rows.Statement.{statement}
-use Rattle.dot.proofs.rows.section_rows.Tie as tie
+use Rattle.board.proofs.sections.section_rows.Statement.{statement}
+use Rattle.board.proofs.sections.section_rows.Tie as tie
 
 first-row-requires : tie.Need-first-row-requires
 first-row-requires c κs = search needs

@@ -3,10 +3,10 @@ use Prim.Native.Nat.{ℕ}
 use mathlib.Core.Path.{ap, _∙_}
 use mathlib.Core.List.{List}
 use lib.ListN.{getD}
-use Rattle.dot.proofs.Found.{count-is}
+use Rattle.board.proofs.SectionFound.{count-is}
 use borrow.Author.Needs.{needs}
-use Rattle.dot.proofs.rows.scope_count.Statement.{statement}
-use Rattle.dot.proofs.rows.scope_count.Tie as tie
+use Rattle.board.proofs.sections.scope_count.Statement.{statement}
+use Rattle.board.proofs.sections.scope_count.Tie as tie
 
 section-rows-requires : tie.Need-section-rows-requires
 section-rows-requires c κs = search needs
