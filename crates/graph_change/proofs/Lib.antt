@@ -4,6 +4,7 @@ pub mod RowLaws
 pub mod CellLaws
 pub mod Leading
 pub mod PlaceLaws
+pub mod EdgeLaws
 pub mod ChangeLaws
 pub mod KeyLaws
 pub mod SectionLaws

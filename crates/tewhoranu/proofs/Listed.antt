@@ -44,6 +44,9 @@ use Rattle.conversion.specs.Conversion.{unshown, oldText, newText, textIn, text
 use Rattle.ruled.specs.Ruled.{ruledOf}
 use Rattle.ruled.proofs.Refusing.{refusals}
 use Rattle.readers.specs.Readers.{readersText, declarationAt, readersOf, readersFor}
+use Rattle.renumbering.specs.Renumbering.{renumberText, renumberOf, roomFor, sizesOf, backFor}
+use Rattle.renumbering.specs.Alone.{fileSize}
+use Rattle.renumbering.proofs.Promises.{promises}
 use Rattle.tewhoranu.specs.Numbers.{told, amountNumber, caseNumber, stepsNumber, written, comparisonCase, comparisonSteps, compared, standingCase, standingSteps, judged}
 use Rattle.tewhoranu.specs.Listed.{lastRefusal, Listed, listed, carried, ListedWith, its-own, as-others, heard, amountIn, caseIn, numbered, Output, OutputWith, Cases, Numbers}
 
@@ -268,6 +271,38 @@ readers-listed _ place room (carried cells) = by-test (leb (length (graphOf cell
     by-test true = its-own 11 here
     by-test false = as-others _ (answer-listed (done lines) room (carried lines))
 
+-- a renumbered file
+renumber-listed : (text : List ℕ) (room lines : ℕ) → Listed (fileSize (sizesOf (roomFor room lines (renumberOf text))))
+unfolding fileSize sizesOf roomFor renumberOf renumberText
+renumber-listed text room lines =
+    then-listed (sizesOf (roomFor room lines (renumberOf text))) _
+    (then-listed (roomFor room lines (renumberOf text)) _
+    (then-listed (renumberOf text) _
+    (then-listed (readCells text) _ (read-listed text) (λ cells. then-listed (writeText _) _ (write-listed _) (λ file. carried _)))
+    (λ r. if-listed _ 9 _ (omega arith) (omega arith) (carried _)))
+    (λ r. carried _))
+    (λ s. carried _)
+
+-- the way back
+module _ (text was : List ℕ) (room : ℕ) where
+  abbrev OwnBack : Outcome ℕ → Type 0
+  OwnBack o = ListedWith (17 ∷ []) o
+
+  back-answered : (cells : List ℕ) → readCells text ≡ done cells → (o : Outcome ℕ) → answer (backFor text was) room ≡ o → OwnBack o
+  back-answered cells read (done n) e = as-others (done n) (carried n)
+  back-answered cells read (refused n) e =
+      ⊎-elim (λ (y : n ≡ 17). its-own n (subst (λ m. m ∈ (17 ∷ [])) (sym y) here))
+      (λ nine. let y : n ≡ 9 = nine .0 in as-others (refused n) (listed n (omega arith) (omega arith)))
+      (promises .refusals .back text cells was read room n e)
+
+  back-listed : OwnBack (answer (backFor text was) room)
+  unfolding answer andThen
+  back-listed = by (readCells text) refl (read-listed text)
+    where
+      by : (o : Outcome (List ℕ)) → readCells text ≡ o → Listed o → OwnBack (answer (backFor text was) room)
+      by _ read (listed n low high) = rw (promises .refusals .reading text n read .1 was) (as-others (refused n) (listed n low high))
+      by _ read (carried cells) = back-answered cells read (answer (backFor text was) room) refl
+
 -- path rows
 start-listed : (m before : ℕ) (r : NumberRead) → Listed (startBy m before r)
 unfolding startBy numberMeaning numberPlaced andThen
@@ -335,7 +370,7 @@ unfolding told written heard
 output-with own _ low (its-own n m) = (its-own n m, rw (lt-ltb n 64 (low n m), heard))
 output-with own o low (as-others _ l) = (as-others o l, output o l .1)
 
--- K5's, K6's and K9's numbers are below 64
+-- K5's, K6's, K9's and K13's numbers are below 64
 alone-low : (k : ℕ) → k < 64 → (n : ℕ) → n ∈ (k ∷ []) → n < 64
 alone-low k h n m = let y : n ≡ k = List·Memᴰ·eq-of-singleton m in omega arith
 
@@ -377,4 +412,6 @@ numbers = record {
   toNew = λ text room. output (answer (newOf text) room) (answer-listed (newOf text) room (new-listed text));
   rules = λ text expression room. output-with (12 ∷ 13 ∷ []) (answer (ruledOf expression text) room) rules-low (rules-listed text expression room);
   readers = λ text place room. output-with (11 ∷ []) (answer (readersFor text place) room) (alone-low 11 (omega arith)) (readers-listed (readCells text) place room (read-listed text));
+  renumber = λ text room lines. output (fileSize (sizesOf (roomFor room lines (renumberOf text)))) (renumber-listed text room lines);
+  back = λ text was room. output-with (17 ∷ []) (answer (backFor text was) room) (alone-low 17 (omega arith)) (back-listed text was room);
 }

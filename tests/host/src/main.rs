@@ -1,7 +1,7 @@
 //! The host test: the library, through its Rust wrapper, against the plain Rust implementation, on
 //! random and damaged files, graph tables and path rows, with lent memory of every length about the
-//! due one; its judge, its summary and its readers against the enumerator; then the C example and the program
-//! against the plain implementation.
+//! due one; its judge, its summary, its readers and its numbering of scopes against the enumerator; then the C example
+//! and the program against the plain implementation.
 //!
 //! host_test FILES EXAMPLE PROGRAM RUNS [GYM..]: so many random files in process, and as many small
 //! gyms whose paths are judged, so many runs of each of the two programs, and both programs on the
@@ -16,6 +16,7 @@ mod followed;
 mod judged;
 mod programs;
 mod readers;
+mod renumbering;
 mod seen;
 
 use calls::{Tally, Test};
@@ -34,7 +35,7 @@ fn differ(call: &str, text: &[u8], detail: String) -> ! {
 }
 
 /// What each call must have answered at least once; and accepted files of each form.
-const DUE: [(&str, &[&str]); 15] = [
+const DUE: [(&str, &[&str]); 17] = [
     ("form", &["0", "1", "2"]),
     ("read", &["written", "refused 1", "refused 2", "refused 3", "refused 4", "refused 5", "refused 6", "refused 9"]),
     ("write", &["written", "refused 2", "refused 3", "refused 4", "refused 5", "refused 6", "refused 9"]),
@@ -49,6 +50,8 @@ const DUE: [(&str, &[&str]); 15] = [
     ("rules", &["written", "refused 1", "refused 2", "refused 3", "refused 4", "refused 5", "refused 6", "refused 12", "refused 13", "refused 9"]),
     ("to_old", &["written", "refused 1", "refused 2", "refused 3", "refused 4", "refused 5", "refused 6", "refused 14", "refused 9"]),
     ("to_new", &["written", "refused 1", "refused 2", "refused 3", "refused 4", "refused 5", "refused 6", "refused 9"]),
+    ("renumber", &["written", "refused 1", "refused 2", "refused 3", "refused 4", "refused 5", "refused 6", "refused 9"]),
+    ("back", &["written", "refused 1", "refused 2", "refused 3", "refused 4", "refused 5", "refused 6", "refused 17", "refused 9"]),
     ("converted", &["to_old as it was", "to_old and back", "to_old without a column of 0", "to_new as it was", "to_new and back"]),
 ];
 
@@ -80,7 +83,7 @@ fn run(args: &[String]) {
             test.followed(&text, query);
         }
     }
-    for (call, answers) in DUE.into_iter().chain(judged::DUE).chain([readers::DUE]) {
+    for (call, answers) in DUE.into_iter().chain(judged::DUE).chain([readers::DUE, renumbering::DUE]) {
         for answer in answers {
             let times = test.tally.0.get(&(call, answer.to_string())).copied().unwrap_or(0);
             if times == 0 {

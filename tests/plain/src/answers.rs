@@ -1,10 +1,11 @@
-//! Listing, judge and summary, a declaration's readers, a file in the other form, and one with the
-//! rules of an expression.
+//! Listing, judge and summary, a declaration's readers, a file in the other form, with the rules of
+//! an expression, and with other numbers for its scopes.
 
 use crate::gym::{
     in_form, push_end, push_name, push_number, with_rules, Form, Gym, Query, Refusal,
 };
 use crate::path_row::{fill, PathRow, Step};
+use crate::renumbering::{gone_back, renumbered};
 pub use crate::search::Standing;
 use crate::search::{Go, Rules, Search};
 
@@ -211,6 +212,21 @@ pub fn to_new(text: &[u8], out: &mut [u8]) -> Result<usize, Refusal> {
 /// written.
 pub fn rules(text: &[u8], expression: &[u8], out: &mut [u8]) -> Result<usize, Refusal> {
     put(&with_rules(text, expression)?, out)
+}
+
+/// Writes a text with its scopes numbered for storage, and the list of their old numbers; answers
+/// the bytes written of both. Neither changes where one is too short.
+pub fn renumber(text: &[u8], out: &mut [u8], list: &mut [u8]) -> Result<(usize, usize), Refusal> {
+    let (file, was) = renumbered(text)?;
+    if list.len() < was.len() {
+        return Err(9);
+    }
+    Ok((put(&file, out)?, put(&was, list)?))
+}
+
+/// Writes a text with the numbers of a list for its scopes; answers the bytes written.
+pub fn back(text: &[u8], was: &[u8], out: &mut [u8]) -> Result<usize, Refusal> {
+    put(&gone_back(text, was)?, out)
 }
 
 pub fn judge_row(gym: &Gym, rules: &Rules, query: Query, row: &PathRow) -> Standing {

@@ -6,6 +6,7 @@ pub mod enumerate;
 pub mod gym;
 pub mod path_row;
 pub mod random;
+pub mod renumbering;
 pub mod row_changes;
 pub mod rules;
 pub mod search;
