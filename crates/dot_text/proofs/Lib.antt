@@ -5,3 +5,5 @@ pub mod TokenLaws
 pub mod ManyLaws
 pub mod StatementLaws
 pub mod WholeLaws
+pub mod GrammarLaws
+pub mod Promises

@@ -3,7 +3,7 @@
 use Prim.Native.Nat.{ℕ, _<_}
 use mathlib.Core.Path.{_≡_}
 use mathlib.Core.Logic.{_⊎_, _↔_}
-use mathlib.Core.List.{List, _++_, _∷_, map}
+use mathlib.Core.List.{List, [], _∷_, _++_, map}
 use lib.ListN.{length}
 use Rattle.scope_graph.specs.Language.{_∈_}
 use Rattle.scope_graph.specs.Path.{Distinct}
@@ -41,9 +41,13 @@ pub record Faultless (cells : List ℕ) (above : List DrawnEdge) (e : DrawnEdge)
   pub known : ¬ Unknown cells e
   pub new : ¬ (e ∈ above)
 
--- no edge has one, each among those above it
+-- no edge has one: each is held against those above it
+abbrev pub FaultlessAfter : List ℕ → List DrawnEdge → List DrawnEdge → Type 0
+FaultlessAfter cells above [] = Unit {0}
+FaultlessAfter cells above (e ∷ edges) = Faultless cells above e × FaultlessAfter cells (above ++ (e ∷ [])) edges
+
 abbrev pub AllFaultless : List ℕ → List DrawnEdge → Type 0
-AllFaultless cells edges = (above : List DrawnEdge) (e : DrawnEdge) (below : List DrawnEdge) → edges ≡ above ++ (e ∷ below) → Faultless cells above e
+AllFaultless cells edges = FaultlessAfter cells [] edges
 
 -- the first edge with a fault, in the text's sequence
 pub record FirstFault (cells : List ℕ) (edges : List DrawnEdge) (n : ℕ) : Type 0 where
