@@ -80,7 +80,7 @@ known-is letters scopes e h =
     }
 
 -- an edge's row with turn 0 fits its line, with or without turns
-edge-formed : (t : Bool) (labels scopes from l to : ℕ) → scopes ≤ 64 → from < scopes → l < labels → to < scopes
+pub edge-formed : (t : Bool) (labels scopes from l to : ℕ) → scopes ≤ 64 → from < scopes → l < labels → to < scopes
     → FormedRow labels scopes (edgeShape t .row) (from ∷ l ∷ to ∷ 0 ∷ 0 ∷ [])
 unfolding edgeShape formed everyItem itemFormed fieldFormed idleZeros idleZero sparesPlace valuesOf inRange itemInRange contentInRange
 edge-formed true labels scopes from l to few a b c = record {

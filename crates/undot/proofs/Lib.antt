@@ -6,3 +6,6 @@ pub mod Putting
 pub mod Going
 pub mod ScopeLaws
 pub mod FileLaws
+pub mod ScopesRight
+pub mod EdgesRight
+pub mod Promises
