@@ -1,6 +1,7 @@
-//! Listing, judge and summary, a declaration's readers, a file in the other form, and one with the
-//! rules of an expression.
+//! Listing, judge and summary, a declaration's readers, a file in the other form, one with the
+//! rules of an expression, its drawing, and one with the edges of a drawing.
 
+use crate::dot;
 use crate::gym::{
     in_form, push_end, push_name, push_number, with_rules, Form, Gym, Query, Refusal,
 };
@@ -211,6 +212,16 @@ pub fn to_new(text: &[u8], out: &mut [u8]) -> Result<usize, Refusal> {
 /// written.
 pub fn rules(text: &[u8], expression: &[u8], out: &mut [u8]) -> Result<usize, Refusal> {
     put(&with_rules(text, expression)?, out)
+}
+
+/// Writes a text's edges in the DOT language; answers the bytes written.
+pub fn dot(text: &[u8], out: &mut [u8]) -> Result<usize, Refusal> {
+    put(&dot::dot(text)?, out)
+}
+
+/// Writes a text with the edges of a DOT text in place of its own; answers the bytes written.
+pub fn undot(text: &[u8], drawn: &[u8], out: &mut [u8]) -> Result<usize, Refusal> {
+    put(&dot::undot(text, drawn)?, out)
 }
 
 pub fn judge_row(gym: &Gym, rules: &Rules, query: Query, row: &PathRow) -> Standing {
