@@ -1,7 +1,7 @@
 //! Random DOT texts for a gym: its own drawing with its statements mixed and its blanks varied,
 //! other edges, and faults of every kind.
 
-use crate::gym::Gym;
+use crate::gym::{Gym, EDGE_LIMIT};
 use crate::random::Rng;
 
 /// A drawing's edge: where it comes from, its letter, where it leads.
@@ -48,13 +48,13 @@ fn arrows(rng: &mut Rng, gym: &Gym) -> Vec<Arrow> {
                 .collect()
         }
     };
-    if rng.below(40) == 0 {
-        // each scope's edges by each label to each, as far as 513, or some less or more
+    if gym.labels.len() * count * count > EDGE_LIMIT && rng.below(4) == 0 {
+        // from each scope by each label to each, the most of a file and two more or less
         let all = gym
             .labels
             .iter()
             .flat_map(|&l| (0..count * count).map(move |i| (i / count, l, i % count)));
-        arrows = all.take(513 - 2 + rng.below(5)).collect();
+        arrows = all.take(EDGE_LIMIT - 2 + rng.below(5)).collect();
     }
     rng.shuffle(&mut arrows);
     let at = rng.below(arrows.len() + 1);
