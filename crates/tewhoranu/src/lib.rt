@@ -10,6 +10,7 @@ use beginnings::listing_counted;
 use comparison::compare_text;
 use conversion::to_new;
 use conversion::to_old;
+use dot::dot;
 use graph_file::name_place;
 use graph_file::read;
 use graph_file::write;
@@ -20,6 +21,7 @@ use readers::readers;
 use resolution::listing;
 use resolution::summary;
 use ruled::rules;
+use undot::undot;
 ghost use mathlib.Core.Path.{_≡_};
 ghost use lib.ListN.{length};
 ghost use Rattle.graph_file.specs.File.{readCells, writeText};
@@ -34,6 +36,8 @@ ghost use Rattle.judge.specs.Judge.{judgeAnswer};
 ghost use Rattle.conversion.specs.Conversion.{oldOf, newOf};
 ghost use Rattle.ruled.specs.Ruled.{ruledOf};
 ghost use Rattle.readers.specs.Readers.{readersFor};
+ghost use Rattle.dot.specs.Drawing.{dotOf};
+ghost use Rattle.undot.specs.Undrawn.{undotOf};
 ghost use Rattle.tewhoranu.specs.Numbers.{interfaceVersion, written, compared, judged, placeLeft};
 
 // The number that include/tewhoranu.h has as TEWHORANU_VERSION. It goes up when a function gets other
@@ -204,4 +208,22 @@ pub extern "C" fn tewhoranu_readers(text: &[u8], place: usize, out: &mut [u8]) -
     ensures memory { λ _. ⌜ now (out .exit) ≡ leaves (readersFor (now (text .entry)) place) (now (out .entry)) ⌝ }
 {
     written_number(readers(text, place, out))
+}
+
+// The scopes and edges of a gym file's text in the DOT language, written into the lent buffer.
+#[no_mangle]
+pub extern "C" fn tewhoranu_dot(text: &[u8], out: &mut [u8]) -> u64
+    ensures answer { λ r. ⌜ r ≡ written (answer (dotOf (now (text .entry))) (length (now (out .entry)))) ⌝ }
+    ensures memory { λ _. ⌜ now (out .exit) ≡ leaves (dotOf (now (text .entry))) (now (out .entry)) ⌝ }
+{
+    written_number(dot(text, out))
+}
+
+// A gym file's text with the edges of a DOT text in place of its own, written into the lent buffer.
+#[no_mangle]
+pub extern "C" fn tewhoranu_undot(text: &[u8], drawn: &[u8], out: &mut [u8]) -> u64
+    ensures answer { λ r. ⌜ r ≡ written (answer (undotOf (now (text .entry)) (now (drawn .entry))) (length (now (out .entry)))) ⌝ }
+    ensures memory { λ _. ⌜ now (out .exit) ≡ leaves (undotOf (now (text .entry)) (now (drawn .entry))) (now (out .entry)) ⌝ }
+{
+    written_number(undot(text, drawn, out))
 }

@@ -55,6 +55,15 @@ mod c {
             out: *mut u8,
             out_length: usize,
         ) -> u64;
+        pub fn tewhoranu_dot(text: *const u8, text_length: usize, out: *mut u8, out_length: usize) -> u64;
+        pub fn tewhoranu_undot(
+            text: *const u8,
+            text_length: usize,
+            dot: *const u8,
+            dot_length: usize,
+            out: *mut u8,
+            out_length: usize,
+        ) -> u64;
         pub fn tewhoranu_rules(
             text: *const u8,
             text_length: usize,
@@ -171,4 +180,16 @@ pub fn tewhoranu_rules(text: &[u8], expression: &[u8], out: &mut [u8]) -> u64 {
 pub fn tewhoranu_readers(text: &[u8], place: usize, out: &mut [u8]) -> u64 {
     // SAFETY: as said above.
     unsafe { c::tewhoranu_readers(text.as_ptr(), text.len(), place, out.as_mut_ptr(), out.len()) }
+}
+
+pub fn tewhoranu_dot(text: &[u8], out: &mut [u8]) -> u64 {
+    // SAFETY: as said above.
+    unsafe { c::tewhoranu_dot(text.as_ptr(), text.len(), out.as_mut_ptr(), out.len()) }
+}
+
+pub fn tewhoranu_undot(text: &[u8], dot: &[u8], out: &mut [u8]) -> u64 {
+    // SAFETY: as said above.
+    unsafe {
+        c::tewhoranu_undot(text.as_ptr(), text.len(), dot.as_ptr(), dot.len(), out.as_mut_ptr(), out.len())
+    }
 }
