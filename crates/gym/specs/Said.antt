@@ -12,11 +12,13 @@ use Rattle.conversion.specs.Conversion.{oldOf, newOf}
 use Rattle.ruled.specs.Ruled.{ruledOf}
 use Rattle.beginnings.specs.Beginnings.{countFor}
 use Rattle.readers.specs.Readers.{readersFor}
+use Rattle.dot.specs.Drawing.{dotOf}
+use Rattle.undot.specs.Undrawn.{undotOf}
 use Rattle.printing.specs.Printed.{inPlace, programText}
 use Rattle.gym.specs.declared.replies.Stream.{Stream}
 use Rattle.gym.specs.declared.replies.Stream.the-variants.{Out, Err}
 use Rattle.gym.specs.Text.{bytes, padded}
-use Rattle.gym.specs.Words.{Asked, list, old, new, judge, compare, rules, count, readers, help, usage, Word, words, asked}
+use Rattle.gym.specs.Words.{Asked, list, old, new, judge, compare, rules, count, readers, dot, undot, help, usage, Word, words, asked}
 
 -- the text, and the stream that gets it; the other one gets nothing
 pub record Said : Type 0 where
@@ -76,19 +78,22 @@ usageLine w = bytes "  " ++ (padded 18 (w .name ++ w .shown) ++ (w .does ++ (10 
 unfoldable pub usageText : List ℕ
 usageText = bytes "usage: gym WORD [ARGUMENT..] < FILE\n" ++ flatMap usageLine words
 
--- what is said for a gym file's text
-unfoldable pub answered : Asked → List ℕ → Said
-answered list text = spoken Out (programText text)
-answered old text = replied (oldOf text)
-answered new text = replied (newOf text)
-answered (judge i row) text = replied (judgeLine text i row)
-answered (compare a b) text = replied (compareLine text a b)
-answered (rules expression) text = replied (ruledOf expression text)
-answered (count i) text = replied (countLine text i)
-answered (readers i) text = replied (readersFor text i)
-answered help text = spoken Out usageText
-answered usage text = spoken Err usageText
+-- what is said for the content of a second file, if the word has one, and a gym file's text
+unfoldable pub answered : Asked → List ℕ → List ℕ → Said
+answered list file text = spoken Out (programText text)
+answered old file text = replied (oldOf text)
+answered new file text = replied (newOf text)
+answered (judge i row) file text = replied (judgeLine text i row)
+answered (compare a b) file text = replied (compareLine text a b)
+answered (rules expression) file text = replied (ruledOf expression text)
+answered (count i) file text = replied (countLine text i)
+answered (readers i) file text = replied (readersFor text i)
+answered dot file text = replied (dotOf text)
+answered undot file text = replied (undotOf text file)
+answered help file text = spoken Out usageText
+answered usage file text = spoken Err usageText
 
--- What the program says for a list of words, its own name left off, and an input.
-unfoldable pub said : List (List ℕ) → List ℕ → Said
-said given input = answered (asked given) input
+-- What the program says for a list of words, its own name left off, the content of the second file
+-- that a word's argument may name, and an input.
+unfoldable pub said : List (List ℕ) → List ℕ → List ℕ → Said
+said given file input = answered (asked given) file input

@@ -20,6 +20,8 @@ pub data Asked : Type 0 where
   rules : List ℕ → Asked
   count : ℕ → Asked
   readers : ℕ → Asked
+  dot : Asked
+  undot : Asked
   help : Asked
   usage : Asked
 
@@ -125,13 +127,30 @@ readersWord =
       asks = withOne readersAsked;
     }
 
+-- The exchange with DOT (02, K14). FILE names a second file; what is asked does not depend on its
+-- name, and what is said is said of its content.
+unfoldable pub dotWord : Word
+dotWord = record { name = bytes "dot"; shown = bytes ""; does = bytes "the scopes and edges in the DOT language, for Graphviz"; asks = alone dot }
+
+unfoldable pub undotWord : Word
+undotWord =
+    record {
+      name = bytes "undot";
+      shown = bytes " FILE";
+      does = bytes "the file with the edges of a DOT text, which FILE holds";
+      asks = withOne (λ file. undot);
+    }
+
 -- the usage text, as an answer and not as a complaint
 unfoldable pub helpWord : Word
 helpWord = record { name = bytes "help"; shown = bytes ""; does = bytes "this text"; asks = alone help }
 
--- all words; a new one is added to the later ones
+-- all words; a new one is added to the last ones
+unfoldable pub lastWords : List Word
+lastWords = dotWord ∷ undotWord ∷ helpWord ∷ []
+
 unfoldable pub laterWords : List Word
-laterWords = rulesWord ∷ countWord ∷ readersWord ∷ helpWord ∷ []
+laterWords = rulesWord ∷ countWord ∷ readersWord ∷ lastWords
 
 unfoldable pub words : List Word
 words = listWord ∷ oldWord ∷ newWord ∷ judgeWord ∷ compareWord ∷ laterWords

@@ -6,6 +6,7 @@ use comparison::Compared;
 use comparison::compare_text;
 use conversion::to_new;
 use conversion::to_old;
+use dot::dot;
 use judge::Judged;
 use judge::judge_text;
 use path_row::form::MOST_STEPS;
@@ -16,6 +17,7 @@ use ruled::rules;
 use text_field::put_byte;
 use text_field::put_bytes;
 use text_field::put_number;
+use undot::undot;
 ghost use mathlib.Core.Path.{_≡_};
 ghost use lib.ListN.{length};
 ghost use mathlib.Core.List.{[], _∷_, _++_};
@@ -27,6 +29,8 @@ ghost use Rattle.conversion.specs.Conversion.{oldOf, newOf};
 ghost use Rattle.ruled.specs.Ruled.{ruledOf};
 ghost use Rattle.beginnings.specs.Counted.{countedOf};
 ghost use Rattle.readers.specs.Readers.{readersFor};
+ghost use Rattle.dot.specs.Drawing.{dotOf};
+ghost use Rattle.undot.specs.Undrawn.{undotOf};
 ghost use Rattle.printing.specs.Printed.{inPlace};
 ghost use Rattle.gym.specs.Said.{replyRoom, lineOf, standingName, comparisonName, judgeLine, compareLine, countLine, usageText, answered};
 ghost use Rattle.gym.specs.Handed.{replyMeaning, Replied};
@@ -152,6 +156,24 @@ fn put_readers<'s, 'o>(text: &'s [u8], place: usize, out: &'o mut [u8]) -> usize
     put_answer(out, a)
 }
 
+// The file in the DOT language, or its refusal.
+fn put_dot<'s, 'o>(text: &'s [u8], out: &'o mut [u8]) -> usize
+    requires room { ⌜ length (now out) ≡ replyRoom ⌝ }
+    ensures written { λ r. ⌜ Replied (now (out .entry)) (now (out .exit)) r (inPlace replyRoom (dotOf (now (text .entry)))) ⌝ }
+{
+    let a = dot(text, out);
+    put_answer(out, a)
+}
+
+// The file with the edges of a DOT text, or the refusal.
+fn put_undot<'s, 'o>(text: &'s [u8], drawn: &'s [u8], out: &'o mut [u8]) -> usize
+    requires room { ⌜ length (now out) ≡ replyRoom ⌝ }
+    ensures written { λ r. ⌜ Replied (now (out .entry)) (now (out .exit)) r (inPlace replyRoom (undotOf (now (text .entry)) (now (drawn .entry)))) ⌝ }
+{
+    let a = undot(text, drawn, out);
+    put_answer(out, a)
+}
+
 // The usage text: its first line, and one for each word.
 fn put_usage(out: &mut [u8]) -> usize
     ensures written { λ r. ⌜ Replied (now (out .entry)) (now (out .exit)) r usageText ⌝ }
@@ -168,23 +190,28 @@ fn put_usage(out: &mut [u8]) -> usize
   rules EXPRESSION  the file with the path rules of an expression such as 'P*I*'
   count QUERY       how many lawful beginnings a query follows
   readers PLACE     the scopes that see a declaration, by its place among the rows
+  dot               the scopes and edges in the DOT language, for Graphviz
+  undot FILE        the file with the edges of a DOT text, which FILE holds
   help              this text
 ",
     )
 }
 
-// A reply for a gym file's text. A new word gets a line here, and a function of its own.
+// A reply for a gym file's text and, if the word has one, the content of a second file. A new word
+// gets a line here, and a function of its own.
 pub fn put_reply<'s, 'o>(
     q: Reply,
     first: &'s [u8],
     second: &'s [u8],
+    file: &'s [u8],
     text: &'s [u8],
     out: &'o mut [u8],
 ) -> Put
     requires room { ⌜ length (now out) ≡ replyRoom ⌝ }
     ensures written { λ r. ⌜ Replied (now (out .entry)) (now (out .exit)) (r .size)
-        (answered (replyMeaning q (now (first .entry)) (now (second .entry))) (now (text .entry)) .text) ⌝ }
-    ensures stream { λ r. ⌜ r .on ≡ answered (replyMeaning q (now (first .entry)) (now (second .entry))) (now (text .entry)) .on ⌝ }
+        (answered (replyMeaning q (now (first .entry)) (now (second .entry))) (now (file .entry)) (now (text .entry)) .text) ⌝ }
+    ensures stream { λ r. ⌜ r .on
+        ≡ answered (replyMeaning q (now (first .entry)) (now (second .entry))) (now (file .entry)) (now (text .entry)) .on ⌝ }
 {
     match q {
         Reply::Old => {
@@ -231,6 +258,20 @@ pub fn put_reply<'s, 'o>(
         }
         Reply::Readers(place) => {
             let size = put_readers(text, place, out);
+            Put {
+                on: Stream::Out,
+                size,
+            }
+        }
+        Reply::Dot => {
+            let size = put_dot(text, out);
+            Put {
+                on: Stream::Out,
+                size,
+            }
+        }
+        Reply::Undot => {
+            let size = put_undot(text, file, out);
             Put {
                 on: Stream::Out,
                 size,

@@ -1,7 +1,10 @@
-//! The program's arguments, as it asks for them.
+//! The program's arguments, as it asks for them, and the file that one of them names.
 
+use crate::io;
 use crate::libc::{EINVAL, ENAMETOOLONG};
 use std::env::args_os;
+use std::fs::File;
+use std::io::Error;
 use std::sync::atomic::{AtomicI32, Ordering};
 
 static ERRNO: AtomicI32 = AtomicI32::new(0);
@@ -31,7 +34,41 @@ pub fn arg(i: usize, buffer: &mut [u8]) -> usize {
     }
 }
 
-/// Why the last call of `arg` returned what it did; 0 if the argument was put whole.
+/// Why the last call of `arg` returned what it did, 0 if the argument was put whole; or what went wrong last.
 pub fn errno() -> i32 {
     ERRNO.load(Ordering::Relaxed)
+}
+
+/// Makes this what went wrong last.
+pub fn keep(error: &Error) {
+    ERRNO.store(error.raw_os_error().unwrap_or(EINVAL), Ordering::Relaxed);
+}
+
+/// Opens the file that an argument of these bytes names; a descriptor, or -1.
+pub fn open_read(path: &[u8]) -> i32 {
+    let Some(name) = args_os().find(|word| word.as_encoded_bytes() == path) else {
+        ERRNO.store(EINVAL, Ordering::Relaxed);
+        return -1;
+    };
+    match File::open(name) {
+        Ok(file) => {
+            io::lend(file);
+            3
+        }
+        Err(error) => {
+            keep(&error);
+            -1
+        }
+    }
+}
+
+/// Writes a line to standard error: what failed, and what went wrong last.
+pub fn fail(what: &[u8]) {
+    let what = String::from_utf8_lossy(what);
+    if errno() == ENAMETOOLONG {
+        eprintln!("{what}: File name too long");
+    } else {
+        eprintln!("{what}: {}", Error::from_raw_os_error(errno()));
+    }
+    io::note(io::FAILED);
 }
