@@ -78,22 +78,23 @@ usageLine w = bytes "  " ++ (padded 18 (w .name ++ w .shown) ++ (w .does ++ (10 
 unfoldable pub usageText : List ℕ
 usageText = bytes "usage: gym WORD [ARGUMENT..] < FILE\n" ++ flatMap usageLine words
 
--- what is said for the content of a second file, if the word has one, and a gym file's text
+-- What is said for a gym file's text. `more` is the second file's, of a word whose argument names one;
+-- for the others it says nothing.
 unfoldable pub answered : Asked → List ℕ → List ℕ → Said
-answered list file text = spoken Out (programText text)
-answered old file text = replied (oldOf text)
-answered new file text = replied (newOf text)
-answered (judge i row) file text = replied (judgeLine text i row)
-answered (compare a b) file text = replied (compareLine text a b)
-answered (rules expression) file text = replied (ruledOf expression text)
-answered (count i) file text = replied (countLine text i)
-answered (readers i) file text = replied (readersFor text i)
-answered dot file text = replied (dotOf text)
-answered undot file text = replied (undotOf text file)
-answered help file text = spoken Out usageText
-answered usage file text = spoken Err usageText
+answered list text more = spoken Out (programText text)
+answered old text more = replied (oldOf text)
+answered new text more = replied (newOf text)
+answered (judge i row) text more = replied (judgeLine text i row)
+answered (compare a b) text more = replied (compareLine text a b)
+answered (rules expression) text more = replied (ruledOf expression text)
+answered (count i) text more = replied (countLine text i)
+answered (readers i) text more = replied (readersFor text i)
+answered dot text more = replied (dotOf text)
+answered undot text more = replied (undotOf text more)
+answered help text more = spoken Out usageText
+answered usage text more = spoken Err usageText
 
--- What the program says for a list of words, its own name left off, the content of the second file
--- that a word's argument may name, and an input.
+-- What the program says for a list of words, its own name left off, an input, and the second file
+-- if the words name one.
 unfoldable pub said : List (List ℕ) → List ℕ → List ℕ → Said
-said given file input = answered (asked given) file input
+said given input more = answered (asked given) input more

@@ -61,6 +61,10 @@ countAsked query = byQuery count query
 unfoldable pub readersAsked : List ℕ → Asked
 readersAsked place = byQuery readers place
 
+-- FILE names a second file. Its bytes are handed over beside the input, and its name says nothing.
+unfoldable pub undotAsked : List ℕ → Asked
+undotAsked file = undot
+
 -- A word: its name, how its arguments are shown and what it does, for who does not know it, and what
 -- its arguments ask for.
 pub record Word : Type 0 where
@@ -127,8 +131,7 @@ readersWord =
       asks = withOne readersAsked;
     }
 
--- The exchange with DOT (02, K14). FILE names a second file; what is asked does not depend on its
--- name, and what is said is said of its content.
+-- the exchange with DOT (02, K14)
 unfoldable pub dotWord : Word
 dotWord = record { name = bytes "dot"; shown = bytes ""; does = bytes "the scopes and edges in the DOT language, for Graphviz"; asks = alone dot }
 
@@ -137,8 +140,8 @@ undotWord =
     record {
       name = bytes "undot";
       shown = bytes " FILE";
-      does = bytes "the file with the edges of a DOT text, which FILE holds";
-      asks = withOne (λ file. undot);
+      does = bytes "the file with the edges of the DOT text in FILE";
+      asks = withOne undotAsked;
     }
 
 -- the usage text, as an answer and not as a complaint

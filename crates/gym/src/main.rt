@@ -1,12 +1,14 @@
-// Answers a question about the gym file on standard input: `gym WORD [ARGUMENT..]`.
+// Answers a question about the gym file on standard input: `gym WORD [ARGUMENT..]`. The argument of
+// some words names a second file.
 //
-// Proved: what is handed to `emit` is all that is to be said for the words, the content of a second
-// file and the text, and on its stream; `run` answers the length of what is to be said. No contract
-// can say what a call of C's does, nor that a call is made. So five things are left for the reader
-// to see: `emit` hands its piece to the C library; `print_reply` calls it once, and for the listings
+// Proved: what is handed to `emit` is all that is to be said for the words, the text and the second
+// file's, and on its stream; `run` answers the length of what is to be said. No contract can say
+// what a call of C's does, nor that a call is made. So five things are left for the reader to see:
+// `emit` hands its piece to the C library; `print_reply` calls it once, and for the listings
 // `printing` has an `emit` of its own; `run` calls one of the two that print, once; `main` calls
-// `run` with what was read; and `second` reads the file that is named, whole, or says on standard
-// error why it does not. That what is read of words and input is enough is a theorem (`ReadEnough`).
+// `run` once with what was read; and where a second file cannot be read whole, `second` says so and
+// `run` is not called. That what is read of the words and the input is enough is a theorem
+// (`ReadEnough`).
 mod replies;
 mod second;
 mod words;
@@ -16,9 +18,9 @@ use printing::print_for;
 use replies::ROOM;
 use replies::Stream;
 use replies::put_reply;
-use second::FILE;
-use second::open_named;
-use second::was_read;
+use second::MORE;
+use second::has_second;
+use second::read_second;
 use words::Command;
 use words::Reply;
 use words::command_of;
@@ -42,18 +44,18 @@ fn descriptor(on: Stream) -> i32
     }
 }
 
-// The one function here that writes what is said. What a call of C's writes cannot be promised, so
-// what it is handed is asked: all that is said, and on which stream. How much that is.
+// The one function here that writes. What a call of C's writes cannot be promised, so what it is
+// handed is asked: all that is said, and on which stream. How much that is.
 fn emit<'s, 'o>(
     q: Reply,
     first: &'s [u8],
     second: &'s [u8],
-    file: &'s [u8],
     text: &'s [u8],
+    more: &'s [u8],
     on: Stream,
     piece: &'o [u8],
 ) -> usize
-    requires due { ⌜ spoken on (now piece) ≡ answered (replyMeaning q (now first) (now second)) (now file) (now text) ⌝ }
+    requires due { ⌜ spoken on (now piece) ≡ answered (replyMeaning q (now first) (now second)) (now text) (now more) ⌝ }
     ensures answer { λ r. ⌜ r ≡ length (now (piece .entry)) ⌝ }
 {
     io::write_all(descriptor(on), piece);
@@ -65,36 +67,36 @@ fn print_reply<'s>(
     q: Reply,
     first: &'s [u8],
     second: &'s [u8],
-    file: &'s [u8],
     text: &'s [u8],
+    more: &'s [u8],
 ) -> usize
     ensures answer { λ r. ⌜ r
-        ≡ length (answered (replyMeaning q (now (first .entry)) (now (second .entry))) (now (file .entry)) (now (text .entry)) .text) ⌝ }
+        ≡ length (answered (replyMeaning q (now (first .entry)) (now (second .entry))) (now (text .entry)) (now (more .entry)) .text) ⌝ }
 {
     let mut out = [0u8; ROOM];
-    let put = put_reply(q, first, second, file, text, &mut out);
+    let put = put_reply(q, first, second, text, more, &mut out);
     let on = put.on;
     let size = put.size;
-    emit(q, first, second, file, text, on, &out[..size])
+    emit(q, first, second, text, more, on, &out[..size])
 }
 
-// What is said for so many words, of which the first three are given, the content of a second file
-// and an input; how much was handed over.
+// What is said for so many words, of which the first three are given, an input, and the second file
+// if they name one; how much was handed over.
 fn run<'s>(
     count: usize,
     name: &'s [u8],
     first: &'s [u8],
     second: &'s [u8],
-    file: &'s [u8],
     text: &'s [u8],
+    more: &'s [u8],
 ) -> usize
     ensures answer { λ r. ⌜ r
-        ≡ length (said (handed count (now (name .entry)) (now (first .entry)) (now (second .entry))) (now (file .entry)) (now (text .entry)) .text) ⌝ }
+        ≡ length (said (handed count (now (name .entry)) (now (first .entry)) (now (second .entry))) (now (text .entry)) (now (more .entry)) .text) ⌝ }
 {
     let c = command_of(count, name, first);
     match c {
         Command::Listings => print_for(text),
-        Command::One(q) => print_reply(q, first, second, file, text),
+        Command::One(q) => print_reply(q, first, second, text, more),
     }
 }
 
@@ -129,37 +131,25 @@ fn read_file(c: Command, text: &mut [u8]) -> usize
     }
 }
 
-// Reads the input, and says what is asked for by the words and the content of a second file.
-fn run_over(count: usize, name: &[u8], first: &[u8], second: &[u8], file: &[u8]) {
-    let mut text = [0u8; INPUT];
-    let size = read_file(command_of(count, name, first), &mut text);
-    run(count, name, first, second, file, &text[..size]);
-}
-
-// Does the word's first argument name a second file?
-fn has_file(c: Command) -> bool {
-    match c {
-        Command::Listings => false,
-        Command::One(q) => match q {
-            Reply::Undot => true,
-            _ => false,
-        },
-    }
-}
-
-// The same for a word with a second file, which is read first. If it cannot be, nothing else is said.
-fn run_with_file(count: usize, name: &[u8], first: &[u8], second: &[u8]) {
-    let mut path = io::buffer();
-    let n = os::arg(2, &mut path);
-    let fd = open_named(name, &path[..n]);
-    if fd < 0 {
+// Reads the second file and then the gym file, and answers. The room for the second file is large,
+// so that only the words that have one clear it.
+fn run_with_second(count: usize, name: &[u8], first: &[u8], second: &[u8]) {
+    let mut more = [0u8; MORE];
+    let mut whole = false;
+    let m = read_second(2, &mut more, &mut whole);
+    if !whole {
         return;
     }
-    let mut file = [0u8; FILE];
-    let size = io::read_full(fd, &mut file);
-    if was_read(fd, &path[..n], size) {
-        run_over(count, name, first, second, &file[..size]);
-    }
+    let mut text = [0u8; INPUT];
+    let size = read_file(command_of(count, name, first), &mut text);
+    run(count, name, first, second, &text[..size], &more[..m]);
+}
+
+// Reads the gym file, and answers.
+fn run_without(count: usize, name: &[u8], first: &[u8], second: &[u8]) {
+    let mut text = [0u8; INPUT];
+    let size = read_file(command_of(count, name, first), &mut text);
+    run(count, name, first, second, &text[..size], &text[..0]);
 }
 
 fn main() {
@@ -170,8 +160,9 @@ fn main() {
     let n = read_word(1, &mut name);
     let a = read_word(2, &mut first);
     let b = read_word(3, &mut second);
-    if has_file(command_of(count, &name[..n], &first[..a])) {
-        return run_with_file(count, &name[..n], &first[..a], &second[..b]);
+    if has_second(command_of(count, &name[..n], &first[..a])) {
+        run_with_second(count, &name[..n], &first[..a], &second[..b]);
+    } else {
+        run_without(count, &name[..n], &first[..a], &second[..b]);
     }
-    run_over(count, &name[..n], &first[..a], &second[..b], &name[..0])
 }

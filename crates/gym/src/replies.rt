@@ -191,27 +191,26 @@ fn put_usage(out: &mut [u8]) -> usize
   count QUERY       how many lawful beginnings a query follows
   readers PLACE     the scopes that see a declaration, by its place among the rows
   dot               the scopes and edges in the DOT language, for Graphviz
-  undot FILE        the file with the edges of a DOT text, which FILE holds
+  undot FILE        the file with the edges of the DOT text in FILE
   help              this text
 ",
     )
 }
 
-// A reply for a gym file's text and, if the word has one, the content of a second file. A new word
-// gets a line here, and a function of its own.
+// A reply for a gym file's text, and a second file's of a word that has one. A new word gets a line
+// here, and a function of its own.
 pub fn put_reply<'s, 'o>(
     q: Reply,
     first: &'s [u8],
     second: &'s [u8],
-    file: &'s [u8],
     text: &'s [u8],
+    more: &'s [u8],
     out: &'o mut [u8],
 ) -> Put
     requires room { ⌜ length (now out) ≡ replyRoom ⌝ }
     ensures written { λ r. ⌜ Replied (now (out .entry)) (now (out .exit)) (r .size)
-        (answered (replyMeaning q (now (first .entry)) (now (second .entry))) (now (file .entry)) (now (text .entry)) .text) ⌝ }
-    ensures stream { λ r. ⌜ r .on
-        ≡ answered (replyMeaning q (now (first .entry)) (now (second .entry))) (now (file .entry)) (now (text .entry)) .on ⌝ }
+        (answered (replyMeaning q (now (first .entry)) (now (second .entry))) (now (text .entry)) (now (more .entry)) .text) ⌝ }
+    ensures stream { λ r. ⌜ r .on ≡ answered (replyMeaning q (now (first .entry)) (now (second .entry))) (now (text .entry)) (now (more .entry)) .on ⌝ }
 {
     match q {
         Reply::Old => {
@@ -271,7 +270,7 @@ pub fn put_reply<'s, 'o>(
             }
         }
         Reply::Undot => {
-            let size = put_undot(text, file, out);
+            let size = put_undot(text, more, out);
             Put {
                 on: Stream::Out,
                 size,

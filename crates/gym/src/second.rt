@@ -1,37 +1,70 @@
-// A word's second file. Nothing is proved of what is read here: no contract can say what a file holds.
+// The second file of a word, which its argument names. What is read here is not proved: no contract
+// can say what a call of C's reads. A file that cannot be opened or read, or is longer than the room
+// for it, is said on standard error, and then the program says nothing else.
+use crate::words::Command;
+use crate::words::Reply;
+ghost use Rattle.io.specs.Counts.{Counts};
 
-// What is read of it: one byte more than the 1,048,576 that it may have.
-pub const FILE: usize = 1_048_577;
+// The room for a second file: 1 MiB.
+pub const MORE: usize = 1048576;
 
-// Standard error.
-const ERRORS: i32 = 2;
-
-// Opens the file that the word's argument names; -1 after a line that says why it cannot be. An
-// argument that is too long for a name is not cut short, as that would name another file.
-pub fn open_named(word: &[u8], path: &[u8]) -> i32 {
-    if os::errno() != 0 {
-        os::fail(word);
-        return -1;
+// Does the command have a second file?
+pub fn has_second(c: Command) -> bool {
+    match c {
+        Command::Listings => false,
+        Command::One(q) => match q {
+            Reply::Undot => true,
+            _ => false,
+        },
     }
-    let fd = os::open_read(path);
-    if fd < 0 {
-        os::fail(path);
-    }
-    fd
 }
 
-// Were the `size` bytes that came of the file all of it? If not, a line says why. A file of which
-// nothing came is asked once more, which tells a folder from an empty file.
-pub fn was_read(fd: i32, path: &[u8], size: usize) -> bool {
-    if size == FILE {
-        io::write_all(ERRORS, path);
-        io::write_all(ERRORS, b": longer than 1,048,576 bytes\n");
+// Says that the room is too short for a file.
+fn say_longer(path: &[u8]) {
+    io::write_all(libc::STDERR_FILENO, path);
+    io::write_all(libc::STDERR_FILENO, b": longer than 1048576 bytes\n");
+}
+
+// Does an open file end here? If not, or if it cannot be read, that is said.
+fn ends(fd: i32, path: &[u8]) -> bool {
+    let mut one = [0u8; 1];
+    let got = libc::read(fd, &mut one);
+    if got < 0 {
+        os::fail(path);
         return false;
     }
-    let mut more = [0u8; 1];
-    if size == 0 && libc::read(fd, &mut more) < 0 {
-        os::fail(path);
+    if got > 0 {
+        say_longer(path);
         return false;
     }
     true
+}
+
+// Reads an open file to its end. Returns how many bytes it put at the front of the room.
+fn read_open(fd: i32, path: &[u8], room: &mut [u8], whole: &mut bool) -> usize
+    ensures answer { λ r. ⌜ Counts r (now (room .exit)) ⌝ }
+{
+    let n = io::read_full(fd, room);
+    *whole = ends(fd, path);
+    n
+}
+
+// Reads the file that word i names; `whole` becomes true if all of it was read.
+pub fn read_second(i: usize, room: &mut [u8], whole: &mut bool) -> usize
+    ensures answer { λ r. ⌜ Counts r (now (room .exit)) ⌝ }
+{
+    let mut path = io::buffer();
+    let n = os::arg(i, &mut path);
+    if os::errno() != 0 {
+        os::fail(b"gym");
+        return 0;
+    }
+    let fd = os::open_read(&path[..n]);
+    if fd < 0 {
+        os::fail(&path[..n]);
+        return 0;
+    }
+    let size = read_open(fd, &path[..n], room, whole);
+    libc::close(fd);
+    size
 }

@@ -9,7 +9,7 @@ ghost use Rattle.gym.specs.Handed.{arguments, handed, queried, meaning};
 
 // What is answered by one text. `Judge` and `Count` hold the query's number, `Readers` the
 // declaration's place; rows and the expression stay where they are, the judged row in the second
-// argument. What `Undot` takes in is a file's content.
+// argument. `Undot` has a second file, which its argument names.
 pub enum Reply {
     Old,
     New,

@@ -1,10 +1,8 @@
-//! Standard input and output and the one other file, as the program asks for them, and the exit status that its output
-//! tells.
+//! Standard input and output, as the program asks for them, and the exit status that its output tells.
 
-use std::fs::File;
-use std::io::{stderr, stdin, stdout, ErrorKind, Read, Result, Write};
+use crate::libc::{self, STDERR_FILENO};
+use std::io::{stderr, stdout, Write};
 use std::sync::atomic::{AtomicU8, Ordering};
-use std::sync::Mutex;
 
 pub const REFUSED: u8 = 1;
 pub const USAGE: u8 = 2;
@@ -12,9 +10,6 @@ pub const FAILED: u8 = 3;
 
 /// The highest of what was noted.
 static STATUS: AtomicU8 = AtomicU8::new(0);
-
-/// The file that was opened. Any descriptor but standard input's is its own.
-static FILE: Mutex<Option<File>> = Mutex::new(None);
 
 pub fn note(status: u8) {
     STATUS.fetch_max(status, Ordering::Relaxed);
@@ -28,10 +23,15 @@ pub fn status() -> u8 {
     STATUS.load(Ordering::Relaxed)
 }
 
-/// Writes a piece to standard output, or to standard error, which gets the usage text and what is wrong with a file. A
-/// refusal is a piece that begins with the word: no file, listing, summary, standing, comparison or count does.
+/// Room for a path.
+pub fn buffer() -> [u8; 4096] {
+    [0; 4096]
+}
+
+/// Writes a piece to standard output, or to standard error, which gets the usage text or what failed. A refusal is a
+/// piece that begins with the word: no file, listing, summary, standing, comparison, count or list does.
 pub fn write_all(descriptor: i32, piece: &[u8]) -> bool {
-    let done = if descriptor == 2 {
+    let done = if descriptor == STDERR_FILENO {
         note(if piece.starts_with(b"usage: ") { USAGE } else { FAILED });
         stderr().write_all(piece)
     } else {
@@ -46,44 +46,21 @@ pub fn write_all(descriptor: i32, piece: &[u8]) -> bool {
     done.is_ok()
 }
 
-/// Makes this the file that is read from now on.
-pub fn lend(file: File) {
-    *FILE.lock().expect("no thread panicked") = Some(file);
-}
-
-/// Reads once; how many bytes came.
-pub fn read(descriptor: i32, buffer: &mut [u8]) -> Result<usize> {
-    if descriptor == 0 {
-        return stdin().read(buffer);
-    }
-    match FILE.lock().expect("no thread panicked").as_mut() {
-        Some(file) => file.read(buffer),
-        None => Ok(0),
-    }
-}
-
-/// Reads until the buffer is full or the input ends; how many bytes that is. What is wrong with the other file the
-/// program finds out and says itself.
+/// Reads until the buffer is full, the input ends or a read fails; how many bytes that is. What failed of standard input is
+/// said here: the program has no words for it.
 pub fn read_full(descriptor: i32, buffer: &mut [u8]) -> usize {
     let mut size = 0;
     while size < buffer.len() {
-        match read(descriptor, &mut buffer[size..]) {
+        match usize::try_from(libc::read(descriptor, &mut buffer[size..])) {
             Ok(0) => break,
             Ok(n) => size += n,
-            Err(error) if error.kind() == ErrorKind::Interrupted => {}
-            Err(error) => {
+            Err(_) => {
                 if descriptor == 0 {
-                    eprintln!("gym: {error}");
-                    note(FAILED);
+                    crate::os::fail(b"gym");
                 }
                 break;
             }
         }
     }
     size
-}
-
-/// Room for a file's name.
-pub fn buffer() -> [u8; 4096] {
-    [0; 4096]
 }
