@@ -1,5 +1,5 @@
 -- What the code finds in a table that was read is what the graph has. Assumes nothing.
-use Prim.Native.Nat.{ℕ, zero, suc, _+_, _-_, _*_, _/_, _%_, _≤_, _<_}
+use Prim.Native.Nat.{ℕ, suc, _+_, _-_, _*_, _%_, _≤_, _<_}
 use mathlib.Core.Path.{_≡_, refl, sym, ap, _∙_}
 use mathlib.Core.Bool.{Bool, true, false, not, _||_}
 use mathlib.Core.Logic.{⊎-elim}
@@ -10,7 +10,7 @@ use borrow.Author.Tests.{eq-eqb, ne-eqb}
 use lib.Dec.{eqb}
 use lib.ListN.{length, getD, take, drop, length-map, List·getD-map}
 use Rattle.scope_graph.specs.Language.{_∈_}
-use Rattle.scope_graph.specs.Graph.{Edge, InRange, Query}
+use Rattle.scope_graph.specs.Graph.{Edge, InRange}
 use Rattle.scope_graph.specs.Rows.{language}
 use Rattle.scope_graph.specs.Readers.{numbersBelow}
 use Rattle.scope_graph.proofs.Lists.{here, there, map-intro, map-elim}
@@ -28,10 +28,9 @@ use Rattle.graph_file.proofs.InverseField.{capital-byte}
 use Rattle.graph_table.specs.declared.rows.EdgeRow.{EdgeRow}
 use Rattle.graph_table.specs.Values.{edgeRow}
 use Rattle.graph_table.specs.Sections.{leading, firstRow, startOf, partOf, rowsOf}
-use Rattle.graph_table.proofs.Leading.{start-first, start-next, start-within, first-within}
+use Rattle.graph_table.proofs.Leading.{start-first, start-next, start-within}
 use Rattle.graph_table.proofs.Parts.{rows-count, rows-next, rows-none, row-at, value-cell}
 use Rattle.graph_table.proofs.Tests.{below-or}
-use Rattle.board.specs.Promises.{Sound}
 use Rattle.board.proofs.Capitals.{capitals}
 use Rattle.board.proofs.Queries.{getD-in, accepted, sound, rows-are}
 use Rattle.dot.specs.Drawing.{DrawnEdge, droppedIf, openLine, edgeLine, closeLine, drawnEdge, drawnEdges, drawingOf}
@@ -83,6 +82,11 @@ module _ (edges : List ℕ) (p : ℕ) (row : EdgeRow) (e : row ≡ edgeRow edges
 pub turn-end : (edges : List ℕ) (p : ℕ) → length edges - p < 6 → someRow otherTurn (rowsOf (drop p edges)) ≡ false
 unfolding someRow
 turn-end edges p h = ap (someRow otherTurn) (rows-none edges p h)
+
+-- functions that agree on a list's elements
+map-same : {A B : Type 0} (f g : A → B) (l : List A) → ((a : A) → a ∈ l → f a ≡ g a) → map f l ≡ map g l
+map-same f g [] h = refl
+map-same {A} {B} f g (x ∷ l) h = ap (λ (y : B). y ∷ map f l) (h x here) ∙ ap (λ (r : List B). g x ∷ r) (map-same f g l (λ a m. h a (there m)))
 
 -- a table that was read
 module _ (cells : List ℕ) (was : WasRead cells) where
@@ -174,10 +178,6 @@ module _ (cells : List ℕ) (was : WasRead cells) where
     row-narrow : Narrow (drawnEdge (lettersOf cells) row)
     unfolding drawnEdge edgeOf
     row-narrow = record { from = sound cells was .edges-from edge stands; to = sound cells was .edges-to edge stands }
-
-  map-same : {A B : Type 0} (f g : A → B) (l : List A) → ((a : A) → a ∈ l → f a ≡ g a) → map f l ≡ map g l
-  map-same f g [] h = refl
-  map-same {A} {B} f g (x ∷ l) h = ap (λ (y : B). y ∷ map f l) (h x here) ∙ ap (λ (r : List B). g x ∷ r) (map-same f g l (λ a m. h a (there m)))
 
   -- the edges' lines
   pub edges-are : edgeLines (partOf labelSection cells) (partOf edgeSection cells) ≡ flatMap edgeLine (drawnEdges cells)

@@ -2,14 +2,13 @@
 use Prim.Native.Nat.{ℕ, _≤_, _<_}
 use mathlib.Core.Path.{_≡_, refl, sym, ap, subst, _∙_}
 use mathlib.Core.Logic.{⊎-elim}
-use mathlib.Core.Bool.{Bool, true, false, not}
+use mathlib.Core.Bool.{true, false, not}
 use mathlib.Core.Option.{Option, some}
-use mathlib.Core.List.{List, [], _∷_, _++_, flatMap}
+use mathlib.Core.List.{List, _++_, flatMap}
 use native.Mathlib.Omega.{arith}
 use borrow.Author.Tests.{eqb-false, ne-eqb}
 use lib.Dec.{eqb}
 use lib.ListN.{length, getD}
-use Rattle.scope_graph.specs.Language.{_∈_}
 use Rattle.scope_graph.specs.Readers.{numbersBelow}
 use Rattle.scope_graph.proofs.Lists.{Two, true-false, not-is, is-not, map-intro, map-elim}
 use Rattle.text_field.specs.Number.{digitsOf, numberText}
@@ -17,7 +16,7 @@ use Rattle.text_field.specs.Outcome.{Outcome, refused, done, andThen}
 use Rattle.text_field.specs.Answer.{answer}
 use Rattle.text_field.proofs.AnswerLaws.{answer-short, answer-fits}
 use Rattle.graph_rows.specs.Format.{edgeSection}
-use Rattle.graph_rows.specs.Admission.{Row, value}
+use Rattle.graph_rows.specs.Admission.{value}
 use Rattle.graph_rows.specs.Order.{someRow}
 use Rattle.graph_rows.specs.Decode.{keptIf, rowsAmong, rowsIn, lettersOf, rulesOf, scopesOf, edgeOf, graphOf}
 use Rattle.graph_rows.specs.Formed.{otherTurn, otherTurns}

@@ -13,10 +13,9 @@ use Rattle.text_field.specs.Number.{numberText}
 use Rattle.text_field.specs.Buffer.{Buf, put, puts}
 use Rattle.text_field.proofs.NumberLaws.{length-below}
 use Rattle.text_field.proofs.BufferLaws.{puts-then, puts-step, puts-one, puts-none}
-use Rattle.graph_rows.specs.Admission.{Row, rowOf, value}
+use Rattle.graph_rows.specs.Admission.{Row, rowOf}
 use Rattle.graph_rows.proofs.RowLaws.{row-cells}
 use Rattle.graph_table.specs.declared.rows.EdgeRow.{EdgeRow}
-use Rattle.graph_table.specs.Sections.{rowsOf}
 use Rattle.graph_table.specs.Values.{edgeRow}
 use Rattle.graph_table.proofs.Parts.{rows-next, rows-none}
 use Rattle.dot.specs.Drawing.{droppedLine, droppedIf, openLine, scopeLine, DrawnEdge, arrow, beforeLetter, afterLetter, edgeLine, closeLine, drawingText}

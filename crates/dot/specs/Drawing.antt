@@ -1,4 +1,4 @@
--- A scope graph drawn in the DOT language (02, K14): the lines, the text of a table, and the text of
+-- A scope graph drawn in the DOT language (02, K14): the lines, the drawing of a table, and that of
 -- a gym file. Assumes nothing: these are definitions.
 use Prim.Native.Nat.{ℕ}
 use mathlib.Core.Bool.{Bool, true, false}

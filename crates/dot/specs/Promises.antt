@@ -55,8 +55,8 @@ pub record InFile (cells : List ℕ) (e : DrawnEdge) : Type 0 where
 abbrev pub EdgesInFile : Type 0
 EdgesInFile = (text cells : List ℕ) → readCells text ≡ done cells → (e : DrawnEdge) → e ∈ drawnEdges cells → InFile cells e
 
--- Document 01's example drawn, line by line: the graph opened, the scopes 0 to 4, the edges `1 P 0`,
--- `2 I 4`, `2 P 1` and `3 P 1`, the graph closed. It has no turns.
+-- Document 01's example drawn, line by line: the graph opened, the scopes 0 to 4, the edges
+-- `1 P 0`, `2 I 4`, `2 P 1` and `3 P 1`, the graph closed. It has no turns.
 abbrev pub exampleDrawing : List ℕ
 exampleDrawing =
     100 ∷ 105 ∷ 103 ∷ 114 ∷ 97 ∷ 112 ∷ 104 ∷ 32 ∷ 115 ∷ 99 ∷ 111 ∷ 112 ∷ 101 ∷ 115 ∷ 32 ∷ 123 ∷ 10 ∷

@@ -1,4 +1,5 @@
--- `put_scopes` meets its contract. The loop's invariant: the lines of the scopes below s are written. Assumes nothing.
+-- `put_scopes` meets its contract. The loop's invariant: the lines of the scopes below s are
+-- written. Assumes nothing.
 use Prim.Native.Nat.{ℕ, _-_, _≤_}
 use mathlib.Core.Path.{_≡_, refl, ap, _∙_}
 use lib.ListN.{length}
