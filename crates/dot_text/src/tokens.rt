@@ -3,10 +3,16 @@ use text_field::NumberRead;
 use text_field::is_capital;
 use text_field::read_number;
 ghost use mathlib.Core.Path.{_≡_};
+ghost use mathlib.Core.Bool.{_&&_};
+ghost use lib.Dec.{eqb};
 ghost use lib.ListN.{drop};
+ghost use Rattle.text_field.specs.Bytes.{isCapital};
 ghost use Rattle.dot_text.specs.Tokens.{isBlank};
 ghost use Rattle.dot_text.specs.Reading.{pastBlanks, pastBytes, numberOf, fixedNext, numberNext, quotedHere, quotedNext};
 ghost use Rattle.dot_text.specs.Answers.{restOf, letterOf};
+
+// The bytes of a quoted letter.
+const QUOTED: usize = 3;
 
 // Where the text goes on after what was looked for; or it does not stand there.
 pub enum Rest {
@@ -74,21 +80,28 @@ pub fn number(text: &[u8], at: usize) -> NumberRead
     read_number(text, past_blanks(text, at))
 }
 
+// Are the three bytes a letter A to Z in quotes?
+fn is_quoted(a: u8, x: u8, b: u8) -> bool
+    ensures answer { λ r. ⌜ r ≡ (eqb a 34 && (isCapital x && eqb b 34)) ⌝ }
+{
+    a == b'"' && (is_capital(x) && b == b'"')
+}
+
 // The letter in quotes at a place.
 fn quoted_at(text: &[u8], at: usize) -> LetterRead
     ensures answer { λ r. ⌜ letterOf r (now (text .entry)) ≡ quotedHere (drop at (now (text .entry))) ⌝ }
 {
-    if text.len() < 3 {
+    if text.len() < QUOTED {
         return LetterRead::NoLetter;
     }
-    if text.len() - 3 < at {
+    if text.len() - QUOTED < at {
         return LetterRead::NoLetter;
     }
     let x = text[at + 1];
-    if text[at] == b'"' && (is_capital(x) && text[at + 2] == b'"') {
-        return LetterRead::Letter(x, at + 3);
+    if !is_quoted(text[at], x, text[at + 2]) {
+        return LetterRead::NoLetter;
     }
-    LetterRead::NoLetter
+    LetterRead::Letter(x, at + QUOTED)
 }
 
 // The next token, if it is a letter in quotes.
