@@ -18,9 +18,9 @@ use printing::print_for;
 use replies::ROOM;
 use replies::Stream;
 use replies::put_reply;
-use second::MORE;
 use second::has_second;
 use second::read_second;
+use second::room;
 use words::Command;
 use words::Reply;
 use words::command_of;
@@ -133,8 +133,8 @@ fn read_file(c: Command, text: &mut [u8]) -> usize
 
 // Reads the second file and then the gym file, and answers. The room for the second file is large,
 // so that only the words that have one clear it.
-fn run_with_second(count: usize, name: &[u8], first: &[u8], second: &[u8]) {
-    let mut more = [0u8; MORE];
+fn run_with_second<'s>(count: usize, name: &'s [u8], first: &'s [u8], second: &'s [u8]) {
+    let mut more = room();
     let mut whole = false;
     let m = read_second(2, &mut more, &mut whole);
     if !whole {
@@ -146,10 +146,10 @@ fn run_with_second(count: usize, name: &[u8], first: &[u8], second: &[u8]) {
 }
 
 // Reads the gym file, and answers.
-fn run_without(count: usize, name: &[u8], first: &[u8], second: &[u8]) {
+fn run_without<'s>(count: usize, name: &'s [u8], first: &'s [u8], second: &'s [u8]) {
     let mut text = [0u8; INPUT];
     let size = read_file(command_of(count, name, first), &mut text);
-    run(count, name, first, second, &text[..size], &text[..0]);
+    run(count, name, first, second, &text[..size], &name[..0]);
 }
 
 fn main() {

@@ -3,10 +3,20 @@
 // for it, is said on standard error, and then the program says nothing else.
 use crate::words::Command;
 use crate::words::Reply;
+ghost use mathlib.Core.Path.{_≡_};
+ghost use lib.ListN.{length};
 ghost use Rattle.io.specs.Counts.{Counts};
 
 // The room for a second file: 1 MiB.
-pub const MORE: usize = 1048576;
+const MORE: usize = 1048576;
+
+// That room, cleared. Only its length is told: a proof that had a million zeros at hand would count
+// them.
+pub fn room() -> [u8; MORE]
+    ensures length { λ r. ⌜ 1048576 ≡ length r ⌝ }
+{
+    [0; MORE]
+}
 
 // Does the command have a second file?
 pub fn has_second(c: Command) -> bool {
