@@ -52,7 +52,7 @@ fn scope_count(table: &[u64]) -> u64
 // Takes the edges out of a table that was read: how many cells are left.
 fn clear_edges(table: &mut [u64], n: usize) -> usize
     requires read { ⌜ WasRead (take n (now table)) ⌝ }
-    requires within { ⌜ n ≤ length (now table) ⌝ }
+    requires room { ⌜ (n ≤ length (now table)) × (tableCells ≤ length (now table)) ⌝ }
     ensures left { λ r. ⌜ take r (now (table .exit)) ≡ withoutEdges (take n (now (table .entry))) ⌝ }
     ensures within { λ r. ⌜ r ≤ length (now (table .exit)) ⌝ }
 {

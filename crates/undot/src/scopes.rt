@@ -25,10 +25,11 @@ pub fn has_scopes(dot: &[u8], at: usize, count: u64) -> bool
         if count <= s {
             return false;
         }
-        if met[s as usize] {
+        let i = s as usize;
+        if met[i] {
             return false;
         }
-        met[s as usize] = true;
+        met[i] = true;
         number += 1;
         p = next;
     }

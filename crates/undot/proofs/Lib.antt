@@ -1,0 +1,8 @@
+-- Laws of the definitions of specs/, for this crate and those above it.
+pub mod Places
+pub mod Tables
+pub mod Joining
+pub mod Putting
+pub mod Going
+pub mod ScopeLaws
+pub mod FileLaws
