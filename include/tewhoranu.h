@@ -182,8 +182,8 @@ extern "C" {
  * enough for every call but tewhoranu_listing_counted, which after the listing walks again with a
  * memo of 524,288 bytes below it. The host test runs the files that go deepest on a thread with this
  * much; of them 880 KiB served the one that takes most without the count, 1,390 KiB with it.
- * tewhoranu_rules, tewhoranu_dot and tewhoranu_undot walk nothing: they hold two tables, some 200,000
- * bytes. */
+ * tewhoranu_rules, tewhoranu_dot and tewhoranu_undot walk nothing: they hold a table or two, at most
+ * some 200,000 bytes. */
 #define TEWHORANU_STACK (4 * 512 * 1024)
 
 /* A step of a path: the label's letter (A to Z) and the scope that it comes to (0 to 63). */
