@@ -56,7 +56,7 @@ unfolding replaced
 replaced-other k new rows j n = rw (ne-eqb j k n, replaced)
 
 -- whether a section is the edges', and then or else what holds of it
-by-section : {A : Type 0} (j : ℕ) → (j ≡ edgeSection → A) → (¬ (j ≡ edgeSection) → A) → A
+pub by-section : {A : Type 0} (j : ℕ) → (j ≡ edgeSection → A) → (¬ (j ≡ edgeSection) → A) → A
 by-section j f g = ⊎-elim (λ e. f (eqb-true j edgeSection e)) (λ e. g (eqb-false j edgeSection e)) (Two (eqb j edgeSection))
 
 pub read-table : (cells : List ℕ) → WasRead cells → FormedTable cells
