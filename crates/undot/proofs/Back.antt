@@ -2,17 +2,16 @@
 use Prim.Native.Nat.{ℕ, zero, suc, _≤_, _<_}
 use mathlib.Core.Path.{_≡_, refl, sym, ap, subst, _∙_}
 use mathlib.Core.List.{List, [], _∷_, _++_, map, map-append, append-assoc, Memᴰ·append-left, Memᴰ·append-right}
-use mathlib.Core.Bool.{Bool, true, false, not, _&&_, _||_}
-use mathlib.Core.Logic.{_⊎_, _↔_, ⊎-elim}
+use mathlib.Core.Bool.{Bool, true, false, _&&_}
 use native.Mathlib.Omega.{arith}
 use lib.Dec.{eqb, ltb}
 use lib.ListN.{length, getD, length-append, length-map}
-use borrow.Author.Tests.{ltb-true, eqb-true, eqb-false, eq-eqb, ne-eqb, not-false}
+use borrow.Author.Tests.{ltb-true, eqb-true, eq-eqb, ne-eqb, not-false}
 use Rattle.scope_graph.specs.Language.{_∈_}
 use Rattle.scope_graph.specs.Path.{Distinct}
 use Rattle.scope_graph.specs.Listing.{Pairwise}
 use Rattle.scope_graph.specs.Readers.{numbersBelow}
-use Rattle.scope_graph.proofs.Lists.{here, there, map-intro, map-elim, and-left, and-right, true-false}
+use Rattle.scope_graph.proofs.Lists.{here, map-intro, map-elim, and-left, and-right, true-false}
 use Rattle.scope_graph.proofs.Sequences.{parts}
 use Rattle.scope_graph.proofs.Readers.{numbers-elim, numbers-intro, numbers-ascend}
 use Rattle.text_field.specs.Bytes.{isCapital}
@@ -23,12 +22,11 @@ use Rattle.graph_rows.specs.Admission.{Row, value, place, sameSource, sameEdge,
 use Rattle.graph_rows.specs.Values.{formed, sparesPlace, idleZero, idleZeros, itemFormed}
 use Rattle.graph_rows.specs.Tested.{formIn}
 use Rattle.graph_rows.specs.Decode.{rowsIn, lettersOf, scopesOf}
-use Rattle.graph_rows.specs.Formed.{tableOf, FormedTable, otherTurn, otherTurns}
+use Rattle.graph_rows.specs.Formed.{FormedTable, otherTurn, otherTurns}
 use Rattle.graph_rows.proofs.DecodeOrder.{some-none}
 use Rattle.graph_file.specs.File.{readCells}
 use Rattle.graph_file.proofs.Promises.{read-formed}
 use Rattle.graph_file.proofs.InverseFile.{read-then-written}
-use Rattle.graph_change.specs.Promises.{Ascending}
 use Rattle.graph_change.proofs.ChangeLaws.{five-cells}
 use Rattle.graph_change.proofs.RowLaws.{one-list}
 use Rattle.graph_change.proofs.FormedLaws.{formed-found}
@@ -40,7 +38,7 @@ use Rattle.dot.specs.Promises.{InFile}
 use Rattle.dot.proofs.Promises as told
 use Rattle.undot.specs.Edges.{edgeRow}
 use Rattle.undot.specs.Undrawn.{undotOf}
-use Rattle.undot.specs.Promises.{SameScopes, Unknown, Faultless, FaultlessAfter, AllFaultless, PutOut}
+use Rattle.undot.specs.Promises.{SameScopes, FaultlessAfter, PutOut}
 use Rattle.undot.specs.Back.{atZero, AtZero, TakesOwn, SameBytes}
 use Rattle.undot.proofs.Places.{labels-are}
 use Rattle.undot.proofs.Tables.{accepted, same-table, by-section}

@@ -1,13 +1,13 @@
 -- The text of an export is a drawing of its scopes and edges. Assumes nothing.
 use Prim.Native.Nat.{ℕ, _≤_}
-use mathlib.Core.Path.{_≡_, refl, sym, subst, _∙_}
-use mathlib.Core.Bool.{Bool, true, false, _&&_, _||_}
+use mathlib.Core.Path.{_≡_, refl, subst}
+use mathlib.Core.Bool.{Bool, true, false}
 use mathlib.Core.List.{List, [], _∷_, _++_, map, flatMap, append-assoc}
 use Rattle.scope_graph.specs.Language.{_∈_}
 use Rattle.scope_graph.proofs.Lists.{here, there}
 use Rattle.text_field.specs.Bytes.{isCapital}
 use Rattle.text_field.specs.Number.{numberText}
-use Rattle.dot_text.specs.Tokens.{isBlank, blanks, Token, fixed, number, quoted, spelling, Spelled, nothing, first, digraph, scopesWord, comment}
+use Rattle.dot_text.specs.Tokens.{isBlank, blanks, spelling, Spelled, nothing, first, scopesWord}
 use Rattle.dot_text.specs.Grammar.{DrawnEdge, Drawing, edgeTokens, bodyTokens, tokensOf, Graph, Drawn, plain, commented}
 use Rattle.dot.specs.Drawing as export
 
