@@ -1,23 +1,21 @@
 -- What is read is what the grammar says, both ways. Assumes nothing.
-use Prim.Native.Nat.{ℕ, zero, suc, _≤_, _<_}
+use Prim.Native.Nat.{ℕ, zero, suc}
 use mathlib.Core.Path.{_≡_, refl, sym, ap, subst, _∙_}
-use mathlib.Core.Bool.{Bool, true, false, not, _&&_}
+use mathlib.Core.Bool.{Bool, true, false, not}
 use mathlib.Core.List.{List, [], _∷_, _++_}
 use native.Mathlib.Omega.{arith}
-use lib.Dec.{eqb}
 use lib.ListN.{length}
 use borrow.Author.Tests.{not-false}
 use Rattle.text_field.specs.Bytes.{within, isDigit}
 use Rattle.text_field.specs.Outcome.{Outcome, refused, done, andThen, refuseIf}
 use Rattle.text_field.proofs.ByteLaws.{both, clash}
 use Rattle.text_field.proofs.OutcomeLaws.{done-same, not-done, went, passed}
-use Rattle.dot_text.specs.Tokens.{isBlank, blanks, Token, fixed, number, spelling, Spelled, nothing, digraph, scopesWord, semicolon, arrow, openBrace, closeBrace, comment}
+use Rattle.dot_text.specs.Tokens.{isBlank, blanks, Token, fixed, spelling, Spelled, nothing, digraph, scopesWord, openBrace, closeBrace, comment}
 use Rattle.dot_text.specs.Grammar.{DrawnEdge, Drawing, edgeTokens, bodyTokens, tokensOf, Graph, Drawn, plain, commented}
-use Rattle.dot_text.specs.Reading.{Taken, pastBlanks, pastBytes, fixedNext, numberNext, scopeNext, edgeNext, moreOf, many, scopesNext, edgesNext, restOr, pastComment, pastBlank, headNext, isEmpty, endsAfter, endsNext, Places, placesIn, partsOf, drawnAt, drawn}
+use Rattle.dot_text.specs.Reading.{Taken, pastBlanks, pastBytes, fixedNext, scopeNext, edgeNext, moreOf, many, scopesNext, edgesNext, restOr, pastComment, pastBlank, headNext, isEmpty, endsAfter, endsNext, Places, placesIn, partsOf, drawnAt, drawn}
 use Rattle.dot_text.proofs.Steps.{blank-on, byte-other, comment-none, comment-some}
-use Rattle.dot_text.proofs.TokenLaws.{Stands, blanked, fixed-found, fixed-back, fixed-other, number-reads, number-other, no-digit-first, bytes-found, bytes-back, stands-first, First, spelled-first, spelled-none}
-use Rattle.dot_text.proofs.ManyLaws.{joined}
-use Rattle.dot_text.proofs.StatementLaws.{Fronts, fronts-spelled, spelled-fronts, scopeFront, edgeFront, scope-found, scope-reads, edge-found, edge-reads, scopes-none, scopes-some, edges-none, edges-some}
+use Rattle.dot_text.proofs.TokenLaws.{blanked, fixed-found, fixed-back, fixed-other, number-reads, number-other, no-digit-first, bytes-found, bytes-back, stands-first, spelled-first, spelled-none}
+use Rattle.dot_text.proofs.StatementLaws.{fronts-spelled, spelled-fronts, scopeFront, edgeFront, scope-found, scope-reads, edge-found, edge-reads, scopes-none, scopes-some, edges-none, edges-some}
 
 -- nothing but blanks is left, exactly if nothing is left after them
 blanks-empty : (s : List ℕ) → isEmpty (pastBlanks s) ≡ true → blanks s ≡ true

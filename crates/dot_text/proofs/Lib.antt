@@ -7,3 +7,4 @@ pub mod StatementLaws
 pub mod WholeLaws
 pub mod GrammarLaws
 pub mod Promises
+pub mod Examples

@@ -1,12 +1,11 @@
 -- What was read as a scope or an edge stands there, and what stands there is read. Assumes nothing.
-use Prim.Native.Nat.{ℕ, zero, suc, _≤_, _<_}
-use mathlib.Core.Path.{_≡_, refl, sym, ap, _∙_}
-use mathlib.Core.Bool.{true, false}
+use Prim.Native.Nat.{ℕ, _≤_, _<_}
+use mathlib.Core.Path.{_≡_, refl, ap}
 use mathlib.Core.List.{List, [], _∷_, _++_}
 use native.Mathlib.Omega.{arith}
 use lib.ListN.{length, length-append}
 use Rattle.text_field.specs.Bytes.{within, isDigit}
-use Rattle.text_field.specs.Outcome.{Outcome, refused, done, andThen}
+use Rattle.text_field.specs.Outcome.{refused, done, andThen}
 use Rattle.text_field.proofs.OutcomeLaws.{done-same, went}
 use Rattle.text_field.proofs.NumberLaws.{length-some}
 use Rattle.dot_text.specs.Tokens.{isBlank, Token, fixed, number, quoted, spelling, Spelled, semicolon, openBracket, labelWord, equals, closeBracket, arrow}

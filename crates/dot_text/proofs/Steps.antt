@@ -3,20 +3,20 @@
 use mathlib.Core.Path.{_≡_, refl, sym, ap, _∙_}
 use mathlib.Core.Bool.{Bool, true, false, _&&_}
 use mathlib.Core.List.{List, [], _∷_}
-use Prim.Native.Nat.{ℕ, zero, suc, _+_, _≤_, _<_}
+use Prim.Native.Nat.{ℕ, _+_, _≤_, _<_}
 use native.Mathlib.Omega.{arith}
 use lib.Dec.{eqb, leb}
 use lib.ListN.{length, getD, drop}
 use lib.Seq.{drop-drop}
 use borrow.Author.Tests.{eq-eqb, ne-eqb, leb-true, leb-false}
 use Rattle.text_field.specs.Bytes.{isCapital}
-use Rattle.text_field.specs.Outcome.{Outcome, refused, done}
+use Rattle.text_field.specs.Outcome.{refused, done}
 use Rattle.text_field.specs.Number.{numberHere, numberPlaced}
 use Rattle.text_field.specs.declared.NumberRead.{NumberRead}
 use Rattle.text_field.specs.declared.NumberRead.the-variants.{Number, NoNumber}
 use Rattle.text_field.proofs.Steps.{drop-next, drop-end}
 use Rattle.dot_text.specs.Tokens.{isBlank, comment}
-use Rattle.dot_text.specs.Reading.{Taken, pastBlanks, pastBytes, numberOf, numberNext, quotedHere, pastBlank, isEmpty, restOr, pastComment}
+use Rattle.dot_text.specs.Reading.{pastBlanks, pastBytes, numberOf, numberNext, quotedHere, pastBlank, isEmpty, restOr, pastComment}
 
 -- blanks at the front of a text are passed, and what is no blank is not
 pub blank-on : (x : ℕ) (text : List ℕ) → isBlank x ≡ true → pastBlanks (x ∷ text) ≡ pastBlanks text

@@ -1,22 +1,22 @@
 -- What was read as a token stands there, and what stands there is read. Assumes nothing.
-use Prim.Native.Nat.{ℕ, zero, suc, _+_, _≤_, _<_}
+use Prim.Native.Nat.{ℕ, _≤_, _<_}
 use mathlib.Core.Path.{_≡_, refl, sym, ap, _∙_}
-use mathlib.Core.Bool.{Bool, true, false, _&&_, _||_}
+use mathlib.Core.Bool.{Bool, true, false, _&&_}
 use mathlib.Core.List.{List, [], _∷_, _++_}
 use native.Mathlib.Omega.{arith}
 use lib.Dec.{eqb}
 use lib.ListN.{length, getD, drop, length-append}
 use lib.Seq.{drop-at}
-use borrow.Author.Tests.{eqb-true, eqb-false, eq-eqb, ne-eqb}
-use Rattle.text_field.specs.Bytes.{within, isDigit, isCapital}
-use Rattle.text_field.specs.Outcome.{Outcome, refused, done}
+use borrow.Author.Tests.{eqb-true, ne-eqb}
+use Rattle.text_field.specs.Bytes.{isDigit, isCapital}
+use Rattle.text_field.specs.Outcome.{refused, done}
 use Rattle.text_field.specs.Number.{numberText, numberHere}
 use Rattle.text_field.specs.declared.NumberRead.{NumberRead}
 use Rattle.text_field.specs.declared.NumberRead.the-variants.{Number, NoNumber}
 use Rattle.text_field.proofs.ByteLaws.{both, clash}
 use Rattle.text_field.proofs.OutcomeLaws.{done-same, not-done}
 use Rattle.text_field.proofs.ByteLaws.{digit-bounds}
-use Rattle.text_field.proofs.NumberLaws.{number-back, number-found, first-off, length-some}
+use Rattle.text_field.proofs.NumberLaws.{number-back, number-found, first-off}
 use Rattle.dot_text.specs.Tokens.{isBlank, blanks, Token, fixed, number, quoted, Proper, spelling, Spelled, nothing, first}
 use Rattle.dot_text.specs.Reading.{Taken, pastBlanks, pastBytes, numberOf, fixedNext, numberNext, quotedHere, quotedNext}
 use Rattle.dot_text.proofs.Steps.{blank-on, blank-off, byte-same, byte-other}

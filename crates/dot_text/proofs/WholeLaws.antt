@@ -1,11 +1,11 @@
 -- The parts of a text by their places. Assumes nothing.
 use Prim.Native.Nat.{ℕ}
-use mathlib.Core.Path.{_≡_, refl, sym, ap, _∙_}
+use mathlib.Core.Path.{_≡_, sym, ap, _∙_}
 use mathlib.Core.Bool.{Bool, true, false}
 use mathlib.Core.List.{List}
 use lib.ListN.{drop}
-use Rattle.text_field.specs.Outcome.{Outcome, refused, done, refuseIf}
-use Rattle.dot_text.specs.Reading.{Taken, pastComment, headNext, scopesNext, edgesNext, endsNext, Places, placesIn, partsOf}
+use Rattle.text_field.specs.Outcome.{refused, done, refuseIf}
+use Rattle.dot_text.specs.Reading.{pastComment, headNext, scopesNext, edgesNext, endsNext, placesIn, partsOf}
 use Rattle.dot_text.proofs.Answers.{then-none, then-some}
 
 module _ (s : List ℕ) (start : ℕ) (from : drop start s ≡ pastComment s) where

@@ -1,5 +1,5 @@
 -- A drawing put into the table of a file that was read. Assumes nothing.
-use Prim.Native.Nat.{ℕ, _+_, _-_, _/_, _≤_, _<_}
+use Prim.Native.Nat.{ℕ, _+_, _-_, _/_, _≤_}
 use mathlib.Core.Path.{_≡_, refl, sym, ap, subst, _∙_}
 use mathlib.Core.List.{List, [], _∷_, List·Memᴰ·not-nil}
 use mathlib.Core.Bool.{Bool, true, false}
@@ -23,7 +23,7 @@ use Rattle.graph_change.specs.Changed.{withRows}
 use Rattle.dot_text.specs.declared.whole.DrawingRead.{DrawingRead}
 use Rattle.dot_text.specs.declared.whole.DrawingRead.the-variants.{Parts, NoDrawing}
 use Rattle.dot_text.specs.Grammar.{DrawnEdge, Drawing}
-use Rattle.dot_text.specs.Reading.{Places, scopesNext, edgesNext, partsOf, drawnAt, drawn}
+use Rattle.dot_text.specs.Reading.{scopesNext, edgesNext, partsOf, drawnAt, drawn}
 use Rattle.dot_text.specs.Answers.{placesOf}
 use Rattle.dot_text.proofs.Answers.{then-none, then-some}
 use Rattle.undot.specs.Scopes.{fileScopes}

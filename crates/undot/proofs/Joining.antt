@@ -1,28 +1,28 @@
 -- A drawn edge's row joins a formed table: whether it is known there, whether it was met, and what
 -- the table is then. Assumes nothing.
-use Prim.Native.Nat.{ℕ, zero, suc, _+_, _≤_, _<_}
+use Prim.Native.Nat.{ℕ, suc, _≤_, _<_}
 use mathlib.Core.Path.{_≡_, refl, sym, ap, subst, _∙_}
-use mathlib.Core.List.{List, [], _∷_, _++_, map}
-use mathlib.Core.Bool.{Bool, true, false, not, _&&_, _||_}
-use mathlib.Core.Logic.{_⊎_, inl, inr, ⊎-elim}
+use mathlib.Core.List.{List, [], _∷_}
+use mathlib.Core.Bool.{Bool, true, false, _&&_}
+use mathlib.Core.Logic.{⊎-elim}
 use native.Mathlib.Omega.{arith}
-use lib.Dec.{eqb, ltb, leb}
-use lib.ListN.{length, getD}
-use borrow.Author.Tests.{ltb-true, lt-ltb, le-leb, eqb-true, eqb-false, eq-eqb, not-true, not-false}
+use lib.Dec.{eqb, ltb}
+use lib.ListN.{length}
+use borrow.Author.Tests.{ltb-true, lt-ltb, le-leb, eqb-false, eq-eqb}
 use Rattle.scope_graph.specs.Language.{_∈_}
-use Rattle.scope_graph.proofs.Lists.{Two, and-left, and-right, and-both, true-false}
-use Rattle.graph_rows.specs.Format.{state, scope, mark, count, letter, label, end, name, kind, plain, turn, byte, field, valuesOf, everyItem, apart, sectionAt, shapeAt, shapesOf, edgeShape, hasTurns, edges, sections, labelSection, pairSection, edgeSection, mostScopes}
-use Rattle.graph_rows.specs.Admission.{Row, value, place, listed, repeats, sameSource, sameEdge, inRange, itemInRange, contentInRange, keyLess}
+use Rattle.scope_graph.proofs.Lists.{Two, and-left, and-right, true-false}
+use Rattle.graph_rows.specs.Format.{letter, label, valuesOf, everyItem, sectionAt, shapeAt, shapesOf, edgeShape, hasTurns, edges, sections, labelSection, edgeSection}
+use Rattle.graph_rows.specs.Admission.{Row, value, place, listed, repeats, sameSource, sameEdge, inRange, itemInRange, contentInRange}
 use Rattle.graph_rows.specs.Values.{formed, itemFormed, fieldFormed, sparesPlace, idleZero, idleZeros}
 use Rattle.graph_rows.specs.Tested.{formIn}
 use Rattle.graph_rows.specs.Decode.{rowsIn, lettersOf, scopesOf}
-use Rattle.graph_rows.specs.Formed.{scopesIn, FormedRow, FormedTable, MayJoin}
+use Rattle.graph_rows.specs.Formed.{scopesIn, FormedRow}
 use Rattle.graph_rows.proofs.AdmissionLaws.{listed-place}
 use Rattle.graph_rows.proofs.LookBackLaws.{repeats-none, none-repeated}
 use Rattle.graph_change.specs.declared.place.Place.the-variants.{There, Free}
 use Rattle.graph_change.specs.Place.{sameKey, placeIn}
 use Rattle.graph_change.specs.Changed.{inserted, withRow}
-use Rattle.graph_change.specs.Promises.{Ascending, NoneLike, ChangedAt, scopesAt}
+use Rattle.graph_change.specs.Promises.{NoneLike, ChangedAt, scopesAt}
 use Rattle.graph_change.proofs.FormedLaws.{formed-put, formed-found}
 use Rattle.graph_change.proofs.RowLaws.{inserted-is}
 use Rattle.dot_text.specs.Grammar.{DrawnEdge}

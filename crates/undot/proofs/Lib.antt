@@ -8,4 +8,6 @@ pub mod ScopeLaws
 pub mod FileLaws
 pub mod ScopesRight
 pub mod EdgesRight
+pub mod Spelling
 pub mod Promises
+pub mod Back

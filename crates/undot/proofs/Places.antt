@@ -1,26 +1,22 @@
 -- Where the sections of a formed table stand: how many labels it has, and how many scopes. Assumes
 -- nothing.
-use Prim.Native.Nat.{ℕ, zero, suc, _+_, _-_, _*_, _/_, _≤_, _<_}
-use mathlib.Core.Path.{_≡_, refl, sym, ap, subst, _∙_}
+use Prim.Native.Nat.{ℕ, suc, _+_, _-_, _*_, _/_, _≤_, _<_}
+use mathlib.Core.Path.{_≡_, refl, sym, ap, _∙_}
 use mathlib.Core.List.{List, [], _∷_, _++_}
-use mathlib.Core.Bool.{Bool}
-use mathlib.Core.Logic.{inl, inr, ⊎-elim}
 use native.Mathlib.Omega.{arith}
 use lib.Dec.{ltb}
 use lib.ListN.{length, getD, drop, length-append, length-map, length-drop}
 use lib.Seq.{drop-at, getD-drop}
 use borrow.Author.Tests.{lt-ltb, le-ltb}
-use Rattle.scope_graph.specs.Language.{_∈_}
 use Rattle.scope_graph.proofs.Lists.{here, there}
-use Rattle.graph_rows.specs.Format.{labels, pairs, transitions, accepts, scopeCount, edges, declarations, openPairs, queries, sections, sectionAt, labelSection, countSection}
+use Rattle.graph_rows.specs.Format.{scopeCount, sections, sectionAt, labelSection, countSection}
 use Rattle.graph_rows.specs.Admission.{Row, value, blank}
 use Rattle.graph_rows.specs.Tested.{formIn}
 use Rattle.graph_rows.specs.Decode.{rowsIn, lettersOf, scopesOf}
 use Rattle.graph_rows.specs.Formed.{cellsOf, cellsFrom, tableOf, FormedTable}
-use Rattle.graph_table.specs.Sections.{leading, startOf}
-use Rattle.graph_change.specs.Place.{leadingRows}
+use Rattle.graph_table.specs.Sections.{startOf}
 use Rattle.graph_change.proofs.Leading.{leading-is}
-use Rattle.graph_change.proofs.SectionLaws.{Five, sections-add, Front, front-from, front-stops, pass-sections}
+use Rattle.graph_change.proofs.SectionLaws.{Five, sections-add, front-from, front-stops, pass-sections}
 
 pub cells-size : (k : ℕ) (rows : List Row) → Five rows → length (cellsOf k rows) ≡ 6 * length rows
 unfolding cellsOf

@@ -1,8 +1,8 @@
 -- The promises of a drawing put into a file. Assumes nothing.
-use Prim.Native.Nat.{ℕ, zero, suc, _+_, _≤_, _<_}
+use Prim.Native.Nat.{ℕ, _≤_, _<_}
 use mathlib.Core.Path.{_≡_, refl, sym, ap, subst, _∙_}
-use mathlib.Core.List.{List, [], _∷_, _++_, map, append-assoc}
-use mathlib.Core.Bool.{Bool, true, false, not}
+use mathlib.Core.List.{List, [], _∷_, _++_, append-assoc}
+use mathlib.Core.Bool.{true, false}
 use mathlib.Core.Logic.{_⊎_, inl, inr, ⊎-elim}
 use native.Mathlib.Omega.{arith}
 use lib.ListN.{length}
@@ -13,7 +13,7 @@ use Rattle.text_field.specs.Outcome.{Outcome, refused, done, andThen, refuseIf}
 use Rattle.text_field.specs.Answer.{answer}
 use Rattle.text_field.proofs.OutcomeLaws.{done-same, not-done}
 use Rattle.graph_rows.specs.Format.{sectionAt, sections, edges, shapeAt, shapesOf, hasTurns, labelSection, edgeSection, textBytes}
-use Rattle.graph_rows.specs.Admission.{Row, value, place, sameEdge, keyLess}
+use Rattle.graph_rows.specs.Admission.{Row, place, sameEdge, keyLess}
 use Rattle.graph_rows.specs.Tested.{formIn}
 use Rattle.graph_rows.specs.Decode.{rowsIn, lettersOf, scopesOf}
 use Rattle.graph_rows.specs.Formed.{scopesIn, FormedRow, FormedSection, FormedTable}
@@ -28,12 +28,12 @@ use Rattle.dot_text.proofs.Answers.{then-none, then-some}
 use Rattle.dot_text.proofs.GrammarLaws.{drawn-read}
 use Rattle.dot_text.proofs.Promises.{eighteen}
 use Rattle.undot.specs.Scopes.{fileScopes}
-use Rattle.undot.specs.Edges.{edgeRow, edgeKnown, rowsWith}
+use Rattle.undot.specs.Edges.{edgeRow, rowsWith}
 use Rattle.undot.specs.Undrawn.{withEdges, drawnRows, undrawnText, undrawnBy, undotOf}
-use Rattle.undot.specs.Promises.{SameScopes, Unknown, Fault, past, unknown, again, Faultless, FaultlessAfter, AllFaultless, FirstFault, Refusals, PutOut, Taken, IsPutOut}
+use Rattle.undot.specs.Promises.{SameScopes, Fault, past, unknown, again, Faultless, FaultlessAfter, AllFaultless, FirstFault, Refusals, PutOut, Taken, IsPutOut}
 use Rattle.undot.proofs.Places.{labels-are}
 use Rattle.undot.proofs.Tables.{accepted, not-labels, not-count, not-pairs}
-use Rattle.undot.proofs.Joining.{Known, known-is, edge-formed, key-edge}
+use Rattle.undot.proofs.Joining.{known-is, edge-formed, key-edge}
 use Rattle.undot.proofs.ScopesRight.{file-same, same-file}
 use Rattle.undot.proofs.EdgesRight.{Rows, no-rows, rows-turn, Went, Stopped, result, fault-told, not-both}
 

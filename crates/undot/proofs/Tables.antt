@@ -1,28 +1,25 @@
 -- A formed table with other edge rows. Assumes nothing.
-use Prim.Native.Nat.{ℕ, zero, suc, _+_, _*_, _≤_, _<_}
-use mathlib.Core.Path.{_≡_, refl, sym, ap, subst, _∙_}
-use mathlib.Core.List.{List, [], _∷_, _++_, map, List·Memᴰ·not-nil}
-use mathlib.Core.Bool.{Bool, true, false}
-use mathlib.Core.Logic.{_⊎_, inl, inr, ⊎-elim}
+use Prim.Native.Nat.{ℕ, _≤_, _<_}
+use mathlib.Core.Path.{_≡_, refl, sym, ap, _∙_}
+use mathlib.Core.List.{List, [], _∷_, map, List·Memᴰ·not-nil}
+use mathlib.Core.Logic.{⊎-elim}
 use native.Mathlib.Omega.{arith}
 use lib.Dec.{eqb}
-use lib.ListN.{length, getD, take, drop}
+use lib.ListN.{length, getD, drop}
 use borrow.Author.Tests.{eqb-true, eqb-false, eq-eqb, ne-eqb}
-use Rattle.scope_graph.specs.Language.{_∈_}
 use Rattle.scope_graph.proofs.Lists.{Two}
-use Rattle.text_field.specs.Outcome.{done}
 use Rattle.graph_rows.specs.Format.{sectionAt, edges, sections, labelSection, pairSection, countSection, edgeSection, tableCells}
 use Rattle.graph_rows.specs.Admission.{Row, value, blank}
 use Rattle.graph_rows.specs.Tested.{formIn}
 use Rattle.graph_rows.specs.Accepted.{AcceptedTable}
 use Rattle.graph_rows.specs.Decode.{rowsIn, lettersOf, scopesOf, sectionPlace}
 use Rattle.graph_rows.specs.Table.{rowsAt, lettersAt}
-use Rattle.graph_rows.specs.Formed.{cellsOf, cellsFrom, tableOf, scopesIn, FormedRow, FormedSection, FormedTable, replaced}
-use Rattle.graph_file.specs.File.{WasRead, readCells, writeText}
+use Rattle.graph_rows.specs.Formed.{cellsOf, tableOf, FormedSection, FormedTable, replaced}
+use Rattle.graph_file.specs.File.{WasRead}
 use Rattle.graph_file.proofs.Promises.{read-formed, formed-written, written-accepted}
 use Rattle.graph_change.specs.Changed.{withRows}
 use Rattle.graph_change.specs.Promises.{ChangedAt, scopesAt}
-use Rattle.graph_change.proofs.SectionLaws.{Five, sections-same}
+use Rattle.graph_change.proofs.SectionLaws.{sections-same}
 use Rattle.graph_change.proofs.TableLaws.{rows-put}
 use Rattle.graph_change.proofs.FormedLaws.{formed-replaced}
 use Rattle.undot.specs.Undrawn.{withEdges}
@@ -56,7 +53,7 @@ unfolding replaced
 replaced-other k new rows j n = rw (ne-eqb j k n, replaced)
 
 -- whether a section is the edges', and then or else what holds of it
-by-section : {A : Type 0} (j : ℕ) → (j ≡ edgeSection → A) → (¬ (j ≡ edgeSection) → A) → A
+pub by-section : {A : Type 0} (j : ℕ) → (j ≡ edgeSection → A) → (¬ (j ≡ edgeSection) → A) → A
 by-section j f g = ⊎-elim (λ e. f (eqb-true j edgeSection e)) (λ e. g (eqb-false j edgeSection e)) (Two (eqb j edgeSection))
 
 pub read-table : (cells : List ℕ) → WasRead cells → FormedTable cells

@@ -1,4 +1,4 @@
-use mathlib.Core.Path.{sym, _∙_}
+use mathlib.Core.Path.{_∙_}
 use Rattle.dot_text.specs.Reading.{labelOpens}
 use Rattle.dot_text.specs.Answers.{restOf}
 use Rattle.dot_text.proofs.Answers.{then-none, then-some, rest-none, rest-from}

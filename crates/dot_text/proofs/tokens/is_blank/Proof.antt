@@ -1,6 +1,5 @@
 use Rattle.dot_text.proofs.tokens.is_blank.Statement.{statement}
 use Rattle.dot_text.proofs.tokens.is_blank.Tie as tie
-use mathlib.Core.Path.{refl}
 use borrow.Author.Tests.{eq-eqb, ne-eqb}
 use Rattle.dot_text.specs.Tokens.{isBlank}
 

@@ -1,7 +1,6 @@
-use borrow.Author.Tests.{not-false, eqb-true}
 -- `past_bytes` meets its contract: the bytes left over the text from here on are all bytes over the
 -- text from the start on. Assumes nothing.
-use mathlib.Core.Path.{_≡_, refl, sym, _∙_}
+use mathlib.Core.Path.{_≡_, refl, _∙_}
 use Prim.Native.Nat.{_-_}
 use native.Mathlib.Omega.{arith}
 use lib.ListN.{length, drop}

@@ -1,6 +1,5 @@
-use mathlib.Core.Path.{_≡_, ap, sym, _∙_}
-use Rattle.dot_text.specs.Tokens.{closeBrace}
-use Rattle.dot_text.specs.Reading.{fixedNext, isEmpty, endsAfter, endsNext}
+use mathlib.Core.Path.{ap, sym, _∙_}
+use Rattle.dot_text.specs.Reading.{isEmpty, endsAfter, endsNext}
 use Rattle.dot_text.proofs.Answers.{rest-none, rest-from}
 use Rattle.dot_text.proofs.Steps.{empty-drop}
 use borrow.Author.Needs.{needs}

@@ -1,4 +1,3 @@
-use mathlib.Core.Path.{_∙_}
 use native.Mathlib.Omega.{arith}
 use Rattle.undot.proofs.FileLaws.{read-some, labels-counted}
 use borrow.Author.Needs.{needs}

@@ -1,13 +1,12 @@
 -- `has_scopes` meets its contract: what is left of the scopes gives the whole. Assumes nothing.
 use borrow.Author.Needs.{needs}
-use mathlib.Core.Path.{_≡_}
 use native.Mathlib.Omega.{arith}
 use lib.ListN.{length, drop, length-drop}
 use Rattle.dot_text.specs.Reading.{scopesNext}
 use Rattle.dot_text.proofs.Answers.{number-none, number-some}
 use Rattle.dot_text.proofs.StatementLaws.{scope-shrinks}
 use Rattle.undot.specs.Scopes.{fileScopes}
-use Rattle.undot.proofs.ScopeLaws.{Meeting, meeting-first, meeting-done, meeting-past, meeting-inside, meeting-again, meeting-on}
+use Rattle.undot.proofs.ScopeLaws.{Meeting, meeting-first, meeting-done, meeting-past, meeting-again, meeting-on}
 use Rattle.undot.proofs.scopes.has_scopes.Statement.{statement}
 use Rattle.undot.proofs.scopes.has_scopes.Tie as tie
 
