@@ -70,7 +70,7 @@ fn label(text: &[u8], at: usize) -> LetterRead
 }
 
 // The arrow of an edge, and the scope that it leads to.
-fn target(text: &[u8], at: usize) -> NumberRead
+fn leads_to(text: &[u8], at: usize) -> NumberRead
     ensures answer { λ r. ⌜ numberOf r (now (text .entry)) ≡ targetNext (drop at (now (text .entry))) ⌝ }
 {
     let Rest::From(to) = fixed(text, at, b"->") else {
@@ -86,7 +86,7 @@ pub fn edge(text: &[u8], at: usize) -> EdgeRead
     let NumberRead::Number(from, arrow) = number(text, at) else {
         return EdgeRead::NoEdge;
     };
-    let NumberRead::Number(to, end) = target(text, arrow) else {
+    let NumberRead::Number(to, end) = leads_to(text, arrow) else {
         return EdgeRead::NoEdge;
     };
     let LetterRead::Letter(x, next) = label(text, end) else {

@@ -19,8 +19,8 @@ returns : tie.Need-returns
 unfolding edgeNext edgeOf
 returns c = then-none 18 _ _ (number-none (c .before .before .before .before .args .text .now) _ _ (c .before .before .number .ensures) (c .enum-told .given .1))
 
-target-requires : tie.Need-target-requires
-target-requires c κs = search needs
+leads-to-requires : tie.Need-leads-to-requires
+leads-to-requires c κs = search needs
 
 enum-known-to : tie.Need-enum-known-to
 enum-known-to c = search needs
@@ -30,7 +30,7 @@ enum-told-2 c = search needs
 
 returns-2 : tie.Need-returns-2
 unfolding edgeNext edgeOf
-returns-2 c = then-none 18 _ _ (number-none (c .before .before .before .before .before .before .before .before .args .text .now) _ _ (c .before .before .target .ensures) (c .enum-told2 .given .1)) ∙ then-some _ _ _ (number-some (c .before .before .before .before .before .before .before .before .args .text .now) _ _ (c .before .before .before .before .before .before .number .ensures) _ _ (c .before .before .before .before .from .given .1))
+returns-2 c = then-none 18 _ _ (number-none (c .before .before .before .before .before .before .before .before .args .text .now) _ _ (c .before .before .leads-to .ensures) (c .enum-told2 .given .1)) ∙ then-some _ _ _ (number-some (c .before .before .before .before .before .before .before .before .args .text .now) _ _ (c .before .before .before .before .before .before .number .ensures) _ _ (c .before .before .before .before .from .given .1))
 
 label-requires : tie.Need-label-requires
 label-requires c κs = search needs
@@ -43,11 +43,11 @@ enum-told-3 c = search needs
 
 returns-3 : tie.Need-returns-3
 unfolding edgeNext edgeOf
-returns-3 c = then-none 18 _ _ (letter-none (c .before .before .before .before .before .before .before .before .before .before .before .before .args .text .now) _ _ (c .before .before .label .ensures) (c .enum-told3 .given .1)) ∙ then-some _ _ _ (number-some (c .before .before .before .before .before .before .before .before .before .before .before .before .args .text .now) _ _ (c .before .before .before .before .before .before .target .ensures) _ _ (c .before .before .before .before .to .given .1)) ∙ then-some _ _ _ (number-some (c .before .before .before .before .before .before .before .before .before .before .before .before .args .text .now) _ _ (c .before .before .before .before .before .before .before .before .before .before .number .ensures) _ _ (c .before .before .before .before .before .before .before .before .from .given .1))
+returns-3 c = then-none 18 _ _ (letter-none (c .before .before .before .before .before .before .before .before .before .before .before .before .args .text .now) _ _ (c .before .before .label .ensures) (c .enum-told3 .given .1)) ∙ then-some _ _ _ (number-some (c .before .before .before .before .before .before .before .before .before .before .before .before .args .text .now) _ _ (c .before .before .before .before .before .before .leads-to .ensures) _ _ (c .before .before .before .before .to .given .1)) ∙ then-some _ _ _ (number-some (c .before .before .before .before .before .before .before .before .before .before .before .before .args .text .now) _ _ (c .before .before .before .before .before .before .before .before .before .before .number .ensures) _ _ (c .before .before .before .before .before .before .before .before .from .given .1))
 
 returns-4 : tie.Need-returns-4
 unfolding edgeNext edgeOf
-returns-4 c = then-some _ _ _ (letter-some (c .before .before .before .before .before .before .before .before .before .before .before .before .before .args .text .now) _ _ (c .before .before .before .label .ensures) _ _ (c .before .x .given .1)) ∙ then-some _ _ _ (number-some (c .before .before .before .before .before .before .before .before .before .before .before .before .before .args .text .now) _ _ (c .before .before .before .before .before .before .before .target .ensures) _ _ (c .before .before .before .before .before .to .given .1)) ∙ then-some _ _ _ (number-some (c .before .before .before .before .before .before .before .before .before .before .before .before .before .args .text .now) _ _ (c .before .before .before .before .before .before .before .before .before .before .before .number .ensures) _ _ (c .before .before .before .before .before .before .before .before .before .from .given .1))
+returns-4 c = then-some _ _ _ (letter-some (c .before .before .before .before .before .before .before .before .before .before .before .before .before .args .text .now) _ _ (c .before .before .before .label .ensures) _ _ (c .before .x .given .1)) ∙ then-some _ _ _ (number-some (c .before .before .before .before .before .before .before .before .before .before .before .before .before .args .text .now) _ _ (c .before .before .before .before .before .before .before .leads-to .ensures) _ _ (c .before .before .before .before .before .to .given .1)) ∙ then-some _ _ _ (number-some (c .before .before .before .before .before .before .before .before .before .before .before .before .before .args .text .now) _ _ (c .before .before .before .before .before .before .before .before .before .before .before .number .ensures) _ _ (c .before .before .before .before .before .before .before .before .before .from .given .1))
 
 pub edge-spec : {M : Type 1} → statement M
 edge-spec =
@@ -57,7 +57,7 @@ edge-spec =
     enum-known-from
     enum-told
     returns
-    target-requires
+    leads-to-requires
     enum-known-to
     enum-told-2
     returns-2
