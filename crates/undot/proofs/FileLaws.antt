@@ -4,7 +4,7 @@ use mathlib.Core.Path.{_≡_, refl, sym, ap, subst, _∙_}
 use mathlib.Core.List.{List, [], _∷_, List·Memᴰ·not-nil}
 use mathlib.Core.Bool.{Bool, true, false}
 use native.Mathlib.Omega.{arith}
-use lib.ListN.{length, getD, take, drop}
+use lib.ListN.{length, take, drop}
 use Rattle.scope_graph.specs.Language.{_∈_}
 use Rattle.text_field.specs.declared.answer.Answer.{Answer}
 use Rattle.text_field.specs.declared.answer.Answer.the-variants.{Refused, Written}
@@ -30,7 +30,7 @@ use Rattle.undot.specs.Scopes.{fileScopes}
 use Rattle.undot.specs.Edges.{rowsWith}
 use Rattle.undot.specs.Undrawn.{withEdges, drawnRows, undrawnText, undrawnBy}
 use Rattle.undot.specs.Rows.{Ready, withoutEdges, edgesPut, edgesText}
-use Rattle.undot.proofs.Places.{label-count, scope-count, some-cell}
+use Rattle.undot.proofs.Places.{label-count, some-cell}
 use Rattle.undot.proofs.Tables.{read-table, accepted, size-most, with-again, letters-stay, scopes-stay, none-left}
 use Rattle.undot.proofs.Putting.{changed-read}
 
@@ -57,16 +57,6 @@ module _ (cells : List ℕ) (was : WasRead cells) where
     where
       few : (r - 1) / 6 ≡ length (lettersOf cells) → (r - 1) / 6 ≤ 8
       few c = let most = accepted cells formed .labels in omega arith
-
-  module _ (r : ℕ) (e : r ≡ 1 + leading 0 4 (drop 1 cells)) where
-    count-start : r ≡ startOf 4 cells
-    count-start = e ∙ start-at 4 cells read-some
-
-    pub count-whole : r + 6 ≤ length cells
-    count-whole = let c = scope-count cells formed .0 in let s = count-start in omega arith
-
-    pub scopes-counted : getD cells (r + 1) 0 ≡ scopesOf cells
-    scopes-counted = ap (λ (n : ℕ). getD cells (n + 1) 0) count-start ∙ scope-count cells formed .1
 
   pub scopes-few : (n : ℕ) → n ≡ scopesOf cells → n ≤ 64
   scopes-few n e = let most = accepted cells formed .scopes-most in omega arith

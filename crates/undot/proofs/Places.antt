@@ -1,18 +1,16 @@
--- Where the sections of a formed table stand: how many labels it has, and how many scopes. Assumes
--- nothing.
-use Prim.Native.Nat.{ℕ, suc, _+_, _-_, _*_, _/_, _≤_, _<_}
-use mathlib.Core.Path.{_≡_, refl, sym, ap, _∙_}
+-- Where the sections of a formed table stand, and how many labels it has. Assumes nothing.
+use Prim.Native.Nat.{ℕ, suc, _-_, _*_, _/_, _≤_, _<_}
+use mathlib.Core.Path.{_≡_, refl, ap, _∙_}
 use mathlib.Core.List.{List, [], _∷_, _++_}
 use native.Mathlib.Omega.{arith}
 use lib.Dec.{ltb}
-use lib.ListN.{length, getD, drop, length-append, length-map, length-drop}
-use lib.Seq.{drop-at, getD-drop}
+use lib.ListN.{length, getD, length-append, length-map}
 use borrow.Author.Tests.{lt-ltb, le-ltb}
 use Rattle.scope_graph.proofs.Lists.{here, there}
-use Rattle.graph_rows.specs.Format.{scopeCount, sections, sectionAt, labelSection, countSection}
-use Rattle.graph_rows.specs.Admission.{Row, value, blank}
+use Rattle.graph_rows.specs.Format.{labelSection}
+use Rattle.graph_rows.specs.Admission.{Row, value}
 use Rattle.graph_rows.specs.Tested.{formIn}
-use Rattle.graph_rows.specs.Decode.{rowsIn, lettersOf, scopesOf}
+use Rattle.graph_rows.specs.Decode.{rowsIn, lettersOf}
 use Rattle.graph_rows.specs.Formed.{cellsOf, cellsFrom, tableOf, FormedTable}
 use Rattle.graph_table.specs.Sections.{startOf}
 use Rattle.graph_change.proofs.Leading.{leading-is}
@@ -48,11 +46,6 @@ module _ (cells : List ℕ) (t : FormedTable cells) where
       let s = front-stops (λ (c : List ℕ). ltb (getD c 0 0) k) k (cellsFrom (9 - k) k rows) f (λ s a l. le-ltb s k a) in
       ap (startOf k) (parted k h) ∙ omega arith
 
-  section-on : (k : ℕ) → k < 9 → drop (startOf k cells) cells ≡ cellsFrom (9 - k) k rows
-  section-on k h =
-      ap (drop (startOf k cells)) (parted k h)
-      ∙ drop-at (formIn cells ∷ cellsFrom k 0 rows) (cellsFrom (9 - k) k rows) (startOf k cells) (sym (start-is k h))
-
   -- labels
   pub labels-are : length (lettersOf cells) ≡ length (rowsIn labelSection cells)
   unfolding lettersOf
@@ -66,27 +59,6 @@ module _ (cells : List ℕ) (t : FormedTable cells) where
       let l = labels-are in
       let a = length-append (cellsOf 0 (rows 0)) [] in
       omega arith
-
-  -- scopes: the one row of the count
-  count-first : (all : List Row) → 1 ≤ length all → Five all → (rest : List ℕ) (s : List ℕ) → s ≡ cellsOf countSection all ++ rest
-      → (6 ≤ length s) × (getD s 1 0 ≡ value (getD all 0 blank) 0)
-  unfolding cellsOf
-  count-first [] some f rest s e = absurd (omega arith)
-  count-first ([] ∷ all) some f rest s e = absurd (let z = f [] here in omega arith)
-  count-first ((v ∷ row) ∷ all) some f rest s e =
-      let z = f (v ∷ row) here in
-      let a = length-append row (cellsOf countSection all) in
-      let b = length-append (row ++ cellsOf countSection all) rest in
-      (rw e (omega arith), rw e)
-
-  pub scope-count : (startOf 4 cells + 6 ≤ length cells) × (getD cells (startOf 4 cells + 1) 0 ≡ scopesOf cells)
-  unfolding cellsFrom scopesOf sectionAt sections scopeCount
-  scope-count =
-      let some = t .rows .sections countSection (omega arith) .least in
-      let c = count-first (rows 4) some (five 4 (omega arith)) (cellsFrom 4 5 rows) (drop (startOf 4 cells) cells) (section-on 4 (omega arith)) in
-      let d = c .0 in
-      let l = length-drop (startOf 4 cells) cells in
-      (omega arith, sym (getD-drop (startOf 4 cells) cells 1 0) ∙ c .1)
 
   pub some-cell : 1 ≤ length cells
   unfolding tableOf

@@ -2,18 +2,17 @@
 // before all is tested.
 use crate::edges::put_edges;
 use crate::scopes::has_scopes;
+use board::scope_count;
 use dot_text::DrawingRead;
 use dot_text::drawing;
 use graph_change::replace;
 use graph_file::OWN_CELLS;
 use graph_file::read_over;
 use graph_file::write;
-use graph_table::COUNT;
 use graph_table::EDGES;
 use graph_table::PAIRS;
 use graph_table::ROW;
 use graph_table::SECTION;
-use graph_table::first_value;
 use graph_table::rows_from;
 use text_field::Answer;
 ghost use mathlib.Core.Path.{_≡_};
@@ -21,7 +20,7 @@ ghost use Prim.Native.Nat.{_≤_};
 ghost use lib.ListN.{length, take, drop};
 ghost use Rattle.text_field.specs.Answer.{answer, leaves, answerOf};
 ghost use Rattle.graph_rows.specs.Format.{tableCells};
-ghost use Rattle.graph_rows.specs.Decode.{lettersOf, scopesOf};
+ghost use Rattle.graph_rows.specs.Decode.{lettersOf};
 ghost use Rattle.graph_file.specs.File.{WasRead};
 ghost use Rattle.graph_file.specs.Reader.{TextRoom};
 ghost use Rattle.dot_text.specs.Reading.{edgesNext};
@@ -39,14 +38,6 @@ fn label_count(table: &[u64]) -> u32
     ensures answer { λ r. ⌜ r ≡ length (lettersOf (now (table .entry))) ⌝ }
 {
     ((rows_from(table, SECTION, PAIRS as u64, 1) - 1) / ROW) as u32
-}
-
-// How many scopes it has.
-fn scope_count(table: &[u64]) -> u64
-    requires read { ⌜ WasRead (now table) ⌝ }
-    ensures answer { λ r. ⌜ r ≡ scopesOf (now (table .entry)) ⌝ }
-{
-    first_value(table, rows_from(table, SECTION, COUNT as u64, 1))
 }
 
 // Takes the edges out of a table that was read: how many cells are left.
