@@ -1,4 +1,5 @@
--- The grammar of a drawing (02, K14): which texts draw what. Assumes nothing: these are definitions.
+-- The grammar of a drawing (02, K14): which texts draw what. Assumes nothing: these are
+-- definitions.
 use Prim.Native.Nat.{ℕ}
 use mathlib.Core.Path.{_≡_}
 use mathlib.Core.Bool.{true}

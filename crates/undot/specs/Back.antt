@@ -1,5 +1,5 @@
--- A file's own drawing put back into it (02, K14, with K12 for turns). These are the statements; their
--- values are in proofs/Back.antt. Assumes nothing: these are definitions.
+-- A file's own drawing put back into it (02, K14, with K12 for turns). These are the statements;
+-- their values are in proofs/Back.antt. Assumes nothing: these are definitions.
 use Prim.Native.Nat.{ℕ, _<_}
 use mathlib.Core.Path.{_≡_}
 use mathlib.Core.Bool.{false}

@@ -76,8 +76,8 @@ pub record Refusals : Type 0 where
       → (n ≡ 9) × (room < textBytes)
 
 -- What is put out, for a file that is read as `cells` and a drawing of these edges: it is read as a
--- table whose edge rows are those of the edges drawn, ascending; its form and all other rows are the
--- file's.
+-- table whose edge rows are those of the edges drawn, ascending; its form and all other rows are
+-- the file's.
 pub record PutOut (cells : List ℕ) (edges : List DrawnEdge) (out : List ℕ) : Type 0 where
   pub after : List ℕ
   pub read : readCells out ≡ done after

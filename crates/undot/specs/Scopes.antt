@@ -1,5 +1,5 @@
--- The scopes of a drawing that is put into a file (02, K14): the file's, each once. Assumes nothing:
--- these are definitions.
+-- The scopes of a drawing that is put into a file (02, K14): the file's, each once. Assumes
+-- nothing: these are definitions.
 use Prim.Native.Nat.{ℕ}
 use mathlib.Core.Bool.{Bool, not, _&&_}
 use mathlib.Core.List.{List, [], _∷_}

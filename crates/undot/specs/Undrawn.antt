@@ -19,8 +19,8 @@ use Rattle.undot.specs.Edges.{rowsWith}
 unfoldable pub withEdges : List ℕ → List Row → List ℕ
 withEdges cells rows = withRows edgeSection (cellsOf edgeSection rows) cells
 
--- The rows of what is drawn, in the file of a table: 19 unless its scopes are the file's, each once;
--- then the edges by 5, 3 and 4.
+-- The rows of what is drawn, in the file of a table: 19 unless its scopes are the file's, each
+-- once; then the edges by 5, 3 and 4.
 unfoldable pub drawnRows : List ℕ → Drawing → Outcome (List Row)
 drawnRows cells d =
     refuseIf (not (fileScopes (scopesOf cells) (d .scopes))) 19

@@ -1,4 +1,5 @@
--- `undot_over` meets its contract: the text's refusal, or what is made of its table. Assumes nothing.
+-- `undot_over` meets its contract: the text's refusal, or what is made of its table. Assumes
+-- nothing.
 use native.Mathlib.Omega.{arith}
 use Rattle.text_field.specs.Answer.{answerOf}
 use Rattle.graph_file.proofs.TableLaws.{over-refused, over-written, made-read, refused-then, made-then}

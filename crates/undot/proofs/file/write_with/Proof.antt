@@ -1,4 +1,5 @@
--- `write_with` meets its contract: the edges are put into the table without its own. Assumes nothing.
+-- `write_with` meets its contract: the edges are put into the table without its own. Assumes
+-- nothing.
 use mathlib.Core.Path.{sym}
 use native.Mathlib.Omega.{arith}
 use lib.Seq.{length-take-le}
