@@ -33,7 +33,8 @@ use Rattle.graph_table.proofs.Parts.{rows-count, rows-next, rows-none, row-at, 
 use Rattle.graph_table.proofs.Tests.{below-or}
 use Rattle.board.proofs.Capitals.{capitals}
 use Rattle.board.proofs.Queries.{getD-in, accepted, sound, rows-are}
-use Rattle.dot.specs.Drawing.{DrawnEdge, droppedIf, openLine, edgeLine, closeLine, drawnEdge, drawnEdges, drawingOf}
+use Rattle.dot_text.specs.Grammar.{DrawnEdge}
+use Rattle.dot.specs.Drawing.{droppedIf, openLine, edgeLine, closeLine, drawnEdge, drawnEdges, drawingOf}
 use Rattle.dot.specs.Promises.{InFile}
 use Rattle.dot.specs.Rows.{letterByte, drawnBy, edgeLines}
 use Rattle.dot.proofs.Texts.{scopeLines, whole-puts, below-length, Narrow, drawing-short}

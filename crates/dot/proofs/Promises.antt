@@ -25,7 +25,8 @@ use Rattle.graph_table.proofs.Tests.{below-or}
 use Rattle.graph_file.specs.File.{readCells}
 use Rattle.board.specs.Example.{exampleText}
 use Rattle.board.proofs.Example.{exampleCells, example-read}
-use Rattle.dot.specs.Drawing.{droppedLine, droppedIf, openLine, scopeLine, edgeLine, closeLine, drawingText, drawnEdge, drawnEdges, drawingOf, dotOf}
+use Rattle.dot_text.specs.Tokens.{comment}
+use Rattle.dot.specs.Drawing.{droppedIf, openLine, scopeLine, edgeLine, closeLine, drawingText, drawnEdge, drawnEdges, drawingOf, dotOf}
 use Rattle.dot.specs.Promises.{Begins, Turned, TurnsTold, Refusals, Longest, InFile, EdgesInFile, exampleDrawing, ExampleDrawn, Promises}
 use Rattle.dot.proofs.Found.{row-in-file, drawing-most}
 
@@ -62,14 +63,14 @@ module _ (cells : List ℕ) where
   unfolding drawingOf drawingText afterHead
   by-head = refl
 
-  begins : otherTurns cells ≡ true → Begins droppedLine (drawingOf cells)
+  begins : otherTurns cells ≡ true → Begins comment (drawingOf cells)
   unfolding droppedIf
   begins h = (openLine ++ afterHead, by-head ∙ rw h)
 
-  begins-not : otherTurns cells ≡ false → Begins droppedLine (drawingOf cells) → ⊥
-  unfolding droppedIf droppedLine openLine
+  begins-not : otherTurns cells ≡ false → Begins comment (drawingOf cells) → ⊥
+  unfolding droppedIf openLine
   begins-not h b =
-      let e : openLine ++ afterHead ≡ droppedLine ++ b .0 = sym (by-head ∙ rw h) ∙ b .1 in
+      let e : openLine ++ afterHead ≡ comment ++ b .0 = sym (by-head ∙ rw h) ∙ b .1 in
       let first : _≡_ {A = ℕ} 100 47 = ap (λ (l : List ℕ). getD l 0 0) e in
       omega arith
 

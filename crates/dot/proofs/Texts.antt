@@ -18,13 +18,15 @@ use Rattle.graph_rows.proofs.RowLaws.{row-cells}
 use Rattle.graph_table.specs.declared.rows.EdgeRow.{EdgeRow}
 use Rattle.graph_table.specs.Values.{edgeRow}
 use Rattle.graph_table.proofs.Parts.{rows-next, rows-none}
-use Rattle.dot.specs.Drawing.{droppedLine, droppedIf, openLine, scopeLine, DrawnEdge, arrow, beforeLetter, afterLetter, edgeLine, closeLine, drawingText}
+use Rattle.dot_text.specs.Tokens.{comment}
+use Rattle.dot_text.specs.Grammar.{DrawnEdge}
+use Rattle.dot.specs.Drawing.{droppedIf, openLine, scopeLine, arrow, beforeLetter, afterLetter, edgeLine, closeLine, drawingText}
 use Rattle.dot.specs.Rows.{drawn, drawnBy, letterByte, edgeLines}
 
 -- the head
-pub head-dropped : (dropped : Bool) → dropped ≡ true → (b c d : Buf) → c ≡ puts b droppedLine → d ≡ puts c openLine → d ≡ puts b (droppedIf dropped ++ openLine)
+pub head-dropped : (dropped : Bool) → dropped ≡ true → (b c d : Buf) → c ≡ puts b comment → d ≡ puts c openLine → d ≡ puts b (droppedIf dropped ++ openLine)
 unfolding droppedIf
-head-dropped dropped e b c d f g = puts-then b c d droppedLine openLine f g ∙ ap (λ (t : Bool). puts b (droppedIf t ++ openLine)) (sym e)
+head-dropped dropped e b c d f g = puts-then b c d comment openLine f g ∙ ap (λ (t : Bool). puts b (droppedIf t ++ openLine)) (sym e)
 
 pub head-plain : (dropped : Bool) → dropped ≡ false → (b c : Buf) → c ≡ puts b openLine → c ≡ puts b (droppedIf dropped ++ openLine)
 unfolding droppedIf
@@ -150,7 +152,7 @@ edges-short (e ∷ l) h =
     omega arith
 
 dropped-short : (dropped : Bool) → length (droppedIf dropped) ≤ 17
-unfolding droppedIf droppedLine
+unfolding droppedIf
 dropped-short true = omega arith
 dropped-short false = omega arith
 

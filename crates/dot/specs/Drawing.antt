@@ -12,13 +12,12 @@ use Rattle.graph_rows.specs.Admission.{Row, value}
 use Rattle.graph_rows.specs.Decode.{rowsIn, lettersOf, scopesOf}
 use Rattle.graph_rows.specs.Formed.{otherTurns}
 use Rattle.graph_file.specs.File.{readCells}
+use Rattle.dot_text.specs.Tokens.{comment}
+use Rattle.dot_text.specs.Grammar.{DrawnEdge}
 
 -- `// turns dropped`: the drawing shows no turns, and some of the graph's are not 0
-unfoldable pub droppedLine : List ℕ
-droppedLine = 47 ∷ 47 ∷ 32 ∷ 116 ∷ 117 ∷ 114 ∷ 110 ∷ 115 ∷ 32 ∷ 100 ∷ 114 ∷ 111 ∷ 112 ∷ 112 ∷ 101 ∷ 100 ∷ 10 ∷ []
-
 unfoldable pub droppedIf : Bool → List ℕ
-droppedIf true = droppedLine
+droppedIf true = comment
 droppedIf false = []
 
 -- `digraph scopes {`
@@ -28,13 +27,6 @@ openLine = 100 ∷ 105 ∷ 103 ∷ 114 ∷ 97 ∷ 112 ∷ 104 ∷ 32 ∷ 115 ∷
 -- a scope, as `4;`
 unfoldable pub scopeLine : ℕ → List ℕ
 scopeLine s = numberText s ++ (59 ∷ 10 ∷ [])
-
--- What a drawing shows of an edge: where it comes from, the byte of its label's letter, where it
--- leads.
-pub record DrawnEdge : Type 0 where
-  pub from : ℕ
-  pub letter : ℕ
-  pub to : ℕ
 
 -- ` -> ` between the scopes, and around the letter ` [label="` and `"];`
 abbrev pub arrow : List ℕ

@@ -14,7 +14,9 @@ use Rattle.text_field.specs.Answer.{answer}
 use Rattle.graph_rows.specs.Decode.{lettersOf, rulesOf, scopesOf, graphOf}
 use Rattle.graph_file.specs.File.{readCells}
 use Rattle.board.specs.Example.{exampleText}
-use Rattle.dot.specs.Drawing.{DrawnEdge, droppedLine, drawnEdges, drawingOf, dotOf}
+use Rattle.dot_text.specs.Tokens.{comment}
+use Rattle.dot_text.specs.Grammar.{DrawnEdge}
+use Rattle.dot.specs.Drawing.{drawnEdges, drawingOf, dotOf}
 
 -- the text begins with the line
 abbrev pub Begins : List ℕ → List ℕ → Type 0
@@ -28,7 +30,7 @@ pub record Turned (cells : List ℕ) : Type 0 where
 
 -- the line about turns stands first exactly if the drawing loses one
 abbrev pub TurnsTold : Type 0
-TurnsTold = (cells : List ℕ) → Begins droppedLine (drawingOf cells) ↔ Turned cells
+TurnsTold = (cells : List ℕ) → Begins comment (drawingOf cells) ↔ Turned cells
 
 -- Which refusals there are: a text's own by its number; a text that is read has its drawing, which
 -- nothing but 9 refuses, and exactly if the buffer is shorter than it.

@@ -6,7 +6,8 @@ use lib.ListN.{getD}
 use Rattle.graph_rows.specs.Admission.{Row, value}
 use Rattle.graph_table.specs.Sections.{rowsOf}
 use Rattle.graph_table.specs.declared.rows.EdgeRow.{EdgeRow}
-use Rattle.dot.specs.Drawing.{DrawnEdge, edgeLine}
+use Rattle.dot_text.specs.Grammar.{DrawnEdge}
+use Rattle.dot.specs.Drawing.{edgeLine}
 
 -- the byte of a label's letter, in the cells of the `label` rows: no file has more than eight
 unfoldable pub letterByte : List ℕ → ℕ → ℕ

@@ -42,7 +42,7 @@ use Rattle.undot.specs.Promises.{SameScopes, FaultlessAfter, PutOut}
 use Rattle.undot.specs.Back.{atZero, AtZero, TakesOwn, SameBytes}
 use Rattle.undot.proofs.Places.{labels-are}
 use Rattle.undot.proofs.Tables.{accepted, same-table, by-section}
-use Rattle.undot.proofs.Spelling.{taken, Fit, export-drawn}
+use Rattle.undot.proofs.Spelling.{Fit, export-drawn}
 use Rattle.undot.proofs.Promises as own
 
 -- each letter has its place
@@ -96,7 +96,7 @@ module _ (text cells : List ℕ) (read : readCells text ≡ done cells) where
 
   -- what is drawn of a row
   abbrev shown : Row → DrawnEdge
-  shown row = taken (export.drawnEdge letters row)
+  shown row = export.drawnEdge letters row
 
   in-file : (row : Row) → row ∈ rows → InFile cells (export.drawnEdge letters row)
   unfolding export.drawnEdges
@@ -109,12 +109,12 @@ module _ (text cells : List ℕ) (read : readCells text ≡ done cells) where
   unfolding lettersOf
   capital x m = let o = map-elim (λ (row : Row). value row 0) (rowsIn labelSection cells) m in subst (λ (z : ℕ). isCapital z ≡ true) (sym (o .2)) (capitals text cells read (o .0) (o .1))
 
-  drawing-is : Drawn (export.drawingOf cells) (record { scopes = numbersBelow (scopesOf cells); edges = map taken (export.drawnEdges cells) })
+  drawing-is : Drawn (export.drawingOf cells) (record { scopes = numbersBelow (scopesOf cells); edges = export.drawnEdges cells })
   unfolding export.drawingOf
   drawing-is = export-drawn (numbersBelow (scopesOf cells)) (export.drawnEdges cells)
       (λ n m. let z = numbers-elim (scopesOf cells) n m in let f = few-scopes in omega arith) fit (otherTurns cells)
     where
-      fit : (e : export.DrawnEdge) → e ∈ export.drawnEdges cells → Fit e
+      fit : (e : DrawnEdge) → e ∈ export.drawnEdges cells → Fit e
       fit e m =
           let i = told.promises .in-file text cells read e m in
           let f = few-scopes in
@@ -175,10 +175,6 @@ module _ (text cells : List ℕ) (read : readCells text ≡ done cells) where
             (faultless (above ++ (row ∷ [])) below (e ∙ sym (append-assoc above (row ∷ []) below))),
       )
 
-  shown-all : (l : List Row) → map taken (map (export.drawnEdge letters) l) ≡ map shown l
-  shown-all [] = refl
-  shown-all (row ∷ l) = ap (λ (z : List DrawnEdge). shown row ∷ z) (shown-all l)
-
   -- the drawing, as its text draws it
   abbrev drawing : Drawing
   drawing = record { scopes = numbersBelow (scopesOf cells); edges = map shown rows }
@@ -189,8 +185,7 @@ module _ (text cells : List ℕ) (read : readCells text ≡ done cells) where
       let w = went (readCells text) (λ c. done (export.drawingOf c)) dot e in
       let same : w .gained ≡ cells = done-same (w .gained) cells (sym (w .before) ∙ read) in
       let is : export.drawingOf cells ≡ dot = ap export.drawingOf (sym same) ∙ done-same (export.drawingOf (w .gained)) dot (w .after) in
-      subst (λ (z : List ℕ). Drawn z drawing) is
-      (subst (λ (z : List DrawnEdge). Drawn (export.drawingOf cells) (record { scopes = numbersBelow (scopesOf cells); edges = z })) (shown-all rows) drawing-is)
+      subst (λ (z : List ℕ). Drawn z drawing) is drawing-is
 
   module _ (dot : List ℕ) (e : export.dotOf text ≡ done dot) where
     put : (out : List ℕ) × (undotOf text dot ≡ done out)

@@ -1,5 +1,5 @@
 -- `put_head` meets its contract. Assumes nothing.
-use Rattle.dot.specs.Drawing.{droppedLine, openLine}
+use Rattle.dot.specs.Drawing.{openLine}
 use Rattle.dot.proofs.Texts.{head-dropped, head-plain}
 use borrow.Author.Needs.{needs}
 use Rattle.dot.proofs.lines.put_head.Statement.{statement}
@@ -21,7 +21,7 @@ same-length : tie.Need-same-length
 same-length c = search needs
 
 returns : tie.Need-returns
-unfolding droppedLine openLine
+unfolding openLine
 returns c = head-dropped _ (c .before .before .before .before .before .before .before .before .before .before .if1 .taken) _ _ _ (c .before .before .before .before .before .before .before .put-bytes .ensures) (c .before .before .put-bytes2 .ensures)
 
 slice-aggregate-put-bytes-3 : tie.Need-slice-aggregate-put-bytes-3
