@@ -71,6 +71,8 @@ static int refused_with(size_t length, const char *old, const char *new, uint64_
         && tewhoranu_readers(changed, length, 4, out, sizeof out) == number
         && tewhoranu_renumber(changed, length, out, sizeof out, list, sizeof list, &listed) == number
         && tewhoranu_back(changed, length, bytes("was"), 3, out, sizeof out) == number && listed == 7 && list[0] == 'x'
+        && tewhoranu_dot(changed, length, out, sizeof out) == number
+        && tewhoranu_undot(changed, length, bytes("}"), 1, out, sizeof out) == number
         && tewhoranu_compare(changed, length, bytes("1 2"), 3, bytes("1 2"), 3, steps, 1, others, 1) == number
         && tewhoranu_name_sought(changed, length, 0, &place) == 0 && place == 7 && out[0] == 'x';
 }
@@ -192,6 +194,28 @@ static int renumbers(const char *from, const char *to, const char *was)
 static uint64_t gone_back(size_t length, const char *was)
 {
     return tewhoranu_back(text, length, bytes(was), strlen(was), out, sizeof out);
+}
+
+/* A drawing put into a gym's text, in a buffer of so many bytes. */
+static uint64_t undrawn(const char *gym, size_t length, const char *drawing, size_t room)
+{
+    return tewhoranu_undot(bytes(gym), length, bytes(drawing), strlen(drawing), out, room);
+}
+
+/* Is this the drawing of a gym's text, and does the text come back from it, each in a buffer of its length, and 9 in one a byte less? */
+static int drawn_as(const char *gym, size_t length, const char *drawing)
+{
+    size_t size = strlen(drawing);
+
+    memset(out, 'x', size + 1);
+    if (tewhoranu_dot(bytes(gym), length, out, size - 1) != TEWHORANU_NO_ROOM || out[0] != 'x')
+        return 0;
+    if (tewhoranu_dot(bytes(gym), length, out, size) != TEWHORANU_DONE + size || memcmp(out, drawing, size) != 0 || out[size] != 'x')
+        return 0;
+    memset(out, 'x', length + 1);
+    if (undrawn(gym, length, drawing, length - 1) != TEWHORANU_NO_ROOM || out[0] != 'x')
+        return 0;
+    return undrawn(gym, length, drawing, length) == TEWHORANU_DONE + length && memcmp(out, gym, length) == 0 && out[length] == 'x';
 }
 
 /* Each refusal that the header has words for. */
@@ -375,6 +399,20 @@ int main(int argc, char **argv)
     EXPECT(tewhoranu_back(text, length, bytes("was\n"), 4, out, 0) == TEWHORANU_NO_LIST);
     EXPECT(gone_back(length - 1, "") == TEWHORANU_MALFORMED && gone_back(TEWHORANU_TEXT + 1, "") == TEWHORANU_TOO_LONG);
     EXPECT(out[0] == 'x');
+
+    /* the example's drawing and back; drawings that are refused; turns that are not drawn */
+    EXPECT(drawn_as((const char *)text, length, "digraph scopes {\n0;\n1;\n2;\n3;\n4;\n1 -> 0 [label=\"P\"];\n2 -> 4 [label=\"I\"];\n"
+                                                "2 -> 1 [label=\"P\"];\n3 -> 1 [label=\"P\"];\n}\n"));
+    EXPECT(drawn_as(old, strlen(old), "digraph scopes {\n0;\n}\n") && drawn_as(zeros, strlen(zeros), "digraph scopes {\n0;\n}\n"));
+    EXPECT(undrawn(old, strlen(old), "// turns dropped\n\tdigraph\nscopes{0 ;}", strlen(old)) == TEWHORANU_DONE + strlen(old));
+    out[0] = 'x';
+    EXPECT(undrawn(old, strlen(old), "", 0) == TEWHORANU_NO_DRAWING && undrawn(old, strlen(old), "digraph scopes{00;}", 0) == TEWHORANU_NO_DRAWING);
+    EXPECT(undrawn(old, strlen(old), "digraph scopes{}", 0) == TEWHORANU_OTHER_SCOPES);
+    EXPECT(undrawn(old, strlen(old), "digraph scopes{0;0->0[label=\"I\"];}", 0) == TEWHORANU_OUT_OF_RANGE);
+    EXPECT(undrawn(caught, strlen(caught), "digraph scopes{4;3;2;1;0;0->1[label=\"P\"];0->1[label=\"P\"];}", 0) == TEWHORANU_NOT_ASCENDING);
+    EXPECT(out[0] == 'x');
+    answer = tewhoranu_dot(bytes(turns), strlen(turns), out, sizeof out);
+    EXPECT(!tewhoranu_refused(answer) && memcmp(out, "// turns dropped\ndigraph scopes {\n", 34) == 0);
 
     /* the number beside a listing: a file with turns, and one with more beginnings than are told */
     EXPECT(!tewhoranu_refused(tewhoranu_listing_counted(bytes(turns), strlen(turns), 0, out, sizeof out, &place)) && place == 2);

@@ -1,5 +1,5 @@
 //! Calls one function of our library, or of the plain implementation, on a gym file, so many times over: bench/run counts the instructions of
-//! both. `library (ours|plain) (read|write|listing|listing_counted|summary|rules|readers|renumber|back) FILE TIMES`. Prints a sum over
+//! both. `library (ours|plain) (read|write|listing|listing_counted|summary|rules|readers|renumber|back|dot|undot) FILE TIMES`. Prints a sum over
 //! what was written, which must be the same on both sides.
 
 use plain::random::{expression, Rng};
@@ -79,6 +79,24 @@ fn back(ours: bool, text: &[u8], was: &[u8], out: &mut [u8]) -> usize {
     }
 }
 
+/// The file in the DOT language.
+fn dot(ours: bool, text: &[u8], out: &mut [u8]) -> usize {
+    if ours {
+        tewhoranu::dot(text, out).unwrap_or(0)
+    } else {
+        plain::answers::dot(text, out).unwrap_or(0)
+    }
+}
+
+/// The file with the edges of a DOT text.
+fn undot(ours: bool, text: &[u8], drawing: &[u8], out: &mut [u8]) -> usize {
+    if ours {
+        tewhoranu::undot(text, drawing, out).unwrap_or(0)
+    } else {
+        plain::answers::undot(text, drawing, out).unwrap_or(0)
+    }
+}
+
 /// How many expressions are drawn over a file's labels, from one seed.
 const EXPRESSIONS: usize = 100;
 
@@ -119,6 +137,7 @@ fn main() {
     let expressions = drawn(&text);
     let (numbered, was) = plain::renumbering::renumbered(&text).unwrap_or_default();
     let mut list = vec![0; tewhoranu::WAS];
+    let drawing = plain::dot::dot(&text).unwrap_or_default();
     let mut total: u64 = 0;
     for _ in 0..times {
         let of = match words[2].as_str() {
@@ -146,6 +165,14 @@ fn main() {
                 let n = readers(ours, &text, place, &mut out);
                 s.wrapping_add(sum(out[..n].iter().map(|&b| b.into())))
             }),
+            "dot" => {
+                let n = dot(ours, &text, &mut out);
+                sum(out[..n].iter().map(|&b| b.into()))
+            }
+            "undot" => {
+                let n = undot(ours, &text, &drawing, &mut out);
+                sum(out[..n].iter().map(|&b| b.into()))
+            }
             "rules" => rules(ours, &text, &expressions, &mut out),
             "renumber" => {
                 let (n, m) = renumber(ours, &text, &mut out, &mut list);

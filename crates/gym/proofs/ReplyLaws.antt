@@ -34,7 +34,7 @@ use Rattle.gym.specs.declared.words.Reply.{Reply}
 use Rattle.gym.specs.declared.words.Command.{Command}
 use Rattle.gym.specs.declared.replies.Stream.{Stream}
 use Rattle.gym.specs.Text.{bytes, spaces, padded}
-use Rattle.gym.specs.Words.{Asked, listWord, oldWord, newWord, judgeWord, compareWord, rulesWord, countWord, readersWord, renumberWord, wasWord, backWord, helpWord, lastWords, laterWords, words, asked}
+use Rattle.gym.specs.Words.{Asked, listWord, oldWord, newWord, judgeWord, compareWord, rulesWord, countWord, readersWord, renumberWord, wasWord, backWord, dotWord, undotWord, helpWord, lastWords, laterWords, words, asked}
 use Rattle.gym.specs.Said.{Said, spoken, replyRoom, lineOf, counted, standingName, whichName, comparisonName, judgeLine, compareLine, countLine, usageLine, usageText, answered, said}
 use Rattle.gym.specs.Handed.{Replied, replyMeaning, meaning}
 
@@ -119,7 +119,7 @@ unfolding puts
 counted-puts name n b c d e f g h = puts-then b c e name (numberText n ++ (10 ∷ [])) f (puts-then c d e (numberText n) (10 ∷ []) g h)
 
 pub usage-replied : (lent left : List ℕ) (size : ℕ) → _≡_ {A = Buf} (left, size) (puts (lent, 0) usageText) → Replied lent left size usageText
-unfolding usageText flatMap words usageLine padded spaces listWord oldWord newWord judgeWord compareWord rulesWord countWord readersWord renumberWord wasWord backWord helpWord lastWords laterWords
+unfolding usageText flatMap words usageLine padded spaces listWord oldWord newWord judgeWord compareWord rulesWord countWord readersWord renumberWord wasWord backWord dotWord undotWord helpWord lastWords laterWords
 usage-replied lent left size h = record { written = h; fits = omega arith }
 
 -- a reply by what was computed for it

@@ -13,11 +13,13 @@ use Rattle.ruled.specs.Ruled.{ruledOf}
 use Rattle.beginnings.specs.Beginnings.{countFor}
 use Rattle.readers.specs.Readers.{readersFor}
 use Rattle.renumbering.specs.Renumbering.{renumberOf, fileOf, listOf, backFor}
+use Rattle.dot.specs.Drawing.{dotOf}
+use Rattle.undot.specs.Undrawn.{undotOf}
 use Rattle.printing.specs.Printed.{inPlace, programText}
 use Rattle.gym.specs.declared.replies.Stream.{Stream}
 use Rattle.gym.specs.declared.replies.Stream.the-variants.{Out, Err}
 use Rattle.gym.specs.Text.{bytes, padded}
-use Rattle.gym.specs.Words.{Asked, list, old, new, judge, compare, rules, count, readers, renumber, was, back, help, usage, Word, words, asked}
+use Rattle.gym.specs.Words.{Asked, list, old, new, judge, compare, rules, count, readers, renumber, was, back, dot, undot, help, usage, Word, words, asked}
 
 -- the text, and the stream that gets it; the other one gets nothing
 pub record Said : Type 0 where
@@ -91,6 +93,8 @@ answered (readers i) text more = replied (readersFor text i)
 answered renumber text more = replied (fileOf (renumberOf text))
 answered was text more = replied (listOf (renumberOf text))
 answered back text more = replied (backFor text more)
+answered dot text more = replied (dotOf text)
+answered undot text more = replied (undotOf text more)
 answered help text more = spoken Out usageText
 answered usage text more = spoken Err usageText
 

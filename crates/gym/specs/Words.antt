@@ -23,6 +23,8 @@ pub data Asked : Type 0 where
   renumber : Asked
   was : Asked
   back : Asked
+  dot : Asked
+  undot : Asked
   help : Asked
   usage : Asked
 
@@ -65,6 +67,9 @@ readersAsked place = byQuery readers place
 -- FILE names a second file. Its bytes are handed over beside the input, and its name says nothing.
 unfoldable pub backAsked : List ℕ → Asked
 backAsked file = back
+
+unfoldable pub undotAsked : List ℕ → Asked
+undotAsked file = undot
 
 -- A word: its name, how its arguments are shown and what it does, for who does not know it, and what
 -- its arguments ask for.
@@ -154,13 +159,26 @@ backWord =
       asks = withOne backAsked;
     }
 
+-- the exchange with DOT (02, K14)
+unfoldable pub dotWord : Word
+dotWord = record { name = bytes "dot"; shown = bytes ""; does = bytes "the scopes and edges in the DOT language, for Graphviz"; asks = alone dot }
+
+unfoldable pub undotWord : Word
+undotWord =
+    record {
+      name = bytes "undot";
+      shown = bytes " FILE";
+      does = bytes "the file with the edges of the DOT text in FILE";
+      asks = withOne undotAsked;
+    }
+
 -- the usage text, as an answer and not as a complaint
 unfoldable pub helpWord : Word
 helpWord = record { name = bytes "help"; shown = bytes ""; does = bytes "this text"; asks = alone help }
 
 -- all words; a new one is added to the last ones
 unfoldable pub lastWords : List Word
-lastWords = renumberWord ∷ wasWord ∷ backWord ∷ helpWord ∷ []
+lastWords = renumberWord ∷ wasWord ∷ backWord ∷ dotWord ∷ undotWord ∷ helpWord ∷ []
 
 unfoldable pub laterWords : List Word
 laterWords = rulesWord ∷ countWord ∷ readersWord ∷ lastWords

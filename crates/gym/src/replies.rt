@@ -6,6 +6,7 @@ use comparison::Compared;
 use comparison::compare_text;
 use conversion::to_new;
 use conversion::to_old;
+use dot::dot;
 use judge::Judged;
 use judge::judge_text;
 use path_row::form::MOST_STEPS;
@@ -20,6 +21,7 @@ use ruled::rules;
 use text_field::put_byte;
 use text_field::put_bytes;
 use text_field::put_number;
+use undot::undot;
 ghost use mathlib.Core.Path.{_≡_};
 ghost use lib.ListN.{length};
 ghost use mathlib.Core.List.{[], _∷_, _++_};
@@ -32,6 +34,8 @@ ghost use Rattle.ruled.specs.Ruled.{ruledOf};
 ghost use Rattle.beginnings.specs.Counted.{countedOf};
 ghost use Rattle.readers.specs.Readers.{readersFor};
 ghost use Rattle.renumbering.specs.Renumbering.{renumberOf, fileOf, listOf, backFor};
+ghost use Rattle.dot.specs.Drawing.{dotOf};
+ghost use Rattle.undot.specs.Undrawn.{undotOf};
 ghost use Rattle.printing.specs.Printed.{inPlace};
 ghost use Rattle.gym.specs.Said.{replyRoom, lineOf, standingName, comparisonName, judgeLine, compareLine, countLine, usageText, answered};
 ghost use Rattle.gym.specs.Handed.{replyMeaning, Replied};
@@ -189,6 +193,24 @@ fn put_back<'s, 'o>(text: &'s [u8], was: &'s [u8], out: &'o mut [u8]) -> usize
     put_answer(out, a)
 }
 
+// The file in the DOT language, or its refusal.
+fn put_dot<'s, 'o>(text: &'s [u8], out: &'o mut [u8]) -> usize
+    requires room { ⌜ length (now out) ≡ replyRoom ⌝ }
+    ensures written { λ r. ⌜ Replied (now (out .entry)) (now (out .exit)) r (inPlace replyRoom (dotOf (now (text .entry)))) ⌝ }
+{
+    let a = dot(text, out);
+    put_answer(out, a)
+}
+
+// The file with the edges of a DOT text, or the refusal.
+fn put_undot<'s, 'o>(text: &'s [u8], drawn: &'s [u8], out: &'o mut [u8]) -> usize
+    requires room { ⌜ length (now out) ≡ replyRoom ⌝ }
+    ensures written { λ r. ⌜ Replied (now (out .entry)) (now (out .exit)) r (inPlace replyRoom (undotOf (now (text .entry)) (now (drawn .entry)))) ⌝ }
+{
+    let a = undot(text, drawn, out);
+    put_answer(out, a)
+}
+
 // The usage text: its first line, and one for each word.
 fn put_usage(out: &mut [u8]) -> usize
     ensures written { λ r. ⌜ Replied (now (out .entry)) (now (out .exit)) r usageText ⌝ }
@@ -208,6 +230,8 @@ fn put_usage(out: &mut [u8]) -> usize
   renumber          the file with its scopes numbered for storage, neighbours near each other
   was               the list of the numbers that the scopes had before that
   back FILE         the file with the old numbers again, by the list in FILE
+  dot               the scopes and edges in the DOT language, for Graphviz
+  undot FILE        the file with the edges of the DOT text in FILE
   help              this text
 ",
     )
@@ -294,6 +318,20 @@ pub fn put_reply<'s, 'o>(
         }
         Reply::Back => {
             let size = put_back(text, more, out);
+            Put {
+                on: Stream::Out,
+                size,
+            }
+        }
+        Reply::Dot => {
+            let size = put_dot(text, out);
+            Put {
+                on: Stream::Out,
+                size,
+            }
+        }
+        Reply::Undot => {
+            let size = put_undot(text, more, out);
             Put {
                 on: Stream::Out,
                 size,

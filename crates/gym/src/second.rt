@@ -24,6 +24,7 @@ pub fn has_second(c: Command) -> bool {
         Command::Listings => false,
         Command::One(q) => match q {
             Reply::Back => true,
+            Reply::Undot => true,
             _ => false,
         },
     }

@@ -9,7 +9,7 @@ ghost use Rattle.gym.specs.Handed.{arguments, handed, queried, meaning};
 
 // What is answered by one text. `Judge` and `Count` hold the query's number, `Readers` the
 // declaration's place; rows and the expression stay where they are, the judged row in the second
-// argument. `Back` has a second file, which its argument names.
+// argument. `Back` and `Undot` have a second file, which their argument names.
 pub enum Reply {
     Old,
     New,
@@ -21,6 +21,8 @@ pub enum Reply {
     Renumber,
     Was,
     Back,
+    Dot,
+    Undot,
     Help,
     Usage,
 }
@@ -138,6 +140,12 @@ fn last_command(count: usize, name: &[u8]) -> Command
     }
     if is_same(name, b"back") {
         return with_one(count, Command::One(Reply::Back));
+    }
+    if is_same(name, b"dot") {
+        return alone(count, Command::One(Reply::Dot));
+    }
+    if is_same(name, b"undot") {
+        return with_one(count, Command::One(Reply::Undot));
     }
     if is_same(name, b"help") {
         return alone(count, Command::One(Reply::Help));

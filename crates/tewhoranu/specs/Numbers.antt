@@ -16,7 +16,7 @@ abbrev pub interfaceVersion : ℕ
 interfaceVersion = 1
 
 -- A refusal is told by its number (01, "Who can cause a refusal"; 11, 02, K5; 12 and 13, K6; 14,
--- K9; 17, K13), any other answer by the number that is given for it.
+-- K9; 17, K13; 18 and 19, K14), any other answer by the number that is given for it.
 unfoldable pub told : {A : Type 0} → (A → ℕ) → Outcome A → ℕ
 told number (refused n) = n
 told number (done a) = number a

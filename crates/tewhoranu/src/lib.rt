@@ -11,6 +11,7 @@ use beginnings::listing_counted;
 use comparison::compare_text;
 use conversion::to_new;
 use conversion::to_old;
+use dot::dot;
 use graph_file::name_place;
 use graph_file::read;
 use graph_file::write;
@@ -24,6 +25,7 @@ use renumbering::renumber;
 use resolution::listing;
 use resolution::summary;
 use ruled::rules;
+use undot::undot;
 ghost use mathlib.Core.Path.{_≡_};
 ghost use lib.ListN.{length};
 ghost use Rattle.graph_file.specs.File.{readCells, writeText};
@@ -40,6 +42,8 @@ ghost use Rattle.ruled.specs.Ruled.{ruledOf};
 ghost use Rattle.readers.specs.Readers.{readersFor};
 ghost use Rattle.renumbering.specs.Renumbering.{renumberOf, roomFor, sizesOf, fileOf, listOf, backFor};
 ghost use Rattle.renumbering.specs.Alone.{fileSize};
+ghost use Rattle.dot.specs.Drawing.{dotOf};
+ghost use Rattle.undot.specs.Undrawn.{undotOf};
 ghost use Rattle.tewhoranu.specs.Numbers.{interfaceVersion, written, compared, judged, placeLeft, listedLeft};
 
 // The number that include/tewhoranu.h has as TEWHORANU_VERSION. It goes up when a function gets other
@@ -243,4 +247,22 @@ pub extern "C" fn tewhoranu_back(text: &[u8], was: &[u8], out: &mut [u8]) -> u64
     ensures memory { λ _. ⌜ now (out .exit) ≡ leaves (backFor (now (text .entry)) (now (was .entry))) (now (out .entry)) ⌝ }
 {
     written_number(back(text, was, out))
+}
+
+// The scopes and edges of a gym file's text in the DOT language, written into the lent buffer.
+#[no_mangle]
+pub extern "C" fn tewhoranu_dot(text: &[u8], out: &mut [u8]) -> u64
+    ensures answer { λ r. ⌜ r ≡ written (answer (dotOf (now (text .entry))) (length (now (out .entry)))) ⌝ }
+    ensures memory { λ _. ⌜ now (out .exit) ≡ leaves (dotOf (now (text .entry))) (now (out .entry)) ⌝ }
+{
+    written_number(dot(text, out))
+}
+
+// A gym file's text with the edges of a DOT text in place of its own, written into the lent buffer.
+#[no_mangle]
+pub extern "C" fn tewhoranu_undot(text: &[u8], drawn: &[u8], out: &mut [u8]) -> u64
+    ensures answer { λ r. ⌜ r ≡ written (answer (undotOf (now (text .entry)) (now (drawn .entry))) (length (now (out .entry)))) ⌝ }
+    ensures memory { λ _. ⌜ now (out .exit) ≡ leaves (undotOf (now (text .entry)) (now (drawn .entry))) (now (out .entry)) ⌝ }
+{
+    written_number(undot(text, drawn, out))
 }

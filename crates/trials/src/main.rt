@@ -5,6 +5,7 @@ mod answered;
 mod changes;
 mod converted;
 mod counted;
+mod drawn;
 mod edges;
 mod files;
 mod input;
@@ -39,6 +40,7 @@ fn text_case(kind: u8, text: &[u8], number: usize, room: usize) {
         b'd' => seen::seeing(text, number, room),
         b'b' => counted::counting(text, number),
         b'f' => counted::followed(text, number, room),
+        b'g' => drawn::drawing(text, room),
         b'e' => edges::finding(text, number),
         b'o' => converted::converting(Form::Old, text, room),
         b'k' => converted::converting(Form::Kinds, text, room),
@@ -59,6 +61,7 @@ fn case(h: Head, body: &[u8]) {
     match kind {
         b'p' => rows::apart(first, room),
         b'c' => rows::comparing(text, first, bytes(body, middle, body.len()), number, room),
+        b'h' => drawn::taking(text, bytes(body, middle, body.len()), room),
         b'j' => judged::judging(text, number, first, room),
         b'x' => ruled_files::ruling(text, first, room),
         b'v' => numbered::going_back(text, first, room),

@@ -55,6 +55,15 @@ mod c {
             out: *mut u8,
             out_length: usize,
         ) -> u64;
+        pub fn tewhoranu_dot(text: *const u8, text_length: usize, out: *mut u8, out_length: usize) -> u64;
+        pub fn tewhoranu_undot(
+            text: *const u8,
+            text_length: usize,
+            dot: *const u8,
+            dot_length: usize,
+            out: *mut u8,
+            out_length: usize,
+        ) -> u64;
         pub fn tewhoranu_rules(
             text: *const u8,
             text_length: usize,
@@ -208,4 +217,16 @@ pub fn tewhoranu_renumber(text: &[u8], out: &mut [u8], list: &mut [u8], listed: 
 pub fn tewhoranu_back(text: &[u8], was: &[u8], out: &mut [u8]) -> u64 {
     // SAFETY: as said above.
     unsafe { c::tewhoranu_back(text.as_ptr(), text.len(), was.as_ptr(), was.len(), out.as_mut_ptr(), out.len()) }
+}
+
+pub fn tewhoranu_dot(text: &[u8], out: &mut [u8]) -> u64 {
+    // SAFETY: as said above.
+    unsafe { c::tewhoranu_dot(text.as_ptr(), text.len(), out.as_mut_ptr(), out.len()) }
+}
+
+pub fn tewhoranu_undot(text: &[u8], dot: &[u8], out: &mut [u8]) -> u64 {
+    // SAFETY: as said above.
+    unsafe {
+        c::tewhoranu_undot(text.as_ptr(), text.len(), dot.as_ptr(), dot.len(), out.as_mut_ptr(), out.len())
+    }
 }

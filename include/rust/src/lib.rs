@@ -60,6 +60,8 @@ pub const SUMMARY: usize = 64;
 pub const READERS: usize = 195;
 /// Bytes that serve every `was` list.
 pub const WAS: usize = 196;
+/// Bytes that serve every drawing.
+pub const DRAWING: usize = 11_556;
 /// Bytes that the program lends for a listing.
 pub const LISTING: usize = 65_536;
 /// The number of lawful beginnings where there are so many or more.
@@ -91,13 +93,15 @@ pub enum Refusal {
     TooManyStates,
     NoOldForm,
     NoList,
+    NoDrawing,
+    OtherScopes,
     /// A number that these declarations do not know: the library is of another version.
     Unknown(u64),
 }
 
 impl Refusal {
     /// Those that have a name here, with their numbers.
-    const NAMED: [(Refusal, u64); 14] = [
+    const NAMED: [(Refusal, u64); 16] = [
         (Refusal::TooLong, 1),
         (Refusal::Malformed, 2),
         (Refusal::OutOfRange, 3),
@@ -112,6 +116,8 @@ impl Refusal {
         (Refusal::TooManyStates, 13),
         (Refusal::NoOldForm, 14),
         (Refusal::NoList, 17),
+        (Refusal::NoDrawing, 18),
+        (Refusal::OtherScopes, 19),
     ];
 
     /// The refusal of a number.
@@ -151,6 +157,8 @@ impl fmt::Display for Refusal {
             Refusal::TooManyStates => "the smallest table for the expression has more than 16 states",
             Refusal::NoOldForm => "the old form has no kinds and no turns, and a kind is not v or a turn is not 0",
             Refusal::NoList => "the list is not of its form, or does not have each scope of the file once",
+            Refusal::NoDrawing => "the DOT text is outside the subset that is taken",
+            Refusal::OtherScopes => "the DOT text has not each scope of the file once and no other",
             Refusal::Unknown(_) => "no refusal that this header knows",
         })
     }
@@ -303,6 +311,20 @@ pub fn renumber(text: &[u8], out: &mut [u8], list: &mut [u8]) -> Result<(usize, 
 /// and answers how many bytes were written. What is no list with each scope of the file once is refused.
 pub fn back(text: &[u8], was: &[u8], out: &mut [u8]) -> Result<usize, Refusal> {
     written(library::tewhoranu_back(text, was, out))
+}
+
+/// Writes the scopes and edges of the file in the DOT language, for Graphviz, and answers how many
+/// bytes were written. Turns are not drawn: where one is not 0, the first line says so.
+pub fn dot(text: &[u8], out: &mut [u8]) -> Result<usize, Refusal> {
+    written(library::tewhoranu_dot(text, out))
+}
+
+/// Writes the file with the edges of a DOT text in the place of its own, each of turn 0 where the
+/// file has turns, and answers how many bytes were written. A DOT text outside the subset is
+/// refused, then one without the file's scopes, then its edges in their sequence: past 512, with a
+/// scope or label that the file lacks, or there before.
+pub fn undot(text: &[u8], dot: &[u8], out: &mut [u8]) -> Result<usize, Refusal> {
+    written(library::tewhoranu_undot(text, dot, out))
 }
 
 #[cfg(test)]

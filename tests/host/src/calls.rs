@@ -277,6 +277,7 @@ impl Test {
             self.listing(text, query);
             self.followed(text, query);
         }
+        self.drawings(text);
     }
 }
 

@@ -1,6 +1,7 @@
 //! Listing, judge and summary, a declaration's readers, a file in the other form, with the rules of
-//! an expression, and with other numbers for its scopes.
+//! an expression, with other numbers for its scopes, its drawing, and with the edges of a drawing.
 
+use crate::dot;
 use crate::gym::{
     in_form, push_end, push_name, push_number, with_rules, Form, Gym, Query, Refusal,
 };
@@ -227,6 +228,16 @@ pub fn renumber(text: &[u8], out: &mut [u8], list: &mut [u8]) -> Result<(usize, 
 /// Writes a text with the numbers of a list for its scopes; answers the bytes written.
 pub fn back(text: &[u8], was: &[u8], out: &mut [u8]) -> Result<usize, Refusal> {
     put(&gone_back(text, was)?, out)
+}
+
+/// Writes a text's edges in the DOT language; answers the bytes written.
+pub fn dot(text: &[u8], out: &mut [u8]) -> Result<usize, Refusal> {
+    put(&dot::dot(text)?, out)
+}
+
+/// Writes a text with the edges of a DOT text in place of its own; answers the bytes written.
+pub fn undot(text: &[u8], drawn: &[u8], out: &mut [u8]) -> Result<usize, Refusal> {
+    put(&dot::undot(text, drawn)?, out)
 }
 
 pub fn judge_row(gym: &Gym, rules: &Rules, query: Query, row: &PathRow) -> Standing {

@@ -95,15 +95,18 @@ const SECTIONS: [Section; 9] = [
     },
 ];
 
+/// The most edges of a file.
+pub const EDGE_LIMIT: usize = SECTIONS[EDGES].limit;
+
 /// The edges of a file with turns.
 const TURNED: Section = Section {
     title: "from label turn to",
-    limit: 512,
+    limit: EDGE_LIMIT,
     fields: &[Scope, Label, Turn, Scope],
     key: 4,
 };
 
-const LABELS: usize = 0;
+pub const LABELS: usize = 0;
 const ORDER: usize = 1;
 const TRANSITIONS: usize = 2;
 const ACCEPTS: usize = 3;

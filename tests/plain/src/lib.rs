@@ -2,6 +2,8 @@
 //! the proved one, to measure and to test that one against. Nothing here is proved.
 
 pub mod answers;
+pub mod dot;
+pub mod drawings;
 pub mod enumerate;
 pub mod gym;
 pub mod path_row;

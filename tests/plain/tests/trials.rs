@@ -557,3 +557,42 @@ fn renumbering() {
     let (_, list) = renumber(&turned("2 I 1 4 / 2 I 2 3 / 2 P 0 1 / "), 1000, 200).unwrap();
     assert_eq!(list, "was\n2\n4\n3\n1\n0\n");
 }
+
+/// The exchange with DOT (02, K14).
+#[test]
+fn drawings() {
+    let drawn = |text: &str| {
+        let mut out = [0; 1000];
+        answers::dot(text.as_bytes(), &mut out)
+            .map(|len| String::from_utf8_lossy(&out[..len]).replace('\n', " / "))
+    };
+    let taken = |text: &str, drawn: &str| {
+        let mut out = [0; 1000];
+        answers::undot(text.as_bytes(), drawn.as_bytes(), &mut out)
+            .map(|len| String::from_utf8_lossy(&out[..len]).into_owned())
+    };
+    let text = lines(EXAMPLE);
+    let edges = "1 -> 0 [label=\"P\"]; / 2 -> 4 [label=\"I\"]; / 2 -> 1 [label=\"P\"]; / 3 -> 1 [label=\"P\"]; / ";
+    let due = format!("digraph scopes {{ / 0; / 1; / 2; / 3; / 4; / {edges}}} / ");
+    assert_eq!(drawn(&text), Ok(due.clone()));
+    assert_eq!(drawn(&text[1..]), Err(2));
+    assert_eq!(taken(&text, &lines(&due)), Ok(text.clone()));
+    // the later import is not drawn as such, and comes back at turn 0
+    let later = two_imports("2 I 1 4 / 2 I 2 3 / ", "", "");
+    let turned = drawn(&later).unwrap();
+    assert!(turned.starts_with("// turns dropped / digraph scopes { / "));
+    assert!(turned.contains("2 -> 4 [label=\"I\"]; / 2 -> 3 [label=\"I\"]; / "));
+    assert_eq!(
+        taken(&later, &lines(&turned)),
+        Ok(later.replace("2 I 1 4\n2 I 2 3\n", "2 I 0 3\n2 I 0 4\n"))
+    );
+    let with = |body: &str| taken(&text, &format!("digraph scopes{{{body}}}"));
+    let none = example("1 P 0 / 2 I 4 / 2 P 1 / 3 P 1 / ", "");
+    assert_eq!(with("4;3;2;1;0;"), Ok(none));
+    assert_eq!(with("0;1;2;3;04;"), Err(18));
+    assert_eq!(with("0;1;2;3;"), Err(19));
+    assert_eq!(with("0;1;2;3;4;0->5[label=\"P\"];"), Err(3));
+    let twice = "0->1[label=\"P\"];".repeat(2);
+    assert_eq!(with(&format!("0;1;2;3;4;{twice}")), Err(4));
+    assert_eq!(with(&format!("0;1;2;3;{twice}4;")), Err(18));
+}

@@ -13,6 +13,8 @@ them are its text, the next ROW its first path row, and the rest its second.
   l  the listing of query NUMBER of the text, in a lent buffer of ROOM bytes
   s  the summary of the text, in a lent buffer of ROOM bytes
   d  the scopes that read declaration NUMBER of the text, in a lent buffer of ROOM bytes
+  g  the text's edges in the DOT language, in a lent buffer of ROOM bytes, and that put into the text
+  h  the text with the edges of the DOT text that is the second row, in a lent buffer of ROOM bytes
   e  the text is cells in hexadecimal, edge rows: where the rows stand that leave scope NUMBER
   b  how many lawful beginnings query NUMBER of the text has
   f  the same beside the listing of query NUMBER of the text, in a lent buffer of ROOM bytes
@@ -29,7 +31,7 @@ them are its text, the next ROW its first path row, and the rest its second.
 """
 
 # the cases whose text is a gym file's, those of converting left out
-OF_FILES = b"rncjlsa"  # counts, readers and numbering, b, f, d, u and v, have large files of their own
+OF_FILES = b"rncjlsa"  # counts, readers, numbering and drawings, b, f, d, u, v, g and h, have large files of their own
 
 CASES = []
 TITLES = set()

@@ -281,6 +281,38 @@ fn counted(text: &[u8], query: usize) -> String {
     }
 }
 
+/// A file drawn, and the drawing put into that file.
+fn drawn(text: &[u8], room: usize) -> String {
+    let mut out = vec![b'#'; room];
+    match answers::dot(text, &mut out) {
+        Err(number) => format!("refused {number}, all {}\n", kept(&out, b'#')),
+        Ok(len) => {
+            let mut again = vec![0; text.len()];
+            let same =
+                answers::undot(text, &out[..len], &mut again) == Ok(text.len()) && again == text;
+            let (sum, rest) = (byte_sum(&out[..len]), kept(&out[len..], b'#'));
+            let short = if len <= 4096 { &out[..len] } else { &[] };
+            let shown = String::from_utf8_lossy(short);
+            format!(
+                "drawn {len} sum {sum}, rest {rest}, {}\n{shown}",
+                back(same)
+            )
+        }
+    }
+}
+
+/// A drawing put into a file.
+fn taken(text: &[u8], drawn: &[u8], room: usize) -> String {
+    let mut out = vec![b'#'; room];
+    match answers::undot(text, drawn, &mut out) {
+        Err(number) => format!("refused {number}, all {}\n", kept(&out, b'#')),
+        Ok(len) => {
+            let (sum, rest) = (byte_sum(&out[..len]), kept(&out[len..], b'#'));
+            format!("taken {len} sum {sum}, rest {rest}\n")
+        }
+    }
+}
+
 /// A query's listing, and the number beside it, which a refusal leaves as it was.
 fn followed(text: &[u8], query: usize, room: usize) -> String {
     let listed = shown("listed", room, |out| answers::listing(text, query, out));
@@ -350,6 +382,8 @@ fn main() -> io::Result<()> {
             "d" => shown("readers", room, |out| answers::readers(text, number, out)),
             "u" => renumber(text, room, number),
             "v" => shown("back", room, |out| answers::back(text, first, out)),
+            "g" => drawn(text, room),
+            "h" => taken(text, second, room),
             "a" => (0..number).map(listing).chain([summary()]).collect(),
             _ => "A KIND UNKNOWN HERE\n".to_string(),
         };

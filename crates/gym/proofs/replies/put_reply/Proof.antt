@@ -1,6 +1,6 @@
 -- `gym::replies::put_reply` puts each reply, for its stream. Assumes nothing.
 use borrow.Author.Needs.{needs}
-use Rattle.gym.specs.declared.words.Reply.the-variants.{Old, New, Judge, Compare, Rules, Count, Readers, Renumber, Was, Back, Help, Usage}
+use Rattle.gym.specs.declared.words.Reply.the-variants.{Old, New, Judge, Compare, Rules, Count, Readers, Renumber, Was, Back, Dot, Undot, Help, Usage}
 use Rattle.gym.specs.Said.{answered}
 use Rattle.gym.specs.Handed.{replyMeaning}
 use Rattle.gym.proofs.ReplyLaws.{reply-is}
@@ -70,11 +70,23 @@ put-back-requires c κs = search needs
 enum-told-8 : tie.Need-enum-told-8
 enum-told-8 c = search needs
 
-put-usage-requires : tie.Need-put-usage-requires
-put-usage-requires c κs = search needs
+put-dot-requires : tie.Need-put-dot-requires
+put-dot-requires c κs = search needs
 
 enum-told-9 : tie.Need-enum-told-9
 enum-told-9 c = search needs
+
+put-undot-requires : tie.Need-put-undot-requires
+put-undot-requires c κs = search needs
+
+enum-told-10 : tie.Need-enum-told-10
+enum-told-10 c = search needs
+
+put-usage-requires : tie.Need-put-usage-requires
+put-usage-requires c κs = search needs
+
+enum-told-11 : tie.Need-enum-told-11
+enum-told-11 c = search needs
 
 put-usage-requires-2 : tie.Need-put-usage-requires-2
 put-usage-requires-2 c κs = search needs
@@ -154,14 +166,28 @@ same-length-11 c = search needs
 
 returns-11 : tie.Need-returns-11
 unfolding answered replyMeaning
-returns-11 c = let a = c .before .before .before .before .before .before .before .before .before .before .before .args in reply-is _ _ _ (a .q) Help (a .first .now) (a .second .now) (a .text .now) (a .more .now) (c .before .before .before .before .enum-told8 .given .1) (c .before .before .put-usage .ensures)
+returns-11 c = let a = c .before .before .before .before .before .before .before .before .before .before .before .args in reply-is _ _ _ (a .q) Dot (a .first .now) (a .second .now) (a .text .now) (a .more .now) (c .before .before .before .before .enum-told8 .given .1) (c .before .before .put-dot .ensures)
 
 same-length-12 : tie.Need-same-length-12
 same-length-12 c = search needs
 
 returns-12 : tie.Need-returns-12
 unfolding answered replyMeaning
-returns-12 c = let a = c .before .before .before .before .before .before .before .before .before .before .before .args in reply-is _ _ _ (a .q) Usage (a .first .now) (a .second .now) (a .text .now) (a .more .now) (c .before .before .before .before .enum-told9 .given .1) (c .before .before .put-usage2 .ensures)
+returns-12 c = let a = c .before .before .before .before .before .before .before .before .before .before .before .args in reply-is _ _ _ (a .q) Undot (a .first .now) (a .second .now) (a .text .now) (a .more .now) (c .before .before .before .before .enum-told9 .given .1) (c .before .before .put-undot .ensures)
+
+same-length-13 : tie.Need-same-length-13
+same-length-13 c = search needs
+
+returns-13 : tie.Need-returns-13
+unfolding answered replyMeaning
+returns-13 c = let a = c .before .before .before .before .before .before .before .before .before .before .before .args in reply-is _ _ _ (a .q) Help (a .first .now) (a .second .now) (a .text .now) (a .more .now) (c .before .before .before .before .enum-told10 .given .1) (c .before .before .put-usage .ensures)
+
+same-length-14 : tie.Need-same-length-14
+same-length-14 c = search needs
+
+returns-14 : tie.Need-returns-14
+unfolding answered replyMeaning
+returns-14 c = let a = c .before .before .before .before .before .before .before .before .before .before .before .args in reply-is _ _ _ (a .q) Usage (a .first .now) (a .second .now) (a .text .now) (a .more .now) (c .before .before .before .before .enum-told11 .given .1) (c .before .before .put-usage2 .ensures)
 
 pub put-reply-spec : {M : Type 1} → statement M
 put-reply-spec =
@@ -188,8 +214,12 @@ put-reply-spec =
     enum-told-7
     put-back-requires
     enum-told-8
-    put-usage-requires
+    put-dot-requires
     enum-told-9
+    put-undot-requires
+    enum-told-10
+    put-usage-requires
+    enum-told-11
     put-usage-requires-2
     same-length
     returns
@@ -214,4 +244,8 @@ put-reply-spec =
     same-length-11
     returns-11
     same-length-12
-    returns-12)
+    returns-12
+    same-length-13
+    returns-13
+    same-length-14
+    returns-14)
