@@ -35,6 +35,12 @@ distinct-more (y ∷ l) x d h = (
   distinct-more l x (d .1) (λ m. h (there m)),
 )
 
+-- a number of a list of different numbers does not stand before itself
+pub distinct-apart : (l more : List ℕ) (x : ℕ) → Distinct (l ++ (x ∷ more)) → ¬ (x ∈ l)
+distinct-apart [] more x d m = List·Memᴰ·not-nil m
+distinct-apart (y ∷ l) more x d m =
+    ⊎-elim (λ e. d .0 (Memᴰ·append-right l (List·Memᴰ·head (sym e)))) (distinct-apart l more x (d .1)) (List·Memᴰ·cases-cons m)
+
 module _ (n : ℕ) where
   pub scopes-more : (l : List ℕ) (x : ℕ) → Scopes n l → x < n → isListed x l ≡ false → Scopes n (l ++ (x ∷ []))
   scopes-more l x s h e = record {

@@ -122,7 +122,11 @@ pub fn list_scopes(table: &[u64]) -> [u64; 64]
     ensures answer { λ r. ⌜ r ≡ inCells (wasList (now (table .entry))) ⌝ }
 {
     let mut list = [0u64; MOST];
-    let n = list_met(section_rows(table, EDGES), first_in(table, QUERIES), &mut list);
+    let n = list_met(
+        section_rows(table, EDGES),
+        first_in(table, QUERIES),
+        &mut list,
+    );
     list_unmet(&mut list, n, scope_count(table));
     list
 }
