@@ -1,6 +1,8 @@
 -- Proves specs/Promises. Assumes nothing.
 use Prim.Native.Nat.{ℕ, zero, suc, _≤_, _<_}
 use mathlib.Core.Path.{_≡_, refl, sym, ap, subst, _∙_}
+use mathlib.Core.Logic.{_↔_}
+use mathlib.Core.Option.{none}
 use mathlib.Core.List.{List, _∷_, map}
 use mathlib.Core.Bool.{false}
 use native.Mathlib.Omega.{arith}
@@ -8,6 +10,7 @@ use lib.ListN.{length, getD, length-map}
 use Rattle.scope_graph.specs.Language.{_∈_}
 use Rattle.scope_graph.specs.Rows.{Rules, language}
 use Rattle.scope_graph.specs.Graph.{Query}
+use Rattle.scope_graph.specs.Computed.{awaits}
 use Rattle.scope_graph.specs.Listing.{Accepted}
 use Rattle.scope_graph.specs.Renamed.{newNumber, oldNumber, SameElements, edgeUnder, declarationUnder, openUnder, queryUnder, Renumbers, Renamed, RenamedPromises}
 use Rattle.scope_graph.proofs.Renamed.{renamed-right}
@@ -119,7 +122,7 @@ module _ (was cells : List ℕ) (t : FormedTable cells) (o : EachOnce (scopesOf 
   unfolding scopesOf
   scopes-stay = ap (λ (rows : List Row). value (getD rows 0 blank) 0) (rows-stay countSection (omega arith))
 
-  still-formed : StillFormed was cells
+  still-formed : StillFormed cells (renumberedBy was cells)
   still-formed = record {
     formed = new-formed;
     form = form-is;
@@ -199,6 +202,15 @@ module _ (was cells : List ℕ) (t : FormedTable cells) (o : EachOnce (scopesOf 
       renamed-right .renamed (language r) f (oldNumber was) (graphIn r cells) (graphIn r (renumberedBy was cells)) (opensIn r cells) (opensIn r (renumberedBy was cells)) q
       (a .laws) (a .in-range) start (accepted .open-at) numbers new-graph new-opens
 
+  awaits-none : (q : Query (language r)) → q ∈ queriesIn r cells
+      → (awaits (language r) (graphIn r cells) q (opensIn r cells) ≡ none)
+      ↔ (awaits (language r) (graphIn r (renumberedBy was cells)) (queryUnder (language r) f q) (opensIn r (renumberedBy was cells)) ≡ none)
+  unfolding graphOf opensOf queriesOf
+  awaits-none q m =
+      let s = seen q m in
+      s .same-awaits (accepted .accepted q (accepted .starts q m))
+      (new-accepted (queryUnder (language r) f q) (numbers .new-below (q .start) (accepted .starts q m)))
+
 pub way-back-given : WayBackGiven
 way-back-given was cells t o =
     let n = scopesOf cells in
@@ -221,4 +233,5 @@ graph-given was cells t o = record {
   queries = new-queries was cells t o;
   accepted = new-accepted was cells t o;
   seen = seen was cells t o;
+  awaits-none = awaits-none was cells t o;
 }

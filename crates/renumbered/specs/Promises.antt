@@ -3,10 +3,13 @@
 -- Assumes nothing: these are definitions.
 use Prim.Native.Nat.{ℕ, _<_}
 use mathlib.Core.Path.{_≡_}
+use mathlib.Core.Logic.{_↔_}
+use mathlib.Core.Option.{none}
 use mathlib.Core.List.{List, map}
 use lib.ListN.{length}
 use Rattle.scope_graph.specs.Rows.{language}
 use Rattle.scope_graph.specs.Graph.{Query}
+use Rattle.scope_graph.specs.Computed.{awaits}
 use Rattle.scope_graph.specs.Listing.{Accepted}
 use Rattle.scope_graph.specs.Renamed.{newNumber, oldNumber, SameElements, openUnder, queryUnder, Renamed, RenamedPromises}
 use Rattle.scope_graph.specs.Language.{_∈_}
@@ -26,18 +29,18 @@ pub record WayBack (was cells : List ℕ) : Type 0 where
 
 -- The new table is formed, so it can be written (graph_file/specs/Promises). Its form, its labels,
 -- order, automaton and count of scopes are the same, and each section has as many rows.
-pub record StillFormed (was cells : List ℕ) : Type 0 where
-  pub formed : FormedTable (renumberedBy was cells)
-  pub form : formIn (renumberedBy was cells) ≡ formIn cells
-  pub size : length (renumberedBy was cells) ≡ length cells
-  pub rules : rulesOf (renumberedBy was cells) ≡ rulesOf cells
-  pub scopes : scopesOf (renumberedBy was cells) ≡ scopesOf cells
-  pub labels-stay : rowsIn labelSection (renumberedBy was cells) ≡ rowsIn labelSection cells
-  pub order-stays : rowsIn pairSection (renumberedBy was cells) ≡ rowsIn pairSection cells
-  pub transitions-stay : rowsIn transitionSection (renumberedBy was cells) ≡ rowsIn transitionSection cells
-  pub accepts-stay : rowsIn acceptSection (renumberedBy was cells) ≡ rowsIn acceptSection cells
-  pub count-stays : rowsIn countSection (renumberedBy was cells) ≡ rowsIn countSection cells
-  pub as-many : (k : ℕ) → k < 9 → length (rowsIn k (renumberedBy was cells)) ≡ length (rowsIn k cells)
+pub record StillFormed (cells after : List ℕ) : Type 0 where
+  pub formed : FormedTable after
+  pub form : formIn after ≡ formIn cells
+  pub size : length after ≡ length cells
+  pub rules : rulesOf after ≡ rulesOf cells
+  pub scopes : scopesOf after ≡ scopesOf cells
+  pub labels-stay : rowsIn labelSection after ≡ rowsIn labelSection cells
+  pub order-stays : rowsIn pairSection after ≡ rowsIn pairSection cells
+  pub transitions-stay : rowsIn transitionSection after ≡ rowsIn transitionSection cells
+  pub accepts-stay : rowsIn acceptSection after ≡ rowsIn acceptSection cells
+  pub count-stays : rowsIn countSection after ≡ rowsIn countSection cells
+  pub as-many : (k : ℕ) → k < 9 → length (rowsIn k after) ≡ length (rowsIn k cells)
 
 -- Read with the first table's rules, the new table is the first graph under the new numbers: its
 -- open pairs are those of the first one renumbered, and its queries too, in the same sequence.
@@ -55,12 +58,17 @@ pub record SameGraph (was cells : List ℕ) : Type 0 where
   pub seen : (q : Query (language (rulesOf cells))) → q ∈ queriesIn (rulesOf cells) cells
       → RenamedPromises (language (rulesOf cells)) (newNumber was) (oldNumber was) (graphIn (rulesOf cells) cells)
       (graphIn (rulesOf cells) (renumberedBy was cells)) (opensIn (rulesOf cells) cells) (opensIn (rulesOf cells) (renumberedBy was cells)) q
+  -- both tables are accepted, so `awaits` is `-` in both or in neither
+  pub awaits-none : (q : Query (language (rulesOf cells))) → q ∈ queriesIn (rulesOf cells) cells
+      → (awaits (language (rulesOf cells)) (graphIn (rulesOf cells) cells) q (opensIn (rulesOf cells) cells) ≡ none)
+      ↔ (awaits (language (rulesOf cells)) (graphIn (rulesOf cells) (renumberedBy was cells)) (queryUnder (language (rulesOf cells)) (newNumber was) q)
+      (opensIn (rulesOf cells) (renumberedBy was cells)) ≡ none)
 
 abbrev pub WayBackGiven : Type 0
 WayBackGiven = (was cells : List ℕ) → FormedTable cells → EachOnce (scopesOf cells) was → WayBack was cells
 
 abbrev pub FormedGiven : Type 0
-FormedGiven = (was cells : List ℕ) → FormedTable cells → EachOnce (scopesOf cells) was → StillFormed was cells
+FormedGiven = (was cells : List ℕ) → FormedTable cells → EachOnce (scopesOf cells) was → StillFormed cells (renumberedBy was cells)
 
 abbrev pub GraphGiven : Type 0
 GraphGiven = (was cells : List ℕ) → FormedTable cells → EachOnce (scopesOf cells) was → SameGraph was cells

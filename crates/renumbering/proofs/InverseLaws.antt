@@ -2,25 +2,20 @@
 use Prim.Native.Nat.{ℕ, zero, suc, _+_, _-_, _≤_, _<_}
 use mathlib.Core.Path.{_≡_, refl, sym, ap, _∙_}
 use mathlib.Core.Logic.{⊎-elim}
-use mathlib.Core.List.{List, [], _∷_, _++_}
+use mathlib.Core.List.{List, _++_}
 use native.Mathlib.Omega.{arith}
 use lib.Dec.{eqb}
 use lib.ListN.{length, getD, set, drop, replicate, length-set, length-append, length-drop, length-replicate, List·getD-append}
 use lib.Seq.{ext-getD, getD-set-same, getD-set-other, getD-append-add, getD-drop}
 use borrow.Author.Tests.{eqb-true, eqb-false}
-use Rattle.scope_graph.specs.Language.{_∈_}
 use Rattle.scope_graph.specs.Renamed.{newNumber, oldNumber, Renumbers}
-use Rattle.scope_graph.proofs.Lists.{Two, here, there}
+use Rattle.scope_graph.proofs.Lists.{Two}
 use Rattle.graph_rows.specs.Format.{mostScopes}
 use Rattle.graph_table.proofs.Tests.{below-or}
+use Rattle.board.proofs.Queries.{getD-in}
 use Rattle.renumbered.specs.Renumbered.{EachOnce, backOf}
 use Rattle.renumbered.proofs.BackList.{renumbers, back-length, back-once, back-old, back-twice}
 use Rattle.was.specs.Cells.{atFront, inCells}
-
-at-place : (xs : List ℕ) (i : ℕ) → i < length xs → getD xs i 0 ∈ xs
-at-place [] i h = absurd (omega arith)
-at-place (x ∷ xs) zero h = here
-at-place (x ∷ xs) (suc i) h = there (at-place xs i (omega arith))
 
 zero-at : (k i : ℕ) → _≡_ {A = ℕ} (getD (replicate k 0) i 0) 0
 zero-at zero i = refl
@@ -45,7 +40,7 @@ module _ (list cells : List ℕ) (i : ℕ) (once : EachOnce (length list) list) 
   r = renumbers (length list) list once
 
   pub number-below : getD list i 0 < length list
-  number-below = once .below (getD list i 0) (at-place list i h)
+  number-below = once .below (getD list i 0) (getD-in list i 0 h)
 
   pub filled-next : length list ≤ mostScopes → Filled list cells i → Filled list (set cells (getD list i 0) i) (i + 1)
   filled-next most so =

@@ -34,7 +34,7 @@ use Rattle.renumbering.proofs.Tables.{each-once, scopes-most, written}
 same-seen : (was cells : List ℕ) → FormedTable cells → EachOnce (scopesOf cells) was → SameSeen was cells (renumberedBy was cells)
 same-seen was cells t o =
     let g = graph-given was cells t o in
-    record { rules = formed-given was cells t o .rules; queries = g .queries; seen = g .seen }
+    record { stays = formed-given was cells t o; queries = g .queries; seen = g .seen; awaits-none = g .awaits-none }
 
 -- a text that was read
 module _ (text cells : List ℕ) (read : readCells text ≡ done cells) where

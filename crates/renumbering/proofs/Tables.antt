@@ -69,7 +69,7 @@ module _ (cells : List ℕ) (was : WasRead cells) where
 
   -- renumbered by a list
   module _ (list : List ℕ) (once : EachOnce (scopesOf cells) list) where
-    still : StillFormed list cells
+    still : StillFormed cells (renumberedBy list cells)
     still = formed-given list cells formed once
 
     pub written : (file : List ℕ) × (writeText (renumberedBy list cells) ≡ done file) × (readCells file ≡ done (renumberedBy list cells))

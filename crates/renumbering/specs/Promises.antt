@@ -3,11 +3,13 @@
 use Prim.Native.Nat.{ℕ, _<_}
 use mathlib.Core.Path.{_≡_}
 use mathlib.Core.Logic.{_⊎_, _↔_}
+use mathlib.Core.Option.{none}
 use mathlib.Core.List.{List, map}
 use lib.ListN.{length}
 use Rattle.scope_graph.specs.Language.{_∈_}
 use Rattle.scope_graph.specs.Graph.{Query}
 use Rattle.scope_graph.specs.Rows.{language}
+use Rattle.scope_graph.specs.Computed.{awaits}
 use Rattle.scope_graph.specs.Renamed.{newNumber, oldNumber, queryUnder, RenamedPromises}
 use Rattle.text_field.specs.Outcome.{refused, done}
 use Rattle.text_field.specs.Answer.{answer}
@@ -15,6 +17,7 @@ use Rattle.graph_rows.specs.Format.{textBytes}
 use Rattle.graph_rows.specs.Decode.{rulesOf, scopesOf, graphIn, opensIn, queriesIn}
 use Rattle.graph_file.specs.File.{readCells}
 use Rattle.renumbered.specs.Renumbered.{backOf}
+use Rattle.renumbered.specs.Promises.{StillFormed}
 use Rattle.was.specs.Order.{wasList}
 use Rattle.was.specs.WasText.{wasText}
 use Rattle.was.specs.Promises.{HoldsEach, ListRight}
@@ -30,16 +33,20 @@ Renumbered = (text cells : List ℕ) → readCells text ≡ done cells
 abbrev pub ThereAndBack : Type 0
 ThereAndBack = (text : List ℕ) (r : Renumbering) → renumberOf text ≡ done r → backFor (r .file) (r .list) ≡ done text
 
--- Two tables that see the same under a list: with the same rules the queries of the second are
--- those of the first under the new numbers, in the same sequence. Each sees the entries of its
--- counterpart, renumbered; both have one `found`, and neither is settled without the other
--- (`RenamedPromises`).
+-- Two tables that see the same under a list. The second has the form of the first, and all its rows
+-- that name no scope. Its queries are those of the first under the new numbers, in the same
+-- sequence. Each sees the entries of its counterpart, renumbered; both have one `found`, and
+-- neither is settled without the other (`RenamedPromises`), so `awaits` is `-` in both or in
+-- neither.
 pub record SameSeen (was cells after : List ℕ) : Type 0 where
-  pub rules : rulesOf after ≡ rulesOf cells
+  pub stays : StillFormed cells after
   pub queries : queriesIn (rulesOf cells) after ≡ map (queryUnder (language (rulesOf cells)) (newNumber was)) (queriesIn (rulesOf cells) cells)
   pub seen : (q : Query (language (rulesOf cells))) → q ∈ queriesIn (rulesOf cells) cells
       → RenamedPromises (language (rulesOf cells)) (newNumber was) (oldNumber was) (graphIn (rulesOf cells) cells) (graphIn (rulesOf cells) after)
       (opensIn (rulesOf cells) cells) (opensIn (rulesOf cells) after) q
+  pub awaits-none : (q : Query (language (rulesOf cells))) → q ∈ queriesIn (rulesOf cells) cells
+      → (awaits (language (rulesOf cells)) (graphIn (rulesOf cells) cells) q (opensIn (rulesOf cells) cells) ≡ none)
+      ↔ (awaits (language (rulesOf cells)) (graphIn (rulesOf cells) after) (queryUnder (language (rulesOf cells)) (newNumber was) q) (opensIn (rulesOf cells) after) ≡ none)
 
 -- so it is with a text and the file that it becomes
 abbrev pub StillSeen : Type 0

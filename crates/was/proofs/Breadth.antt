@@ -22,6 +22,7 @@ use Rattle.was.specs.Promises.{HoldsEach, ByMeetings}
 use Rattle.was.specs.Cells.{Scopes}
 use Rattle.was.proofs.Growing.{new-put, scopes-size, scopes-gathered, gathered-append, gathered-there, gathered-in, gathered-unmet}
 use Rattle.was.proofs.Meeting.{first-behind, first-at, met-append, listed-passed, scopes-step, met-scopes}
+use Rattle.was.proofs.InTurn.{tail-same, in-turn-met, met-listed}
 
 not-not : (b : Bool) → not b ≡ false → b ≡ true
 not-not true e = refl
@@ -120,12 +121,22 @@ module _ (after : ℕ → List ℕ) (start : ℕ) where
         by none e k = sym (grown-end l g e)
         by (some t) e k = k t e
 
-    pub at-first-meeting : start < mostScopes → metAll after start ≡ gathered (start ∷ []) (metFrom after (metAll after start))
-    unfolding metAll
-    at-first-meeting h = settles mostScopes (start ∷ []) (record {
+    alone : start < mostScopes → Scopes mostScopes (start ∷ [])
+    alone h = record {
       once = ((λ m. List·Memᴰ·not-nil m), tt);
       below = λ x m. let e = List·Memᴰ·eq-of-singleton m in omega arith;
-    }) grown-start (omega arith)
+    }
+
+    pub at-first-meeting : start < mostScopes → metAll after start ≡ gathered (start ∷ []) (metFrom after (metAll after start))
+    unfolding metAll
+    at-first-meeting h = settles mostScopes (start ∷ []) (alone h) grown-start (omega arith)
+
+    from-before : start < mostScopes → (before rest : List ℕ) (t : ℕ) → metAll after start ≡ (start ∷ before) ++ (t ∷ rest)
+        → t ∈ metFrom after (start ∷ before)
+    unfolding metAll
+    from-before h before rest t e =
+        let r = met-listed after below mostScopes (start ∷ []) (alone h) (omega arith) in
+        in-turn-met after (r .more) before rest (start ∷ []) t (r .in-turn) (tail-same start start (r .more) (before ++ (t ∷ rest)) (sym (r .is) ∙ e))
 
   module _ (n : ℕ) (most : n ≤ mostScopes) (below : (s t : ℕ) → t ∈ after s → t < n) (starts : start < n) where
     abbrev reached : List ℕ
@@ -148,5 +159,6 @@ module _ (after : ℕ → List ℕ) (start : ℕ) where
       others = unmet n reached;
       parts = refl;
       at-first-meeting = at-first-meeting (λ s t m. let b = below s t m in omega arith) (omega arith);
+      from-before = from-before (λ s t m. let b = below s t m in omega arith) (omega arith);
       ascend = keep-pairwise _<_ _ (numbersBelow n) (numbers-ascend n);
     }

@@ -15,6 +15,7 @@ use Rattle.scope_graph.specs.Listing.{Pairwise}
 use Rattle.scope_graph.proofs.Lists.{Two, here, there}
 use Rattle.scope_graph.proofs.Pigeon.{in-true, in-test, not-in, not-in-test, distinct-bounded}
 use Rattle.scope_graph.proofs.Readers.{numbers-ascend}
+use Rattle.search.proofs.RulesLists.{keep-same}
 use Rattle.was.specs.Order.{isListed, withNew, gathered, unmet}
 use Rattle.was.specs.Cells.{Scopes}
 
@@ -34,6 +35,12 @@ distinct-more (y ∷ l) x d h = (
   λ m. ⊎-elim (λ k. d .0 k) (λ k. h (List·Memᴰ·head (sym (List·Memᴰ·eq-of-singleton k)))) (List·Memᴰ·append-cases l m),
   distinct-more l x (d .1) (λ m. h (there m)),
 )
+
+-- a number of a list of different numbers does not stand before itself
+pub distinct-apart : (l more : List ℕ) (x : ℕ) → Distinct (l ++ (x ∷ more)) → ¬ (x ∈ l)
+distinct-apart [] more x d m = List·Memᴰ·not-nil m
+distinct-apart (y ∷ l) more x d m =
+    ⊎-elim (λ e. d .0 (Memᴰ·append-right l (List·Memᴰ·head (sym e)))) (distinct-apart l more x (d .1)) (List·Memᴰ·cases-cons m)
 
 module _ (n : ℕ) where
   pub scopes-more : (l : List ℕ) (x : ℕ) → Scopes n l → x < n → isListed x l ≡ false → Scopes n (l ++ (x ∷ []))
@@ -111,13 +118,6 @@ gathered-in (t ∷ ts) l x m =
     (λ k. gathered-in ts (withNew l t) x k) (List·Memᴰ·cases-cons m)
 
 -- numbers that are all different: those that are not listed are put after the listed ones
-keep-same : {A : Type 0} (f g : A → Bool) (l : List A) → ((a : A) → a ∈ l → f a ≡ g a) → keep f l ≡ keep g l
-unfolding keep
-keep-same f g [] h = refl
-keep-same {A} f g (x ∷ l) h =
-    let rest = keep-same f g l (λ a m. h a (there m)) in
-    λ i. elim (h x here i) as (λ _. List A) [ true ↦ x ∷ rest i | false ↦ rest i ]
-
 module _ {A : Type 0} (f : A → Bool) (x : A) (l : List A) where
   keep-yes : f x ≡ true → keep f (x ∷ l) ≡ x ∷ keep f l
   unfolding keep

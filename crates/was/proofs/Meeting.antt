@@ -23,7 +23,7 @@ unfolding firstOf
 first-behind f [] q h = refl
 first-behind f (x ∷ p) q h = rw (h x here, firstOf) (first-behind f p q (λ a m. h a (there m)))
 
-first-here : {A : Type 0} (f : A → Bool) (x : A) (q : List A) → f x ≡ true → firstOf f (x ∷ q) ≡ some x
+pub first-here : {A : Type 0} (f : A → Bool) (x : A) (q : List A) → f x ≡ true → firstOf f (x ∷ q) ≡ some x
 unfolding firstOf
 first-here f x q h = rw (h, firstOf)
 

@@ -15,6 +15,7 @@ use Rattle.was.proofs.Growing.{gathered-longer}
 use Rattle.was.proofs.WritingLaws.{text-short}
 use Rattle.was.proofs.Tables.{scopes-most, start-below, after-below}
 use Rattle.was.proofs.Breadth.{holds-size, breadth-holds, breadth-meets}
+use Rattle.was.proofs.OnlyOne.{only-one}
 use Rattle.was.proofs.Taken.{reads-right}
 use Rattle.was.proofs.Examples.{example-listed}
 
@@ -54,4 +55,4 @@ lists-right cells was = record {
 }
 
 pub promises : Promises
-promises = record { lists = lists-right; reads = reads-right; example = example-listed }
+promises = record { lists = lists-right; only-one = only-one; reads = reads-right; example = example-listed }

@@ -1,39 +1,17 @@
--- A section's part of a table, its first value, and the scopes that edge rows lead to. Assumes
--- nothing.
-use Prim.Native.Nat.{ℕ, suc, _+_, _-_, _≤_, _<_}
+-- The first value of a section's rows, and the scopes that edge rows lead to. Assumes nothing.
+use Prim.Native.Nat.{ℕ, _+_, _≤_, _<_}
 use mathlib.Core.Path.{_≡_, refl, sym, ap, _∙_}
 use mathlib.Core.List.{List, [], _∷_, map}
 use mathlib.Core.Logic.{⊎-elim}
 use native.Mathlib.Omega.{arith}
-use native.Mathlib.Numerals.{add-one}
-use lib.ListN.{length, getD, take, drop}
+use lib.ListN.{length, getD, drop}
 use Rattle.graph_rows.specs.Admission.{Row, value, blank}
-use Rattle.graph_table.specs.Sections.{leading, firstRow, startOf, partOf, rowsOf}
+use Rattle.graph_table.specs.Sections.{rowsOf}
 use Rattle.graph_table.specs.Rows.{rowHops, nextRow}
 use Rattle.graph_table.proofs.Tests.{below-or}
-use Rattle.graph_table.proofs.Leading.{start-first, start-next}
 use Rattle.graph_table.proofs.Parts.{row-at, row-past, value-cell}
 use Rattle.graph_table.proofs.Laws.{rows-none, rows-own, next-row}
 use Rattle.was.specs.Cells.{scopesBy}
-
-pub first-fits : (t : List ℕ) (p : ℕ) → p ≡ firstRow t → p ≤ length t
-unfolding firstRow
-first-fits [] p e = omega arith
-first-fits (x ∷ t) p e = omega arith
-
--- where section k starts, and the next one
-module _ (t : List ℕ) (k : ℕ) where
-  pub section-from : (p from : ℕ) → p ≡ firstRow t → from ≡ p + leading 0 k (drop p t) → from ≡ startOf k t
-  section-from p from e f = f ∙ ap (λ (q : ℕ). q + leading 0 k (drop q t)) e ∙ start-first k t
-
-  pub section-to : (from to : ℕ) → from ≡ startOf k t → to ≡ from + leading 0 (k + 1) (drop from t) → to ≡ startOf (suc k) t
-  section-to from to e f =
-      f ∙ ap (λ (q : ℕ). q + leading 0 (k + 1) (drop q t)) e ∙ ap (λ (j : ℕ). startOf k t + leading 0 j (drop (startOf k t) t)) (add-one k)
-      ∙ sym (start-next k (suc k) t (omega arith))
-
-  pub section-part : (from to : ℕ) → from ≡ startOf k t → to ≡ startOf (suc k) t → take (to - from) (drop from t) ≡ partOf k t
-  unfolding partOf
-  section-part from to e f = rw (e, f)
 
 -- the first value of rows, and of none
 pub first-none : (rows : List ℕ) → length rows < 6 → 0 ≡ value (getD (rowsOf rows) 0 blank) 0

@@ -2,8 +2,7 @@
 use Prim.Native.Nat.{ℕ, zero, suc, _+_, _≤_, _<_}
 use mathlib.Core.Path.{_≡_, refl, sym, ap, _∙_, subst}
 use mathlib.Core.Bool.{Bool, true, false, not, _||_}
-use mathlib.Core.Logic.{⊎-elim}
-use mathlib.Core.List.{List, [], _∷_, _++_, flatMap, append-assoc, append-nil, List·Memᴰ·head, List·Memᴰ·cases-cons, List·Memᴰ·not-nil, Memᴰ·append-right}
+use mathlib.Core.List.{List, [], _∷_, _++_, flatMap, append-assoc, append-nil, List·Memᴰ·not-nil, Memᴰ·append-right}
 use native.Mathlib.Omega.{arith}
 use lib.Dec.{eqb, leb}
 use lib.ListN.{length, drop, length-append}
@@ -17,7 +16,6 @@ use Rattle.text_field.specs.declared.NumberRead.the-variants.{Number, NoNumber}
 use Rattle.text_field.proofs.ByteLaws.{both}
 use Rattle.text_field.proofs.NumberLaws.{number-back, number-found}
 use Rattle.text_field.proofs.OutcomeLaws.{done-same, not-done, passed}
-use Rattle.scope_graph.specs.Language.{_∈_}
 use Rattle.scope_graph.specs.Path.{Distinct}
 use Rattle.scope_graph.proofs.Lists.{here}
 use Rattle.scope_graph.proofs.Pigeon.{not-in-test}
@@ -27,7 +25,7 @@ use Rattle.was.specs.Order.{isListed}
 use Rattle.was.specs.WasText.{wasLine, numberLine, wasText, beginsWith, endedBy, lineNumber, numbersAfter, readWas}
 use Rattle.was.specs.Promises.{HoldsEach, ReadsRight}
 use Rattle.was.specs.Cells.{Scopes}
-use Rattle.was.proofs.Growing.{scopes-more}
+use Rattle.was.proofs.Growing.{scopes-more, distinct-apart}
 use Rattle.was.proofs.ReadingLaws.{numbers-over, numbers-next}
 use Rattle.was.proofs.Breadth.{holds-scopes, holds-size, all-held}
 
@@ -136,13 +134,8 @@ module _ (n : ℕ) where
         scopes = r .scopes;
       }
 
-  -- a number of a list of different numbers is not above itself
   part-new : (listed more : List ℕ) (v : ℕ) → Distinct (listed ++ (v ∷ more)) → isListed v listed ≡ false
-  part-new listed more v d = not-in-test v listed (apart listed d)
-    where
-      apart : (l : List ℕ) → Distinct (l ++ (v ∷ more)) → ¬ (v ∈ l)
-      apart [] d m = List·Memᴰ·not-nil m
-      apart (x ∷ l) d m = ⊎-elim (λ e. d .0 (Memᴰ·append-right l (List·Memᴰ·head (sym e)))) (apart l (d .1)) (List·Memᴰ·cases-cons m)
+  part-new listed more v d = not-in-test v listed (distinct-apart listed more v d)
 
   numbers-back : (small : n ≤ mostScopes) (more listed : List ℕ) → Scopes n (listed ++ more)
       → numbersAfter n (length more) listed (flatMap numberLine more) ≡ done (listed ++ more)

@@ -75,20 +75,21 @@ pub record Missing (first : List ℕ) (n : ℕ) (cells : List ℕ) (k s : ℕ) :
   pub is : take k cells ≡ gathered (take n first) (numbersBelow s)
 
 module _ (first : List ℕ) (n : ℕ) where
-  pub missing-start : Begins first n → Missing first n first n 0
+  pub missing-start : (s : ℕ) → s ≡ 0 → Begins first n → Missing first n first n s
   unfolding numbersBelow gathered
-  missing-start b = record { held = held-start first n b; is = refl }
+  missing-start s e b = record { held = held-start first n b; is = ap (λ (x : ℕ). gathered (take n first) (numbersBelow x)) (sym e) }
 
-  pub missing-next : (cells : List ℕ) (k s m : ℕ) (after : List ℕ) → Missing first n cells k s → s < mostScopes
-      → m ≡ length (withNew (take k cells) s) → after ≡ atFront (withNew (take k cells) s) cells → Missing first n after m (s + 1)
-  missing-next cells k s m after so h count put =
+  pub missing-next : (cells : List ℕ) (k s next m : ℕ) (after : List ℕ) → Missing first n cells k s → s < mostScopes → next ≡ s + 1
+      → m ≡ length (withNew (take k cells) s) → after ≡ atFront (withNew (take k cells) s) cells → Missing first n after m next
+  missing-next cells k s next m after so h e count put =
       let l = new-longer (take k cells) s in
       let z = scopes-new mostScopes (take k cells) s (so .held .begins .scopes) h in
       record {
         held = held-grown first cells k (so .held) (withNew (take k cells) s) after m l z count put;
         is =
             held-take first cells k (so .held) (withNew (take k cells) s) after m l z count put
-            ∙ ap (λ (x : List ℕ). withNew x s) (so .is) ∙ sym (gathered-next s (take n first));
+            ∙ ap (λ (x : List ℕ). withNew x s) (so .is) ∙ sym (gathered-next s (take n first))
+            ∙ ap (λ (x : ℕ). gathered (take n first) (numbersBelow x)) (sym e);
       }
 
   pub missing-end : (cells : List ℕ) (k s count : ℕ) → Missing first n cells k s → s ≡ count

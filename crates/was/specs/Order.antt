@@ -1,5 +1,5 @@
 -- K13's list (02): the scopes breadth-first. It is said here which scope comes next, and not by a
--- queue; Promises says the same by one equation. Assumes nothing: these are definitions.
+-- queue; Promises says what the whole list is. Assumes nothing: these are definitions.
 use Prim.Native.Nat.{ℕ, zero, suc}
 use mathlib.Core.Bool.{Bool, true, false, not}
 use mathlib.Core.Option.{Option, some, none}

@@ -22,16 +22,23 @@ pub record HoldsEach (n : ℕ) (list : List ℕ) : Type 0 where
   pub are : (x : ℕ) → (x ∈ list) ↔ (x < n)
   pub once : Distinct list
 
--- Which list it is. First come the scopes that are met, and they are what they themselves meet: the
+-- Which list it is. First come the scopes that are met. They are what they themselves meet: the
 -- start, then all scopes that their edges lead to, from the first of them on and at each in row
--- sequence, every one at its first meeting. (A list with this equation is found from its front on,
--- so there is only one.) The scopes that are not met stand after them, ascending.
+-- sequence, every one at its first meeting. None of them is met by itself alone or by later ones:
+-- each after the start is met from those before it. The scopes that are not met stand last,
+-- ascending.
 pub record ByMeetings (after : ℕ → List ℕ) (start : ℕ) (list : List ℕ) : Type 0 where
   pub reached : List ℕ
   pub others : List ℕ
   pub parts : list ≡ reached ++ others
   pub at-first-meeting : reached ≡ gathered (start ∷ []) (metFrom after reached)
+  pub from-before : (before rest : List ℕ) (t : ℕ) → reached ≡ (start ∷ before) ++ (t ∷ rest) → t ∈ metFrom after (start ∷ before)
   pub ascend : Pairwise _<_ others
+
+-- of the lists that have each number below n there is only one such list
+abbrev pub OnlyOne : Type 0
+OnlyOne = (after : ℕ → List ℕ) (start n : ℕ) (list other : List ℕ) → HoldsEach n list → HoldsEach n other
+    → ByMeetings after start list → ByMeetings after start other → list ≡ other
 
 -- of every table that was read: each scope once, the start first, breadth-first
 pub record ListRight (cells : List ℕ) : Type 0 where
@@ -60,5 +67,6 @@ ExampleListed = (cells : List ℕ) → readCells exampleText ≡ done cells → 
 
 pub record Promises : Type 0 where
   pub lists : ListsRight
+  pub only-one : OnlyOne
   pub reads : ReadsRight
   pub example : ExampleListed

@@ -21,7 +21,7 @@ ghost use Rattle.was.specs.Order.{isListed, withNew, gathered, metAll, w
 ghost use Rattle.was.specs.Cells.{atFront, inCells, scopesBy, Begins};
 
 // The scopes of a file at most.
-const MOST: usize = 64;
+pub(crate) const MOST_SCOPES: usize = 64;
 
 // The first value of the first row of section k, 0 if it has no row.
 fn first_in(table: &[u64], k: usize) -> u64
@@ -107,22 +107,26 @@ fn list_unmet(list: &mut [u64], n: usize, count: u64) -> usize
     ensures memory { λ r. ⌜ now (list .exit) ≡ atFront (gathered (take n (now (list .entry))) (numbersBelow count)) (now (list .entry)) ⌝ }
 {
     let mut k = n;
-    let mut s: u64 = 0;
-    while s < count {
-        k = with_scope(list, k, s);
-        s += 1;
+    let mut left = count;
+    while 0 < left {
+        k = with_scope(list, k, count - left);
+        left -= 1;
     }
     k
 }
 
-// Lists all scopes: those that are met along edges from where the first query starts, nearest first,
-// then the others. There are as many numbers as scopes; the cells after them are 0.
+// Lists all scopes: those that are met along edges from where the first query starts, nearest
+// first, then the others. There are as many numbers as scopes; the cells after them are 0.
 pub fn list_scopes(table: &[u64]) -> [u64; 64]
     requires read { ⌜ WasRead (now table) ⌝ }
     ensures answer { λ r. ⌜ r ≡ inCells (wasList (now (table .entry))) ⌝ }
 {
-    let mut list = [0u64; MOST];
-    let n = list_met(section_rows(table, EDGES), first_in(table, QUERIES), &mut list);
+    let mut list = [0u64; MOST_SCOPES];
+    let n = list_met(
+        section_rows(table, EDGES),
+        first_in(table, QUERIES),
+        &mut list,
+    );
     list_unmet(&mut list, n, scope_count(table));
     list
 }

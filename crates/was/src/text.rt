@@ -1,4 +1,5 @@
 // The list's text: the line `was`, then one number a line.
+use crate::order::MOST_SCOPES;
 use crate::order::is_listed;
 use text_field::NumberRead;
 use text_field::put_byte;
@@ -113,12 +114,12 @@ pub fn read_was(text: &[u8], n: usize) -> WasList
 {
     let none = WasList {
         ok: false,
-        numbers: [0u64; 64],
+        numbers: [0u64; MOST_SCOPES],
     };
     if !begins(text, b"was\n") {
         return none;
     }
-    let mut numbers = [0u64; 64];
+    let mut numbers = [0u64; MOST_SCOPES];
     if !read_numbers(text, 4, n, &mut numbers) {
         return none;
     }

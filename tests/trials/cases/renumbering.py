@@ -1,7 +1,7 @@
 """Cases of scopes numbered for storage (02, K13): files renumbered, each with its list, and files that go back by a list.
 
 `due` is what a case is there for: the list as one string of numbers, the text that comes out, or a refusal's number."""
-from cases.case_file import Dice, bytes_of, case, sum_of
+from cases.case_file import Dice, bytes_of, case
 from cases.faults import shown as byte_names
 from cases.gyms import EXAMPLE, FORMS, SMALLEST, changed, kinds_text, largest, realistic, refused_files, shuffled, turns_text, with_rows
 from cases.kinds_asked import TWO
@@ -140,6 +140,7 @@ def walk_cases(f):
     t("edges that only an unlawful label has", plain(**unlawful), "0 1 3 2")
     t("edges of no lawful label at all", plain(s0=["X"], s2=[], s4=["4"], s5=["0 X 2", "2 X 1"], s7=["0 X"]), "0 2 1 3")
     t("unmet scopes, ascending", plain(s4=["6"], s5=["3 P 5"], s8=["3 a"]), "3 5 0 1 2 4")
+    t("an unmet scope with an edge to itself", plain(s4=["3"], s5=["2 P 2"]), "0 1 2")
     t("unmet scopes that lead to one another", plain(s4=["5"], s5=["1 P 4", "2 P 0", "4 P 2"]), "0 1 2 3 4")
     t("unmet scopes that lead to met ones", plain(s4=["5"], s5=["1 P 0", "2 P 4", "3 P 2"], s6=["4 a 1"], s8=["2 a"]), "2 4 0 1 3")
     t("two queries, the second elsewhere", plain(s4=["4"], s5=["1 P 0", "3 P 2"], s6=["0 a 1", "2 a 2"], s8=["3 a", "1 a"]), "3 2 0 1")
