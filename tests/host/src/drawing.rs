@@ -7,7 +7,7 @@ use crate::differ;
 use crate::files::without_turns;
 use plain::drawings::drawing;
 use plain::gym::Gym;
-use std::io::Write;
+use std::io::{ErrorKind, Write};
 use std::process::{Command, Stdio};
 
 /// What a drawing was answered with, by accepted files, and what a file's own drawing gave.
@@ -106,7 +106,10 @@ pub fn drawn_by_graphviz(texts: impl Iterator<Item = Vec<u8>>) -> String {
 /// The picture of a drawing; `None` where there is no Graphviz.
 fn graphviz(drawn: &[u8]) -> Option<String> {
     let program = Command::new("dot").arg("-Tsvg").stdin(Stdio::piped()).stdout(Stdio::piped()).stderr(Stdio::piped()).spawn();
-    let mut program = program.ok()?;
+    let mut program = match program {
+        Err(error) if error.kind() == ErrorKind::NotFound => return None,
+        started => started.expect("Graphviz, where it is installed, can be started"),
+    };
     let _ = program.stdin.take().expect("piped").write_all(drawn);
     let output = program.wait_with_output().expect("a program that was started ends");
     if !output.status.success() || !output.stderr.is_empty() {
