@@ -1,4 +1,6 @@
 // The listings that somebody delivers for a gym file's queries, taken in or not (document 02, K3).
+#![tactic(auto)]
+
 mod counts;
 mod lists;
 mod opens;

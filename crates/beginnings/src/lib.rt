@@ -1,5 +1,7 @@
 // The count of a query's lawful beginnings (document 02, K11): over a query's board, over a table
 // that was read, over a text, and beside a listing.
+#![tactic(auto)]
+
 mod ahead;
 mod counts;
 mod memo;

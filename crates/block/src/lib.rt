@@ -1,5 +1,7 @@
 // The board's block: one lent block of cells in which a file's tables stand, made once for the
 // file. Here is what is read of it; crate `board` fills it.
+#![tactic(auto)]
+
 mod ask;
 mod edges;
 mod layout;

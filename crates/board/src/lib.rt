@@ -1,4 +1,6 @@
 // The board: a file's tables, made of its graph table once and put into the lent block.
+#![tactic(auto)]
+
 mod asked;
 mod automaton;
 mod cells;

@@ -1,4 +1,6 @@
 // Two path rows compared by the order of a gym file, over its board.
+#![tactic(auto)]
+
 mod agree;
 mod letters;
 mod order;

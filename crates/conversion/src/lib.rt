@@ -1,5 +1,7 @@
 // A gym file in the other form (document 02, K9 and K12): the text is read, tested for what the
 // wanted form cannot show, and written with its form changed.
+#![tactic(auto)]
+
 mod unshown;
 
 ghost use Rattle.std.specs.Prelude.{◌≡◌, ◌≤◌, ◌<◌, length, take};

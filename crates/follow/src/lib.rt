@@ -1,4 +1,6 @@
 // The walk over followed places: it takes the rows of a query's entries, or finds a place.
+#![tactic(auto)]
+
 use block::{ask_goal, ask_start, scope_count, taken};
 use search::{ALL, Node, live_table};
 

@@ -1,6 +1,8 @@
 // Graph tables changed in place: a row put at its place in its section, a row taken out, a
 // section's rows replaced by others. The table is lent, with the number of its cells that are used;
 // what stands after these is free.
+#![tactic(auto)]
+
 mod cells;
 mod change;
 mod edges;

@@ -1,4 +1,6 @@
 // A gym file's text, read into a graph table and written from one.
+#![tactic(auto)]
+
 mod cells;
 mod line;
 mod line_text;

@@ -1,4 +1,6 @@
 // A graph as a table of cells: the format of its rows, and the tests that every row meets.
+#![tactic(auto)]
+
 mod admission;
 mod apart;
 mod format;

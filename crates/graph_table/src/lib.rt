@@ -1,6 +1,8 @@
 // The graph table as other crates read it: where rows stand, and what a row says. `graph_rows` and
 // `graph_file`, which test, make and write the table, and `graph_change`, which moves its cells, read
 // cells of their own; the sections' numbers and how a row is put are handed on from `graph_rows`.
+#![tactic(auto)]
+
 mod edges;
 mod names;
 mod rows;

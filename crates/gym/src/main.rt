@@ -9,6 +9,8 @@
 // `run` once with what was read; and where a second file cannot be read whole, `second` says so and
 // `run` is not called. That what is read of the words and the input is enough is a theorem
 // (`ReadEnough`).
+#![tactic(auto)]
+
 mod replies;
 mod second;
 mod words;

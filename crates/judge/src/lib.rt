@@ -1,4 +1,6 @@
 // A path row judged for a query of a gym file.
+#![tactic(auto)]
+
 mod cut;
 mod hops;
 mod limits;

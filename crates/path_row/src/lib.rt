@@ -1,4 +1,6 @@
 // Path rows: taken apart, put together.
+#![tactic(auto)]
+
 pub mod form;
 pub mod lent;
 pub mod taken;

@@ -1,5 +1,7 @@
 // Path rules as an expression (02, K6): an expression's text and the file's labels make a
 // transition table and its accepting states.
+#![tactic(auto)]
+
 mod reading;
 mod sets;
 mod vectors;

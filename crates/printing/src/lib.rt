@@ -5,6 +5,8 @@
 // reached in the end is the output's end. No contract can say what a call of C's does, nor that a
 // call is made. So two things are left for the reader to see: `emit` hands its piece to the C
 // library; the functions above it move the place only by calling it, once for each piece.
+#![tactic(auto)]
+
 mod parts;
 
 ghost use Rattle.std.specs.Prelude.{◌+◌, ◌<◌, ◌≡◌, length};

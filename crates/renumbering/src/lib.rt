@@ -1,5 +1,7 @@
 // A gym file with its scopes renumbered for storage, and the way back (document 02, K13): the text
 // is read, its table renumbered by a list of its scopes, and written.
+#![tactic(auto)]
+
 mod alone;
 mod inverse;
 

@@ -1,4 +1,6 @@
 // A query's listing and the summary: over a table's board, over a table that was read, over a text.
+#![tactic(auto)]
+
 mod ask;
 mod awaits;
 mod found;

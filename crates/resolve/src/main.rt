@@ -1,6 +1,8 @@
 // Lists the queries of the gym file on standard input, then the summary; for a refused file only
 // its refusal. What is printed for a text is `printing`'s to say and to prove; that `print_for` is
 // called with what was read is left for the reader to see.
+#![tactic(auto)]
+
 use printing::{INPUT, print_for};
 
 fn main() {

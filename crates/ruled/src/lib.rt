@@ -1,6 +1,8 @@
 // A gym file with the path rules of an expression (document 02, K6): the text is read, the
 // expression made into rows over the file's labels, and the table written with these rows in place
 // of its own.
+#![tactic(auto)]
+
 mod fill;
 mod letters;
 mod put;

@@ -1,6 +1,7 @@
 // How the code holds an end (the end mark, or a label) and two ends of which the first may be
 // preferred to the second. What these values mean stands in specs/Order.antt, and the rules
 // themselves in the other files there: this crate has no functions.
+#![tactic(auto)]
 
 // The turn of a step: a step that is no edge row has none.
 #[derive(Drop)]

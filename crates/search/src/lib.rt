@@ -1,5 +1,7 @@
 // The search over the board's block: places worth entering, whether what is sought lies behind a
 // node, and which ends are cut there.
+#![tactic(auto)]
+
 mod closure;
 mod ends;
 mod exists;

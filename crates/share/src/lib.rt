@@ -1,4 +1,6 @@
 // The share of queries found one, in whole per cent.
+#![tactic(auto)]
+
 ghost use Rattle.std.specs.Prelude.{◌≡◌, ◌<◌};
 ghost use Rattle.share.specs.Share.{share};
 

@@ -1,6 +1,8 @@
 // What a host written in C or Rust calls. A slice is passed as its address and its length. Every
 // answer is one number, which include/tewhoranu.h takes apart; only `tewhoranu_name_sought` answers
 // a length, and `tewhoranu_version` the version of this interface.
+#![tactic(auto)]
+
 mod numbers;
 
 ghost use Rattle.std.specs.Prelude.{◌≡◌, length};

@@ -1,4 +1,6 @@
 // Numbers, names and lines as text, the lent buffer they are written to, and what a host is told.
+#![tactic(auto)]
+
 mod answer;
 mod lines;
 

@@ -1,4 +1,6 @@
 // The listings that somebody delivers for the queries of a gym file (document 02, K3), taken apart.
+#![tactic(auto)]
+
 mod listing;
 mod pairs;
 mod places;

@@ -1,6 +1,8 @@
 // Reads cases from standard input and prints for each what a public function answers, and what
 // became of the memory lent to it. The programs in tests/trials write the cases and, by a reference
 // of their own, the output that is due.
+#![tactic(auto)]
+
 mod answered;
 mod changes;
 mod converted;

@@ -1,6 +1,8 @@
 // Reads cases from standard input, each a gym file and the listings delivered for it, and prints
 // what becomes of them. tests/trials/make writes the cases and, by a reference of its own, the
 // output that is due.
+#![tactic(auto)]
+
 ghost use Rattle.std.specs.Prelude.{◌≤◌};
 
 use accepting::{Verdict, accept};

@@ -1,5 +1,7 @@
 // Draws small gyms by chance, and compares for each of their queries what `resolution` answers with
 // what a plain enumerator finds (module `enumerator`).
+#![tactic(auto)]
+
 mod drawn;
 mod enumerator;
 mod say;

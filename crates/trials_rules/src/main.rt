@@ -1,5 +1,7 @@
 // Reads expressions from standard input and prints for each the rows that it becomes, or what
 // refuses it. tests/rules/make writes the cases and, by another method, the output that is due.
+#![tactic(auto)]
+
 ghost use Rattle.std.specs.Prelude.{◌≤◌};
 
 use path_rules::{Rules, path_rules};
