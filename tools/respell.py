@@ -17,7 +17,7 @@ import sys
 ROOT = os.path.dirname(os.path.dirname(os.path.abspath(__file__)))
 GENERATED = ("Proof.antt", "Answers.antt", "Invariants.antt")
 # names whose plain respelling is another name already
-APART = {"same-end-is": "same_end_is_so", "same-end-self": "same_end_with_self"}
+APART = {"Found-None": "found_none", "same-end-is": "same_end_is_so", "same-end-self": "same_end_with_self"}
 TOKEN = re.compile(r"[^\s(){}\[\].,;:\"λ\\@`]+")
 DECLARED = re.compile(r"^\s*(?:(?:abbrev|unfoldable|pub|infixl|infixr|infix|instance|ruleset)\s+)*(?:(?:record|data|class)\s+)?([^\s(){}\[\].,;:\"=]+)(?=[^=]*?:(?!=))")
 USE = re.compile(r"^\s*(?:pub )?(?:ghost )?use ([^\s{]+?)(?:\.\{(.*)\})?;?\s*$")
@@ -73,6 +73,10 @@ def declared():
                 m = DECLARED.match(line)
                 if m and m.group(1) not in ("let", "in", "λ", "elim", "where", "unfolding", "→", "×", "⊎", "|"):
                     names[m.group(1)].add(path)
+                m = re.match(r"^\s+((?:[A-Za-z][\w\-']* )+): \S", line)
+                if m and not re.match(r"(let|in|pub|abbrev|unfoldable|record|data)\b", m.group(1)):  # constructors in one line
+                    for one in m.group(1).split():
+                        names[one].add(path)
     return names
 
 
@@ -97,7 +101,7 @@ def table():
     found = {n: word(n) for n in names if turns(n)}
     defined = {new for old, new in found.items() if "-" not in old}
     for old, new in found.items():  # a lemma with its function's name
-        if "-" in old and old not in APART and (new in defined or new in names):
+        if "-" in old and old not in APART and (new in defined or new in names) and not any("/specs/" in p for p in names[old]):
             found[old] = new + "_lem"
     fallen = collections.defaultdict(set)
     for old, new in found.items():
@@ -110,7 +114,7 @@ def lemmas(path, text, fallen):
     if "/proofs/" not in path:
         return {}
     kit, own = imported(text)
-    here = set(own)
+    here = imported("".join(line for line in text.splitlines(keepends=True) if ".specs." not in line))[1]
     for line in text.splitlines():
         m = DECLARED.match(line)
         if m and not line.lstrip().startswith(("--", "use ")):

@@ -12,7 +12,7 @@ use borrow.Author.Tests as tests
 use Rattle.scope_graph.specs.Graph.{Query}
 use Rattle.scope_graph.specs.Path.{PathRow}
 use Rattle.scope_graph.specs.Rows.{language}
-use Rattle.scope_graph.specs.Computed.{Found, found_none, found-one, found-several, entries}
+use Rattle.scope_graph.specs.Computed.{Found, found_none, found_one, found_several, entries}
 use Rattle.scope_graph.proofs.Lists.{Two}
 use Rattle.text_field.proofs.ByteLaws.{clash}
 use Rattle.graph_rows.specs.Decode.{rules_of, graph_of}
@@ -32,14 +32,14 @@ use Rattle.accepting.specs.Steps.{CountTold}
 pub found_same : (a b : Found) → same_found a b ≡ true → a ≡ b
 unfolding same_found
 found_same found_none found_none e = refl
-found_same found_none found-one e = absurd (let z : ◌≡◌ {A = ℕ} 0 1 = cc in omega arith)
-found_same found_none found-several e = absurd (let z : ◌≡◌ {A = ℕ} 0 1 = cc in omega arith)
-found_same found-one found_none e = absurd (let z : ◌≡◌ {A = ℕ} 0 1 = cc in omega arith)
-found_same found-one found-one e = refl
-found_same found-one found-several e = absurd (let z : ◌≡◌ {A = ℕ} 0 1 = cc in omega arith)
-found_same found-several found_none e = absurd (let z : ◌≡◌ {A = ℕ} 0 1 = cc in omega arith)
-found_same found-several found-one e = absurd (let z : ◌≡◌ {A = ℕ} 0 1 = cc in omega arith)
-found_same found-several found-several e = refl
+found_same found_none found_one e = absurd (let z : ◌≡◌ {A = ℕ} 0 1 = cc in omega arith)
+found_same found_none found_several e = absurd (let z : ◌≡◌ {A = ℕ} 0 1 = cc in omega arith)
+found_same found_one found_none e = absurd (let z : ◌≡◌ {A = ℕ} 0 1 = cc in omega arith)
+found_same found_one found_one e = refl
+found_same found_one found_several e = absurd (let z : ◌≡◌ {A = ℕ} 0 1 = cc in omega arith)
+found_same found_several found_none e = absurd (let z : ◌≡◌ {A = ℕ} 0 1 = cc in omega arith)
+found_same found_several found_one e = absurd (let z : ◌≡◌ {A = ℕ} 0 1 = cc in omega arith)
+found_same found_several found_several e = refl
 
 pub found_self : (a b : Found) → a ≡ b → same_found a b ≡ true
 unfolding same_found
@@ -47,8 +47,8 @@ found_self a b e = rw e (by b)
   where
     by : (f : Found) → same_found f f ≡ true
     by found_none = refl
-    by found-one = refl
-    by found-several = refl
+    by found_one = refl
+    by found_several = refl
 
 -- rows within the limit are counted, up to the most that are asked for
 module _ (b : Bounds) where

@@ -80,9 +80,9 @@ module _ (at end : ℕ) where
   is row = eqb (value row 0) at && eqb (value row 1) end
 
   module _ (t : List ℕ) (p : ℕ) where
-    pub open_end_lem : length t - p < 6 → false ≡ has_open at end (rows_of (drop p t))
+    pub open_end : length t - p < 6 → false ≡ has_open at end (rows_of (drop p t))
     unfolding has_open any_of
-    open_end_lem h = rw (rows_none t p h)
+    open_end h = rw (rows_none t p h)
 
     module _ (row : OpenRow) (more : 6 ≤ length t - p) (e : row ≡ open_row t p) where
       at_is : row.at ≡ value (row_of (drop p t)) 0

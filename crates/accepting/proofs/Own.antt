@@ -131,7 +131,7 @@ module _ (text cells : List ℕ) (read : read_cells text ≡ done cells) where
         let m = (first_of_some (followed_at L g q) (PairBefore L) opens {a = o} ok.opens_ascend e).0 in
         let n = table.open_at o m in
         let s = table.scopes_most in
-        let l = table.open_end_lem o m in (
+        let l = table.open_end o m in (
           and_both (leb o.at most_scope) (is_end (end_text letters o.end)) (le-leb o.at most_scope (omega arith)) (end_good o.end l),
           (let k = end_back o.end l in λ j. some (record { at = o.at; end = k j })),
         )

@@ -17,7 +17,7 @@ use Rattle.scope_graph.specs.Path.{PathRow as RulesRow}
 use Rattle.scope_graph.specs.Turns.{Turned}
 use Rattle.scope_graph.specs.Rows.{language, any_of, same_end}
 use Rattle.scope_graph.specs.Computed.{hops_at, entries, found, followed_at, awaits}
-use Rattle.scope_graph.specs.Agree.{Judgement, as_visible, as_shadowed, as-unreached, judgement, CaughtIs}
+use Rattle.scope_graph.specs.Agree.{Judgement, as_visible, as_shadowed, as_unreached, judgement, CaughtIs}
 use Rattle.scope_graph.specs.Listing.{Accepted}
 use Rattle.scope_graph.specs.TakenIn.{NoneTwice, RightlyTold, AwaitPasses, TakenPromises}
 use Rattle.scope_graph.proofs.Lists.{here, there, and_both, any_of_intro, any_of_elim, map_intro, map_elim}
@@ -85,7 +85,7 @@ visible_is : (j : Judgement) → (is_visible j ≡ true) ↔ (j ≡ as_visible)
 unfolding is_visible
 visible_is as_visible = (λ e. refl, λ e. refl)
 visible_is (as_shadowed n) = (λ e. absurd (clash e refl), λ e. absurd (let z : ◌≡◌ {A = ℕ} 0 1 = cc in omega arith))
-visible_is as-unreached = (λ e. absurd (clash e refl), λ e. absurd (let z : ◌≡◌ {A = ℕ} 0 1 = cc in omega arith))
+visible_is as_unreached = (λ e. absurd (clash e refl), λ e. absurd (let z : ◌≡◌ {A = ℕ} 0 1 = cc in omega arith))
 
 same_end_is_so : (a b : End ℕ) → same_end a b ≡ true → a ≡ b
 unfolding same_end
@@ -275,7 +275,7 @@ module _ (text cells : List ℕ) (read : read_cells text ≡ done cells) where
                 once (length-map d.rows rule ∙ eqb-true (length d.rows) (length (entries L g q)) c.0);
             once = once;
             found_right = (taken.found_word d.found).0 (found_same (found_for cells q) d.found f.0);
-            may_await_lem = (taken.await_pair (await_named cells d.awaits)).0 ((await_is d.awaits).0 f.1);
+            may_await = (taken.await_pair (await_named cells d.awaits)).0 ((await_is d.awaits).0 f.1);
           }
 
       back : RightlyTold L g (opens_of cells) q (told_in cells d) → is_right cells q d ≡ true
@@ -288,7 +288,7 @@ module _ (text cells : List ℕ) (read : read_cells text ≡ done cells) where
           (eq-eqb (length d.rows) (length (entries L g q)) (sym (length-map d.rows rule) ∙ taken.counted (map rule d.rows) w.rows_are w.once))
           (and_both (same_found (found_for cells q) d.found) (may_await cells q d.awaits)
           (found_self (found_for cells q) d.found ((taken.found_word d.found).1 w.found_right))
-          ((await_is d.awaits).1 ((taken.await_pair (await_named cells d.awaits)).1 w.may_await_lem)))))
+          ((await_is d.awaits).1 ((taken.await_pair (await_named cells d.awaits)).1 w.may_await)))))
 
       pub right_is : (is_right cells q d ≡ true) ↔ RightlyTold L g (opens_of cells) q (told_in cells d)
       right_is = (forth, back)

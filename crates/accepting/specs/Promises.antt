@@ -56,6 +56,6 @@ OwnAccepted = (text cells : List ℕ) → read_cells text ≡ done cells
 
 pub record Promises : Type 0 where
   pub accepted_exactly : AcceptedExactly
-  pub first_wrong_lem : FirstWrong
+  pub first_wrong : FirstWrong
   pub refusals : AcceptRefused
   pub own : OwnAccepted

@@ -7,7 +7,7 @@ use Rattle.scope_graph.specs.Language.{End, stop, by}
 use Rattle.scope_graph.specs.Graph.{Query, OpenPair}
 use Rattle.scope_graph.specs.Rows.{language, any_of, same_end}
 use Rattle.scope_graph.specs.Computed.{entries, followed_at, awaits}
-use Rattle.scope_graph.specs.Agree.{Judgement, as_visible, as_shadowed, as-unreached, judgement}
+use Rattle.scope_graph.specs.Agree.{Judgement, as_visible, as_shadowed, as_unreached, judgement}
 use Rattle.scope_graph.specs.TakenIn.{Told}
 use Rattle.scope_graph.specs.Own.{all_of}
 use Rattle.graph_rows.specs.Decode.{rules_of, graph_of, opens_of, letters_of}
@@ -36,7 +36,7 @@ none_twice (r ∷ rows) = not (is_among r rows) && none_twice rows
 unfoldable pub is_visible : Judgement → Bool
 is_visible as_visible = true
 is_visible (as_shadowed n) = false
-is_visible as-unreached = false
+is_visible as_unreached = false
 
 -- An end by its byte, with the labels' letters given: `$` is the end mark, a letter its label. A
 -- letter that is not listed has a number that no open pair of the file has.

@@ -189,7 +189,7 @@ module _ (L : Language) where
             leads = w.leads;
             rest = h.0;
             final = h.1;
-            leads_on_lem = h.2;
+            leads_on = h.2;
             accepted = h.3;
             uncut = (uncut_is L laws g q range starts n.hops).0 (not_is _ (and_right (leads_on L L.states n.state) _ b.1));
           })
@@ -200,11 +200,11 @@ module _ (L : Language) where
           let n : Node L = record { hops = p; at = last_from q.start p; state = b.state } in
           map_intro (λ (n : Node L). n.hops) {a = n}
           (keep_intro lawful (nodes_complete L g q starts range n (record { path = b.path; comes = refl; leads = b.leads }))
-          (and_both _ _ (leads_on_complete L laws b.state (b.rest, b.final, b.leads_on_lem, b.accepted))
+          (and_both _ _ (leads_on_complete L laws b.state (b.rest, b.final, b.leads_on, b.accepted))
           (is_not _ ((uncut_is L laws g q range starts p).1 b.uncut))))
 
 pub beginnings_are : BeginningsAre
-beginnings_are L g opens q a p = (to L g q a.laws a.in_range_lem a.starts p, from L g q a.laws a.in_range_lem a.starts p)
+beginnings_are L g opens q a p = (to L g q a.laws a.in_range a.starts p, from L g q a.laws a.in_range a.starts p)
 
 pub each_once : EachOnce
 unfolding beginnings nodes lawful

@@ -53,7 +53,7 @@ module _ (cells block ask : List ℕ) (ready : Ready cells block ask) where
   laws = (t.accepted q ready.asked.starts).laws
 
   range : InRange L g
-  range = (t.accepted q ready.asked.starts).in_range_lem
+  range = (t.accepted q ready.asked.starts).in_range
 
   all_free : (s : ℕ) → s < scopes_of cells → ltb s 64 ≡ true
   all_free s h = lt-ltb s 64 (let m = t.scopes_most in omega arith)

@@ -89,7 +89,7 @@ module _ (cells : List ℕ) (q : Query (language (rules_of cells))) (a : Accepte
   once : Pairwise (λ (p r : List (Hop L)). ¬ (steps_of p ≡ steps_of r)) paths
   once =
       pairwise_weaken (λ (p r : List (Hop L)). ¬ (p ≡ r)) _ paths
-      (λ p r m k apart e. apart (same_steps (rules_of cells) (graph_of cells) a.in_range_lem q.start p r (path p m) (path r k) e))
+      (λ p r m k apart e. apart (same_steps (rules_of cells) (graph_of cells) a.in_range q.start p r (path p m) (path r k) e))
       (map_pairwise (λ (p r : List (Hop L)). ¬ (p ≡ r)) (λ (n : Node L). n.hops) listed (each_once L (graph_of cells) (opens_of cells) q a))
 
   right : RightCount cells q (capped (length listed))

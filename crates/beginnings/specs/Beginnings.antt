@@ -34,7 +34,7 @@ module _ (L : Language) where
     pub leads : Leads L 0 (word L p) state
     pub rest : List ℕ
     pub final : ℕ
-    pub leads_on_lem : Leads L state rest final
+    pub leads_on : Leads L state rest final
     pub accepted : L.accepts final ≡ true
     pub uncut : (r : List (Hop L)) → Reached L g q (record { start = q.start; hops = r }) → ¬ StepCut r p
 

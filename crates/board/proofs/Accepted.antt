@@ -64,8 +64,8 @@ module _ (cells : List ℕ) (a : AcceptedTable cells) (t : AdmittedTable cells) 
   abbrev any_query : Query (language (rules_of cells))
   any_query = record { start = 0; name = record { kind = 0; high = 0; low = 0 } }
 
-  in_range_lem : InRange (language (rules_of cells)) (graph_of cells)
-  in_range_lem = let least = a.scopes_least in (a.accepted any_query (omega arith)).in_range_lem
+  in_range : InRange (language (rules_of cells)) (graph_of cells)
+  in_range = let least = a.scopes_least in (a.accepted any_query (omega arith)).in_range
 
   scopes : (graph_of cells).scopes ≤ 64
   unfolding graph_of
@@ -81,9 +81,9 @@ module _ (cells : List ℕ) (a : AcceptedTable cells) (t : AdmittedTable cells) 
     edges_ascend = admitted_edges cells t (table_ascends cells t);
     declarations_ascend = admitted_declarations cells t (table_ascends cells t);
     edges_few = edges_few;
-    edges_from = λ e m. let most = scopes in let here = in_range_lem.from_scope e m in omega arith;
-    edges_label = λ e m. let most = a.labels in let here = in_range_lem.listed e m in omega arith;
-    edges_to = λ e m. let most = scopes in let here = in_range_lem.to_scope e m in omega arith;
+    edges_from = λ e m. let most = scopes in let here = in_range.from_scope e m in omega arith;
+    edges_label = λ e m. let most = a.labels in let here = in_range.listed e m in omega arith;
+    edges_to = λ e m. let most = scopes in let here = in_range.to_scope e m in omega arith;
     edges_turn = a.turns;
     labels = a.labels;
     states = a.states;
@@ -92,7 +92,7 @@ module _ (cells : List ℕ) (a : AcceptedTable cells) (t : AdmittedTable cells) 
     accepts = a.accepts;
     order_less = λ p m. end_below (rules_of cells).labels p.less a.labels (a.order_ends p m).0;
     order_more = λ p m. end_below (rules_of cells).labels p.more a.labels (a.order_ends p m).1;
-    declared = λ d m. let most = scopes in let here = in_range_lem.at_scope d m in omega arith;
+    declared = λ d m. let most = scopes in let here = in_range.at_scope d m in omega arith;
   }
 
 pub read_sound : ReadSound

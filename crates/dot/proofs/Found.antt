@@ -75,10 +75,10 @@ module _ (cells : List ℕ) (was : WasRead cells) where
   unfolding other_turns
   turn_is = ap (some_row other_turn) (rows_are cells was edge_section)
 
-  in_range_lem : InRange (language (rules_of cells)) (graph_of cells)
-  in_range_lem =
+  in_range : InRange (language (rules_of cells)) (graph_of cells)
+  in_range =
       let least = t.scopes_least in
-      (t.accepted (record { start = 0; name = record { kind = 0; high = 0; low = 0 } }) (omega arith)).in_range_lem
+      (t.accepted (record { start = 0; name = record { kind = 0; high = 0; low = 0 } }) (omega arith)).in_range
 
   -- an edge row's label is listed, and its letter is found
   module _ (row : Row) (m : row ∈ rows_in edge_section cells) where
@@ -92,7 +92,7 @@ module _ (cells : List ℕ) (was : WasRead cells) where
     label_listed : value row 1 < length (rows_in label_section cells)
     unfolding edge_of rules_of letters_of
     label_listed =
-        let h = in_range_lem.listed edge stands in
+        let h = in_range.listed edge stands in
         let n = length-map (rows_in label_section cells) (λ (r : Row). value r 0) in
         omega arith
 
@@ -129,8 +129,8 @@ module _ (cells : List ℕ) (was : WasRead cells) where
     pub row_in_file : InFile cells (drawn_edge (letters_of cells) row)
     unfolding drawn_edge edge_of graph_of letters_of
     row_in_file = record {
-      from = in_range_lem.from_scope edge stands;
-      to = in_range_lem.to_scope edge stands;
+      from = in_range.from_scope edge stands;
+      to = in_range.to_scope edge stands;
       letter =
           let n = length-map (rows_in label_section cells) (λ (r : Row). value r 0) in
           let listed = label_listed in

@@ -4,7 +4,7 @@ use Rattle.std.specs.Prelude.{ℕ, List, [], ◌∷◌, ◌++◌, map, get_or}
 use Rattle.scope_graph.specs.Language.{End, stop, by}
 use Rattle.scope_graph.specs.Path.{HopOf}
 use Rattle.scope_graph.specs.Turns.{Turned}
-use Rattle.scope_graph.specs.Computed.{Found, found_none, found-one, found-several}
+use Rattle.scope_graph.specs.Computed.{Found, found_none, found_one, found_several}
 use Rattle.scope_graph.specs.Rows.{PackedName}
 use Rattle.text_field.specs.Name.{name_text}
 use Rattle.graph_table.specs.declared.sections.Form.{Form}
@@ -32,8 +32,8 @@ rows_line = 109 ∷ 97 ∷ 114 ∷ 107 ∷ 32 ∷ 112 ∷ 97 ∷ 116 ∷ 104 ∷
 -- `none`, `one`, `several`
 unfoldable pub found_text : Found → List ℕ
 found_text found_none = 110 ∷ 111 ∷ 110 ∷ 101 ∷ []
-found_text found-one = 111 ∷ 110 ∷ 101 ∷ []
-found_text found-several = 115 ∷ 101 ∷ 118 ∷ 101 ∷ 114 ∷ 97 ∷ 108 ∷ []
+found_text found_one = 111 ∷ 110 ∷ 101 ∷ []
+found_text found_several = 115 ∷ 101 ∷ 118 ∷ 101 ∷ 114 ∷ 97 ∷ 108 ∷ []
 
 -- with the labels' letters given
 module _ (letters : List ℕ) where

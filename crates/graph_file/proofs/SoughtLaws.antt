@@ -78,8 +78,8 @@ unplaced_name (Name h l w) at e = absurd (let z : ◌≡◌ {A = ℕ} 0 1 = cc i
 unplaced_name NoName at e = refl
 
 -- an empty last part stands at the end
-at_end_lem : (s x : List ℕ) → x ≡ [] → length s ≡ length s - length x
-at_end_lem s x e = let z : length x ≡ 0 = ap length e in omega (arith, z)
+at_end : (s x : List ℕ) → x ≡ [] → length s ≡ length s - length x
+at_end s x e = let z : length x ≡ 0 = ap length e in omega (arith, z)
 
 -- the name at a place
 pub no_name_there : (s : List ℕ) (at : ℕ) → NoName ≡ name_placed at (name_here (drop at s)) → at ≡ at + length (name_front (drop at s))
@@ -289,7 +289,7 @@ sought_there text q =
 pub nowhere : (text x : List ℕ) → x ≡ [] → (length text ≡ (place_from text x).from) × (length text ≡ (place_from text x).to)
 unfolding place_from name_front name_part name_here
 nowhere text x e =
-    let z : length text ≡ length text - length x = at_end_lem text x e
+    let z : length text ≡ length text - length x = at_end text x e
     in let y : length (name_front x) ≡ 0 = ap (λ (u : List ℕ). length (name_front u)) e
     in (z, z ∙ omega (arith, y))
 

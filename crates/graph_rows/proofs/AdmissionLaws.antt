@@ -204,7 +204,7 @@ module _ (form k : ℕ) (t : List ℕ) (p : ℕ) (c : Counts) where
     unfolding admission sofar_at unless
     refused_range e = rw (lt-ltb c.rows (section_at k).most room, letters_length c.labels (drop 1 t), ← fields_range, e)
 
-    module _ (in_range_lem : in_range c.labels c.scopes (items_at (range_place form k)) (row_of (drop p t)) ≡ true) where
+    module _ (in_range : in_range c.labels c.scopes (items_at (range_place form k)) (row_of (drop p t)) ≡ true) where
       pub follows_last : {b : Bool} → follows (section_at k).sequence (section_at k).key (letters_at c.labels (drop 1 t)) (rows_back c.rows p t) (row_of (drop p t)) ≡ b → admission form k (sofar_at t p c) (row_of (drop p t)) ≡ unless b 4 0
       unfolding admission sofar_at unless
-      follows_last e = rw (lt-ltb c.rows (section_at k).most room, letters_length c.labels (drop 1 t), ← fields_range, in_range_lem, e)
+      follows_last e = rw (lt-ltb c.rows (section_at k).most room, letters_length c.labels (drop 1 t), ← fields_range, in_range, e)

@@ -28,7 +28,7 @@ unless_zero false n o e = absurd (let z : ◌≡◌ {A = ℕ} (suc n) 0 = e in o
 
 pub record Passed (form k : ℕ) (st : Sofar) (row : Row) : Type 0 where
   pub room : st.rows < (section_at k).most
-  pub in_range_lem : in_range (length st.letters) st.scopes (shape_at form k).row row ≡ true
+  pub in_range : in_range (length st.letters) st.scopes (shape_at form k).row row ≡ true
   pub follow : follows (section_at k).sequence (section_at k).key st.letters st.own row ≡ true
 
 pub passed : (form k : ℕ) (st : Sofar) (row : Row) → admission form k st row ≡ 0 → Passed form k st row
@@ -37,7 +37,7 @@ passed form k st row e =
     let a = unless_zero _ 4 _ e in
     let b = unless_zero _ 2 _ a.1 in
     let c = unless_zero _ 3 _ b.1 in
-    record { room = ltb-true _ _ a.0; in_range_lem = b.0; follow = c.0 }
+    record { room = ltb-true _ _ a.0; in_range = b.0; follow = c.0 }
 
 -- each admitted row has its five values, with a text
 pub rows_stand : (form k : ℕ) (st : Sofar) (rows : List Row) → AdmittedRows form k st rows → (row : Row) → row ∈ rows
@@ -161,7 +161,7 @@ rows_in_range form k st f (first ∷ rows) h r g row m =
     ⊎_elim
     (λ e.
     let all = grows_then st (taken_all k st (first ∷ rows)) f (rows_grow form k st (first ∷ rows) h r).0 g in
-    rw e (range_grows _ _ _ _ all.labels all.scopes (shape_at form k).row first p.in_range_lem))
+    rw e (range_grows _ _ _ _ all.labels all.scopes (shape_at form k).row first p.in_range))
     (λ n. rows_in_range form k (taken k st first) f rows h.2 a.1 g row n)
     (Memᴰ.cases_cons m)
 

@@ -217,7 +217,7 @@ module _ (form : ℕ) where
   rows_admitted labels scopes k inside st [] g r t l = tt
   rows_admitted labels scopes k inside st (row ∷ rows) g r t l =
       let one = g row here in (
-        passes form k st row (omega arith) (range_now k labels scopes st row inside r one.in_range_lem) (turn_follows (section_at k).sequence (section_at k).key st row rows t),
+        passes form k st row (omega arith) (range_now k labels scopes st row inside r one.in_range) (turn_follows (section_at k).sequence (section_at k).key st row rows t),
         one.five,
         rows_admitted labels scopes k inside (taken k st row) rows (λ later m. g later (there m)) (ready_taken k labels scopes st row r)
             (turn_next (section_at k).sequence (section_at k).key k st row rows t) (omega arith),

@@ -77,12 +77,12 @@ module _ (labels scopes : ℕ) (row : Row) where
   declaration_changed true false p r = record {
     five = r.five;
     formed = swap (leb (value row 0) 99999) (is_lower (value row 1)) (eqb (value row 1) plain_kind) mark_tests true (λ _. p refl) r.formed;
-    in_range_lem = r.in_range_lem;
+    in_range = r.in_range;
   }
   declaration_changed false true p r = record {
     five = r.five;
     formed = swap (leb (value row 0) 99999) (eqb (value row 1) plain_kind) (is_lower (value row 1)) mark_tests true (plain_lower (value row 1)) r.formed;
-    in_range_lem = r.in_range_lem;
+    in_range = r.in_range;
   }
 
   abbrev name_tests : Bool
@@ -95,12 +95,12 @@ module _ (labels scopes : ℕ) (row : Row) where
   query_changed true false p r = record {
     five = r.five;
     formed = swap (leb (value row 0) 99999) (is_lower (value row 1)) (eqb (value row 1) plain_kind) name_tests (eqb (value row 4) 0) (λ _. p refl) r.formed;
-    in_range_lem = r.in_range_lem;
+    in_range = r.in_range;
   }
   query_changed false true p r = record {
     five = r.five;
     formed = swap (leb (value row 0) 99999) (eqb (value row 1) plain_kind) (is_lower (value row 1)) name_tests (eqb (value row 4) 0) (plain_lower (value row 1)) r.formed;
-    in_range_lem = r.in_range_lem;
+    in_range = r.in_range;
   }
 
   -- an edge with turns and without
@@ -117,14 +117,14 @@ module _ (labels scopes : ℕ) (row : Row) where
   edge_changed true false p r = record {
     five = r.five;
     formed = hide (leb (value row 0) 99999) (leb (value row 3) 99999) ends (eqb (value row 3) 0) (eqb (value row 4) 0) (p refl) r.formed;
-    in_range_lem = left_out (ltb (value row 0) scopes) (ltb (value row 1) labels) (ltb (value row 3) 100) _ r.in_range_lem;
+    in_range = left_out (ltb (value row 0) scopes) (ltb (value row 1) labels) (ltb (value row 3) 100) _ r.in_range;
   }
   edge_changed false true p r =
       let told = show (leb (value row 0) 99999) (leb (value row 3) 99999) ends (eqb (value row 3) 0) (eqb (value row 4) 0) (λ z. unturned_small z (λ v. leb v 99999) refl) r.formed in
       record {
         five = r.five;
         formed = told;
-        in_range_lem = put_in (ltb (value row 0) scopes) (ltb (value row 1) labels) (ltb (value row 3) 100) _ (unturned_small (unturned labels scopes row r) (λ v. ltb v 100) refl) r.in_range_lem;
+        in_range = put_in (ltb (value row 0) scopes) (ltb (value row 1) labels) (ltb (value row 3) 100) _ (unturned_small (unturned labels scopes row r) (λ v. ltb v 100) refl) r.in_range;
       }
 
   -- a row of section k, which in a form without kinds has the kind `v` where it has one, and in a

@@ -87,7 +87,7 @@ module _ (cells : List ℕ) (t : AdmittedTable cells) where
         each = λ row m. record {
           five = (stand row m).0;
           formed = (stand row m).1;
-          in_range_lem = rw (length-map (rows_in label_section cells) (λ (r : Row). value r 0)) at (table_in_range cells t k h row m);
+          in_range = rw (length-map (rows_in label_section cells) (λ (r : Row). value r 0)) at (table_in_range cells t k h row m);
         };
         in_turn = turn_of_lem k h (section_at k).sequence refl (own_sequence_lem k h);
         least = s.enough;

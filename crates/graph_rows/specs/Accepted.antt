@@ -56,7 +56,7 @@ pub record AcceptedTable (cells : List ℕ) : Type 0 where
   pub old_sought : has_kinds (form_in cells) ≡ false → (q : Query (language (rules_of cells))) → q ∈ queries_of cells → q.name.kind ≡ plain_kind
   pub marks : (d : Declaration (language (rules_of cells))) → d ∈ (graph_of cells).declarations → d.mark < mark_count
   pub open_at : (o : OpenPair (language (rules_of cells))) → o ∈ opens_of cells → o.at < scopes_of cells
-  pub open_end_lem : (o : OpenPair (language (rules_of cells))) → o ∈ opens_of cells
+  pub open_end : (o : OpenPair (language (rules_of cells))) → o ∈ opens_of cells
       → EndListed (rules_of cells).labels o.end
   -- how the table is laid out: a section's rows stand together at its place, and the last section's
   -- end is the table's

@@ -47,7 +47,7 @@ InTurn free key rows = Unit {0}
 pub record FormedRow (labels scopes : ℕ) (items : List Item) (row : Row) : Type 0 where
   pub five : length row ≡ 5
   pub formed : formed items row ≡ true
-  pub in_range_lem : in_range labels scopes items row ≡ true
+  pub in_range : in_range labels scopes items row ≡ true
 
 -- The rows of section k in a file of a form: each is formed, they follow one another as they must
 -- (no 4), and there are neither too few (2) nor too many (5).

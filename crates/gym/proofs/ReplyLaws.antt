@@ -11,7 +11,7 @@ use mir.Val.{Val}
 use denote.Laws.{Is}
 use denote.Enum.Declared.{row}
 use denote.Enum.Laws.{owed}
-use Rattle.scope_graph.specs.Agree.{Judgement, as_visible, as_shadowed, as-unreached}
+use Rattle.scope_graph.specs.Agree.{Judgement, as_visible, as_shadowed, as_unreached}
 use Rattle.text_field.specs.Buffer.{Buf, put, puts}
 use Rattle.text_field.specs.Number.{number_text}
 use Rattle.text_field.specs.Outcome.{Outcome, refused, done, and_then}
@@ -99,7 +99,7 @@ pub visible_short : length (standing_name as_visible) ≤ 32
 unfolding standing_name
 visible_short = omega arith
 
-pub unreached_short : length (standing_name as-unreached) ≤ 32
+pub unreached_short : length (standing_name as_unreached) ≤ 32
 unfolding standing_name
 unreached_short = omega arith
 

@@ -2,7 +2,7 @@
 -- are definitions.
 use Rattle.std.specs.Prelude.{ℕ}
 use mathlib.Core.List.{List, [], ◌∷◌, ◌++◌, flat_map}
-use Rattle.scope_graph.specs.Agree.{Judgement, as_visible, as_shadowed, as-unreached}
+use Rattle.scope_graph.specs.Agree.{Judgement, as_visible, as_shadowed, as_unreached}
 use Rattle.text_field.specs.Number.{number_text}
 use Rattle.text_field.specs.Outcome.{Outcome, done, and_then}
 use Rattle.path_row.specs.Form.{most_steps}
@@ -48,7 +48,7 @@ counted name n = name ++ (32 ∷ number_text n)
 unfoldable pub standing_name : Judgement → List ℕ
 standing_name as_visible = bytes "visible"
 standing_name (as_shadowed n) = counted (bytes "shadowed") n
-standing_name as-unreached = bytes "unreached"
+standing_name as_unreached = bytes "unreached"
 
 unfoldable pub which_name : Comparison → List ℕ
 which_name first = bytes "first"

@@ -30,7 +30,7 @@ use Rattle.judge.specs.declared.cut.Caught.{Caught}
 use Rattle.judge.specs.LastCut.{caught_at, deeper, latest, later_of, leads_by, last_cut}
 use Rattle.judge.specs.Steps.{hop_to, step_hops, state_on, Behind, end_cut, row_last}
 use Rattle.judge.proofs.HopLaws.{free_is}
-use Rattle.judge.proofs.WalkLaws.{hops_end, hops_on_lem, leads_no, leads_on_lem}
+use Rattle.judge.proofs.WalkLaws.{hops_end, hops_on_lem, leads_no, leads_on}
 
 module _ (block : List ℕ) (goal : ℕ) (n : Node) where
   -- what is learnt of an end tells
@@ -96,7 +96,7 @@ module _ (block : List ℕ) (goal : ℕ) (n : Node) where
     hop_no g = split ∙ ap (λ (z : Option ℕ). deeper z u) (leads_no block goal n l t r is none enter g)
 
     hop_beyond : r < 16 → row_last block goal n (hop_to block n.scope l t ∷ hs) ≡ deeper (enter t r) u
-    hop_beyond g = split ∙ ap (λ (z : Option ℕ). deeper z u) (leads_on_lem block goal n l t r is none enter g)
+    hop_beyond g = split ∙ ap (λ (z : Option ℕ). deeper z u) (leads_on block goal n l t r is none enter g)
 
     hop_last : r < 16 → n.left ≡ 0 → row_last block goal n (hop_to block n.scope l t ∷ hs) ≡ deeper none u
     unfolding last_cut
@@ -123,9 +123,9 @@ pub found_at : (c : Caught) → c.found ≡ true → caught_at c ≡ some c.plac
 unfolding caught_at
 found_at c e = rw (e, caught_at)
 
-pub found_none : (c : Caught) → c.found ≡ false → caught_at c ≡ none
+pub found_none_lem : (c : Caught) → c.found ≡ false → caught_at c ≡ none
 unfolding caught_at
-found_none c e = rw (e, caught_at)
+found_none_lem c e = rw (e, caught_at)
 
 pub kept_here : (last c : Caught) → c.found ≡ true → caught_at c ≡ latest (caught_at last) c.found c.place
 unfolding latest

@@ -73,7 +73,7 @@ module _ (L : Language) (laws : Laws L) (g : Graph L) (x : L.Name) (range : InRa
     -- a path to what is sought parts from it here, or goes by the same hop
     record Parts (m : Node L) : Type 0 where
       flat : depth (h ∷ p) m ≡ 0
-      at_end_lem : beats (h ∷ p) m ≡ at_end m
+      at_end : beats (h ∷ p) m ≡ at_end m
 
     record Passes (m : Node L) : Type 0 where
       rest : Node L
@@ -84,7 +84,7 @@ module _ (L : Language) (laws : Laws L) (g : Graph L) (x : L.Name) (range : InRa
 
     parts_ended : Parts (record { hops = []; at = s; state = q })
     unfolding preferred_to
-    parts_ended = record { flat = agree_ended L (h ∷ p); at_end_lem = refl }
+    parts_ended = record { flat = agree_ended L (h ∷ p); at_end = refl }
 
     parts_hop : (k : Hop L) (r : Node L) → k ∈ hops_at L g.edges s → same_hop L.same_step k h ≡ false → Parts (behind L k r)
     unfolding preferred_to behind
@@ -92,7 +92,7 @@ module _ (L : Language) (laws : Laws L) (g : Graph L) (x : L.Name) (range : InRa
       flat =
           agree_off L k h r.hops p
           (step_whole L laws g range one s k h (hops_at_elim L g.edges s m) (hops_at_elim L g.edges s leaves) ∙ e);
-      at_end_lem = rw e (or-false (L.prefers (by k.step) (by h.step)));
+      at_end = rw e (or-false (L.prefers (by k.step) (by h.step)));
     }
 
     self_step : same_step L h h ≡ true
@@ -160,7 +160,7 @@ module _ (L : Language) (laws : Laws L) (g : Graph L) (x : L.Name) (range : InRa
     goes none d true e =
         let k = any_of_elim at_end N e in (
           ⊎_elim
-              (λ (y : Parts k.0). (k.0, k.1, y.at_end_lem ∙ k.2, y.flat))
+              (λ (y : Parts k.0). (k.0, k.1, y.at_end ∙ k.2, y.flat))
               (λ (y : Passes k.0). absurd (true_false k.2 y.not_end))
               (view k.0 k.1),
           λ m i b. ⊎_elim
@@ -169,7 +169,7 @@ module _ (L : Language) (laws : Laws L) (g : Graph L) (x : L.Name) (range : InRa
               (view m i),
         )
     goes none d false e = λ m i b. ⊎_elim
-        (λ (y : Parts m). true_false (sym y.at_end_lem ∙ b) (any_of_none at_end N e m i))
+        (λ (y : Parts m). true_false (sym y.at_end ∙ b) (any_of_none at_end N e m i))
         (λ (y : Passes m). d y.rest y.inside (sym y.beats_too ∙ b))
         (view m i)
 

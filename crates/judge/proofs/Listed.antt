@@ -126,7 +126,7 @@ module _ (text cells : List ℕ) (read : read_cells text ≡ done cells) where
 
     range : InRange L g
     unfolding query_at
-    range = (table.accepted (query_at cells i) (table.starts (query_at cells i) (get_d_in (queries_of cells) i _ inside))).in_range_lem
+    range = (table.accepted (query_at cells i) (table.starts (query_at cells i) (get_d_in (queries_of cells) i _ inside))).in_range
 
     few : length p.steps ≤ 63
     few =

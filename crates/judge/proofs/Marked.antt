@@ -6,7 +6,7 @@ use Prim.Native.Nat.{ℕ}
 use Rattle.scope_graph.specs.Turns.{same_turn, same_turned, later, later_step, turn_by}
 use Rattle.scope_graph.specs.Rows.{same_end, same_name, any_of, preferred_by, next_by}
 use Rattle.scope_graph.specs.Order.{end_of}
-use Rattle.scope_graph.specs.Agree.{most, Judgement, as_visible, as_shadowed, as-unreached, with_steps, same_step, agree_hops, caught, judgement}
+use Rattle.scope_graph.specs.Agree.{most, Judgement, as_visible, as_shadowed, as_unreached, with_steps, same_step, agree_hops, caught, judgement}
 use Rattle.scope_graph.specs.Computed.{keep, hops_at, marks_at, declares_any, behind, hop_on, nodes_from, leads_on, same_hop, same_hops, preferred_to, nodes, reached_nodes, cut, is_reached, standing, judged}
 use Rattle.text_field.specs.Bytes.{within, is_digit, is_capital}
 use Rattle.text_field.specs.Number.{growing, digits_from, number_here, number_placed, number_meaning}
@@ -36,5 +36,5 @@ unfolding answers within is_digit is_capital growing digits_from number_here num
 m10 = record {
   shadowed = of_table (49 ∷ 48 ∷ 32 ∷ 50 ∷ 80 ∷ 49 ∷ []) (as_shadowed 0) refl;
   visible = of_table (50 ∷ 49 ∷ 32 ∷ 50 ∷ []) as_visible refl;
-  unreached = of_table (53 ∷ 32 ∷ 50 ∷ 80 ∷ 49 ∷ 80 ∷ 48 ∷ []) as-unreached refl;
+  unreached = of_table (53 ∷ 32 ∷ 50 ∷ 80 ∷ 49 ∷ 80 ∷ 48 ∷ []) as_unreached refl;
 }

@@ -9,7 +9,7 @@ use lib.ListN.{length}
 use Rattle.scope_graph.specs.Language.{Language}
 use Rattle.scope_graph.specs.Graph.{Graph, Query}
 use Rattle.scope_graph.specs.Rows.{language}
-use Rattle.scope_graph.specs.Agree.{Judgement, as_visible, as_shadowed, as-unreached, judgement, CaughtIs}
+use Rattle.scope_graph.specs.Agree.{Judgement, as_visible, as_shadowed, as_unreached, judgement, CaughtIs}
 use Rattle.scope_graph.proofs.Agree.{agree_promises}
 use Rattle.text_field.specs.Outcome.{Outcome, done, and_then, refuse_if}
 use Rattle.graph_file.specs.File.{read_cells}
@@ -51,7 +51,7 @@ module _ (text cells : List ℕ) (read : read_cells text ≡ done cells) (i : �
   by_rules : (s : Judgement) → (found ≡ s) ↔ Stands cells i p s
   by_rules as_visible = kept.visible (as_rules_row cells p)
   by_rules (as_shadowed n) = kept.shadowed (as_rules_row cells p) n
-  by_rules as-unreached = kept.unreached (as_rules_row cells p)
+  by_rules as_unreached = kept.unreached (as_rules_row cells p)
 
   pub answers : (s : Judgement) → (judge_answer text i row room ≡ done s) ↔ Stands cells i p s
   answers s = (λ e. (by_rules s).0 (done_same found s (sym answer_is ∙ e)), λ k. answer_is ∙ ap {B = Outcome Judgement} (λ (z : Judgement). done z) ((by_rules s).1 k))

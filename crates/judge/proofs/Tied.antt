@@ -15,8 +15,8 @@ use Rattle.scope_graph.specs.Path.{HopOf, last_from}
 use Rattle.scope_graph.specs.Turns.{Turned}
 use Rattle.scope_graph.specs.Path.{PathRow as RulesRow}
 use Rattle.scope_graph.specs.Rows.{PackedName, Rules, any_of, same_name, language}
-use Rattle.scope_graph.specs.Computed.{Standing, is_visible_lem, is-shadowed, is-unreached, keep, hops_at, marks_at, is_reached, standing, judged}
-use Rattle.scope_graph.specs.Agree.{Judgement, as_visible, as_shadowed, as-unreached, with_steps, caught, judgement}
+use Rattle.scope_graph.specs.Computed.{Standing, is_visible, is_shadowed, is_unreached, keep, hops_at, marks_at, is_reached, standing, judged}
+use Rattle.scope_graph.specs.Agree.{Judgement, as_visible, as_shadowed, as_unreached, with_steps, caught, judgement}
 use Rattle.scope_graph.proofs.Lists.{and_left, and_both}
 use Rattle.scope_graph.proofs.Agree.{agree_promises}
 use Rattle.graph_rows.specs.Format.{count_section, declaration_section}
@@ -47,7 +47,7 @@ use Rattle.judge.specs.Judge.{meaning, as_rules_row}
 use Rattle.judge.specs.declared.cut.Caught.{Caught}
 use Rattle.judge.specs.LastCut.{caught_at, last_cut}
 use Rattle.judge.specs.Steps.{is_marked, has_mark, step_hops, Begins, row_reached, row_last, judged_row}
-use Rattle.judge.proofs.CutLaws.{found_at, found_none}
+use Rattle.judge.proofs.CutLaws.{found_at, found_none_lem}
 use Rattle.judge.proofs.Deepest.{is_place, cut_some, caught_is}
 
 -- The marks of a name at a scope, row by row.
@@ -79,7 +79,7 @@ module _ (r : Rules) (x : QueryRow) (mark s : ℕ) where
 -- The standing by three tests: the start, reached with its mark, cut.
 abbrev by_tests : Bool → Bool → Bool → Standing
 by_tests same reached cut =
-    elim (same && reached) as (λ _. Standing) [ false ↦ is-unreached | true ↦ elim cut as (λ _. Standing) [ true ↦ is-shadowed | false ↦ is_visible_lem ] ]
+    elim (same && reached) as (λ _. Standing) [ false ↦ is_unreached | true ↦ elim cut as (λ _. Standing) [ true ↦ is_shadowed | false ↦ is_visible ] ]
 
 module _ (cells : List ℕ) (x : QueryRow) (mark from : ℕ) (ss : List Step) (a : Asked cells (query_on cells x)) where
   abbrev L : Language
@@ -101,7 +101,7 @@ module _ (cells : List ℕ) (x : QueryRow) (mark from : ℕ) (ss : List Step) (a
   laws = ((accepted cells a.read).accepted q a.starts).laws
 
   abbrev range : InRange L g
-  range = ((accepted cells a.read).accepted q a.starts).in_range_lem
+  range = ((accepted cells a.read).accepted q a.starts).in_range
 
   pub start_small : x.start < 64
   start_small = let m = (accepted cells a.read).scopes_most in let s = a.starts in omega arith
@@ -136,7 +136,7 @@ module _ (cells : List ℕ) (x : QueryRow) (mark from : ℕ) (ss : List Step) (a
 
   -- the standing, if the mark is that of a declaration
   abbrev with_mark : Bool → Standing → Standing
-  with_mark m z = elim m as (λ _. Standing) [ false ↦ is-unreached | true ↦ z ]
+  with_mark m z = elim m as (λ _. Standing) [ false ↦ is_unreached | true ↦ z ]
 
   stands : standing L g q (record { start = from; hops = hs }) ≡ by_tests (eqb from x.start) rules_reached rules_cut
   unfolding graph_of free_at
@@ -170,10 +170,10 @@ module _ (cells : List ℕ) (x : QueryRow) (mark from : ℕ) (ss : List Step) (a
   pub starts_apart : (from ≡ x.start → ⊥) → meaning Unreached ≡ done (judged_row cells x mark from ss)
   unfolding meaning with_steps
   starts_apart h =
-      tells is-unreached (judged_is ∙ ap (λ (z : Bool). with_mark rules_mark (by_tests z rules_reached rules_cut)) (ne_eqb from x.start h)
+      tells is_unreached (judged_is ∙ ap (λ (z : Bool). with_mark rules_mark (by_tests z rules_reached rules_cut)) (ne_eqb from x.start h)
       ∙ at rules_mark)
     where
-      at : (u : Bool) → with_mark u is-unreached ≡ is-unreached
+      at : (u : Bool) → with_mark u is_unreached ≡ is_unreached
       at true = refl
       at false = refl
 
@@ -220,7 +220,7 @@ module _ (cells : List ℕ) (x : QueryRow) (mark from : ℕ) (ss : List Step) (a
 
       pub not_reached : u ≡ false → meaning Unreached ≡ done (judged_row cells x mark from ss)
       unfolding meaning with_steps
-      not_reached h = tells is-unreached (by_reached ∙ ap (λ (z : Bool). by_tests true z rules_cut) h)
+      not_reached h = tells is_unreached (by_reached ∙ ap (λ (z : Bool). by_tests true z rules_cut) h)
 
       module _ (h : u ≡ true) (w : Caught) (f : caught_at w ≡ row_last block goal n (step_hops block ts n.scope)) where
         place_is : caught_at w ≡ rules_last
@@ -250,8 +250,8 @@ module _ (cells : List ℕ) (x : QueryRow) (mark from : ℕ) (ss : List Step) (a
         unfolding meaning with_steps is_place
         is_cut k =
             ap {B = Outcome Judgement} (λ (z : ℕ). done (as_shadowed z)) (sym (steps_are reached_here w.place (sym place_is ∙ found_at w k)))
-            ∙ tells is-shadowed (by_cut ∙ ap (λ (z : Option ℕ). by_tests true true (is_place z)) (found_at w k))
+            ∙ tells is_shadowed (by_cut ∙ ap (λ (z : Option ℕ). by_tests true true (is_place z)) (found_at w k))
 
         pub not_cut : w.found ≡ false → meaning Visible ≡ done (judged_row cells x mark from ss)
         unfolding meaning with_steps is_place
-        not_cut k = tells is_visible_lem (by_cut ∙ ap (λ (z : Option ℕ). by_tests true true (is_place z)) (found_none w k))
+        not_cut k = tells is_visible (by_cut ∙ ap (λ (z : Option ℕ). by_tests true true (is_place z)) (found_none_lem w k))

@@ -52,9 +52,9 @@ module _ (block : List ℕ) (goal : ℕ) (n : Node) (l t r : ℕ) (is : r ≡ st
       at (inr f) = rw (f, leads_by)
       at (inl f) = rw (f, leads_by, state_none (next_cell block n.state l) (omega (arith, is ∙ on_free block n l t f)))
 
-  pub leads_on_lem : r < 16 → leads ≡ enter t r
+  pub leads_on : r < 16 → leads ≡ enter t r
   unfolding leads_by table_board
-  leads_on_lem h = at (Two (has_scope n.free t))
+  leads_on h = at (Two (has_scope n.free t))
     where
       at : (has_scope n.free t ≡ true) ⊎ (has_scope n.free t ≡ false) → leads ≡ enter t r
       at (inr f) = absurd (omega (arith, is ∙ on_taken block n l t f))
@@ -100,7 +100,7 @@ module _ (block decls : List ℕ) (goal : ℕ) (x : QueryRow) (mark : ℕ) (n : 
       where
         at : (u : Bool) → r ≡ state_by u → by_edge u ≡ enter t r
         at false k = absurd (omega arith)
-        at true k = leads_on_lem block goal n l t r k false enter h
+        at true k = leads_on block goal n l t r k false enter h
 
   -- where the path ends
   module _ (u : Bool) (e : u ≡ places_of goal (accept_set block) n.scope n.state) where

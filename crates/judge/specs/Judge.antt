@@ -3,7 +3,7 @@
 use Rattle.std.specs.Prelude.{ℕ, ◌≡◌, List, leb, ltb, length}
 use Rattle.scope_graph.specs.Rows.{language}
 use Rattle.scope_graph.specs.Path.{PathRow as RulesRow}
-use Rattle.scope_graph.specs.Agree.{Judgement, as_visible, as_shadowed, as-unreached, judgement}
+use Rattle.scope_graph.specs.Agree.{Judgement, as_visible, as_shadowed, as_unreached, judgement}
 use Rattle.text_field.specs.Outcome.{Outcome, refused, done, and_then, refuse_if}
 use Rattle.graph_file.specs.File.{read_cells}
 use Rattle.graph_rows.specs.Decode.{rules_of, graph_of, queries_of}
@@ -20,7 +20,7 @@ use Rattle.judge.specs.declared.text.JudgedRow.{JudgedRow}
 unfoldable pub meaning : Judged → Outcome Judgement
 meaning Visible = done as_visible
 meaning (Shadowed n) = done (as_shadowed n)
-meaning Unreached = done as-unreached
+meaning Unreached = done as_unreached
 meaning (Refused n) = refused n
 
 -- The row as the rules have it: its steps by their labels' numbers, with the turns of their edge

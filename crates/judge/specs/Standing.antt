@@ -4,7 +4,7 @@
 use Rattle.std.specs.Prelude.{ℕ, ◌≤◌, ◌<◌, ◌≡◌, ◌↔◌, List, length}
 use Rattle.scope_graph.specs.Rows.{language}
 use Rattle.scope_graph.specs.Path.{Reached, MarkDeclared, Entry}
-use Rattle.scope_graph.specs.Agree.{Judgement, as_visible, as_shadowed, as-unreached, ShadowedWith}
+use Rattle.scope_graph.specs.Agree.{Judgement, as_visible, as_shadowed, as_unreached, ShadowedWith}
 use Rattle.text_field.specs.Outcome.{done}
 use Rattle.graph_file.specs.File.{read_cells}
 use Rattle.graph_rows.specs.Decode.{rules_of, graph_of, queries_of}
@@ -19,7 +19,7 @@ Stands cells i p as_visible = Entry (language (rules_of cells)) (graph_of cells)
 Stands cells i p (as_shadowed n) =
     ShadowedWith (language (rules_of cells)) (graph_of cells) (query_at cells i) (as_rules_row cells p).path n
     × MarkDeclared (language (rules_of cells)) (graph_of cells) (query_at cells i) (as_rules_row cells p)
-Stands cells i p as-unreached =
+Stands cells i p as_unreached =
     ¬ (Reached (language (rules_of cells)) (graph_of cells) (query_at cells i) (as_rules_row cells p).path
     × MarkDeclared (language (rules_of cells)) (graph_of cells) (query_at cells i) (as_rules_row cells p))
 

@@ -32,7 +32,7 @@ pub first_step_lem : FirstSteps
 unfolding first_step behind_front
 first_step_lem s = record {
   behind = λ h e. rw e (head_found s h.mark h.start h.width e).place;
-  at_end_lem = λ e. rw e;
+  at_end = λ e. rw e;
   steps = steps_first s (first_step s) refl;
 }
 
@@ -45,7 +45,7 @@ module _ (cells : List ℕ) (table : AcceptedTable cells) where
   some_query = record { start = 0; name = record { kind = 0; high = 0; low = 0 } }
 
   range : InRange L (graph_of cells)
-  range = (table.accepted some_query (let n = table.scopes_least in omega arith)).in_range_lem
+  range = (table.accepted some_query (let n = table.scopes_least in omega arith)).in_range
 
   module _ (t : Step) (absent : ¬ (t.label ∈ letters_of cells)) where
     far : length (letters_of cells) ≤ label_number (letters_of cells) t.label

@@ -18,7 +18,7 @@ use Rattle.path_row.specs.declared.form.Step.{Step}
 -- the end of a text that does not begin so.
 pub record FirstStepIs (s : List ℕ) : Type 0 where
   pub behind : (h : Front) → head_here s ≡ done h → first_step s ≡ length (number_text h.mark) + 1 + length (number_text h.start)
-  pub at_end_lem : head_here s ≡ refused 8 → first_step s ≡ length s
+  pub at_end : head_here s ≡ refused 8 → first_step s ≡ length s
   -- from there on the steps are read that the text shows
   pub steps : steps_of most_steps (drop (first_step s) s) ≡ steps_in s
 

@@ -46,7 +46,7 @@ module _ (cells : List ℕ) (was : WasRead cells) where
   table_laws = so.laws
 
   pub table_range : InRange L (graph_of cells)
-  table_range = so.in_range_lem
+  table_range = so.in_range
 
 module _ (cells block : List ℕ) (d : DeclarationRow) (known : Stands cells block d) where
   pub scope_small : d.at < 64

@@ -188,10 +188,10 @@ pub row_formed : (n : ℕ) (f b : ℕ → ℕ) → Renumbers n f b → n ≤ 999
 unfolding formed in_range
 row_formed n f b r few labels form k row t =
     let items : List Item = (shape_at form k).row in
-    let both = fields_stay n f b r few labels (shape_at form k).row row t.in_range_lem (shape_at form k).row (λ c s. s) (shape_clear form k)
-    (and_left (every_item (item_formed row) (shape_at form k).row) _ t.formed) t.in_range_lem in
+    let both = fields_stay n f b r few labels (shape_at form k).row row t.in_range (shape_at form k).row (λ c s. s) (shape_clear form k)
+    (and_left (every_item (item_formed row) (shape_at form k).row) _ t.formed) t.in_range in
     record {
       five = under_length f (shape_at form k).row row ∙ t.five;
-      formed = and_both _ _ both.0 (idles_stay n f b r few labels (shape_at form k).row row t.in_range_lem (and_right (every_item (item_formed row) (shape_at form k).row) _ t.formed));
-      in_range_lem = both.1;
+      formed = and_both _ _ both.0 (idles_stay n f b r few labels (shape_at form k).row row t.in_range (and_right (every_item (item_formed row) (shape_at form k).row) _ t.formed));
+      in_range = both.1;
     }

@@ -200,7 +200,7 @@ module _ (was cells : List ℕ) (t : FormedTable cells) (o : EachOnce (scopes_of
       let start = accepted.starts q m in
       let a = accepted.accepted q start in
       renamed_right.renamed (language r) f (old_number was) (graph_in r cells) (graph_in r (renumbered_by was cells)) (opens_in r cells) (opens_in r (renumbered_by was cells)) q
-      a.laws a.in_range_lem start accepted.open_at numbers new_graph new_opens
+      a.laws a.in_range start accepted.open_at numbers new_graph new_opens
 
   awaits_none : (q : Query (language r)) → q ∈ queries_in r cells
       → (awaits (language r) (graph_in r cells) q (opens_in r cells) ≡ none)

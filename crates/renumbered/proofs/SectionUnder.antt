@@ -92,7 +92,7 @@ module _ (n : ℕ) (f b : ℕ → ℕ) (r : Renumbers n f b) (few : n ≤ 99999)
     apart_under key a =
         map_pairwise (λ (x y : Row). same_key key x y ≡ false) under rows
         (pairwise_weaken (λ (x y : Row). key_less key x y ≡ true) (λ (x y : Row). same_key key (under x) (under y) ≡ false) rows
-        (λ x y m l h. same_key_lem n f b r labels (shape_at form k).row x y ((each x m).five ∙ sym (each y l).five) (each x m).in_range_lem (each y l).in_range_lem key
+        (λ x y m l h. same_key_lem n f b r labels (shape_at form k).row x y ((each x m).five ∙ sym (each y l).five) (each x m).in_range (each y l).in_range key
         ∙ less_not_same key x y h) a)
 
     pub sorted_under : (key : List ℕ) → Ascending key rows → Ascending key (inserted_all key (map under rows) [])
@@ -103,7 +103,7 @@ module _ (n : ℕ) (f b : ℕ → ℕ) (r : Renumbers n f b) (few : n ≤ 99999)
     edges_under a =
         map_pairwise (λ (x y : Row). same_edge x y ≡ false) under rows
         (pairwise_weaken (λ (x y : Row). same_edge x y ≡ false) (λ (x y : Row). same_edge (under x) (under y) ≡ false) rows
-        (λ x y m l h. same_edge_lem n f b r labels (shape_at form k).row x y ((each x m).five ∙ sym (each y l).five) (each x m).in_range_lem (each y l).in_range_lem ∙ h) a)
+        (λ x y m l h. same_edge_lem n f b r labels (shape_at form k).row x y ((each x m).five ∙ sym (each y l).five) (each x m).in_range (each y l).in_range ∙ h) a)
 
     -- so do letters
     distinct_under : (rest : List Row) → ((row : Row) → row ∈ rest → row ∈ rows) → Distinct (map (λ (row : Row). value row 0) rest)
@@ -119,7 +119,7 @@ module _ (n : ℕ) (f b : ℕ → ℕ) (r : Renumbers n f b) (few : n ≤ 99999)
           let my = inside v.0 (there v.1) in
           let old : value x 0 ≡ value v.0 0 =
           eqb-true (value x 0) (value v.0 0)
-          (sym (same_value n f b r labels (shape_at form k).row x v.0 ((each x mx).five ∙ sym (each v.0 my).five) (each x mx).in_range_lem (each v.0 my).in_range_lem 0)
+          (sym (same_value n f b r labels (shape_at form k).row x v.0 ((each x mx).five ∙ sym (each v.0 my).five) (each x mx).in_range (each v.0 my).in_range 0)
           ∙ eq-eqb (value (under x) 0) (value (under v.0) 0) same) in
           d.0 (Memᴰ.cast old (map_intro (λ (row : Row). value row 0) v.1))),
       distinct_under rest (λ row m. inside row (there m)) d.1,
@@ -172,7 +172,7 @@ module _ (n : ℕ) (f b g h : ℕ → ℕ) (r : Renumbers n f b) (s : Renumbers 
   back_is = row_under g (shape_at form k).row
 
   one_back : (row : Row) → row ∈ rows → back_is (there_is row) ≡ row
-  one_back row m = row_back n f g back labels (shape_at form k).row row (t.each row m).in_range_lem
+  one_back row m = row_back n f g back labels (shape_at form k).row row (t.each row m).in_range
 
   -- the rows that come of it, whatever their sequence
   same_rows : (q : Sequence) (key : List ℕ) (a : Row) → (a ∈ sequenced q key (map back_is (sequenced q key (map there_is rows)))) ↔ (a ∈ rows)

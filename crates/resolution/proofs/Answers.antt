@@ -78,7 +78,7 @@ module _ (cells block ask : List ℕ) (ready : Ready cells block ask) where
       let m = t.scopes_most in
       let o = open_pair_of (rules_of cells) row in
       let n : value row 0 < scopes_of cells = t.open_at o (map_intro (open_pair_of (rules_of cells)) i) in
-      record { scope = omega arith; end = end_small (value row 1) (rules_of cells).labels t.labels (t.open_end_lem o (map_intro (open_pair_of (rules_of cells)) i)) }
+      record { scope = omega arith; end = end_small (value row 1) (rules_of cells).labels t.labels (t.open_end o (map_intro (open_pair_of (rules_of cells)) i)) }
 
   pub awaits_is : (opens : List ℕ) → opens ≡ part_of open_section cells → (r : Awaits) → r ≡ first_followed block cells ask (rows_of opens)
       → awaits_meaning cells r ≡ awaits L (graph_of cells) q (opens_of cells)

@@ -11,7 +11,7 @@ use Rattle.share.specs.Share.{share}
 use Rattle.share.proofs.Nearest.{share_small}
 use Rattle.scope_graph.specs.Graph.{Query}
 use Rattle.scope_graph.specs.Rows.{language}
-use Rattle.scope_graph.specs.Computed.{Found, found_none, found-one, found-several}
+use Rattle.scope_graph.specs.Computed.{Found, found_none, found_one, found_several}
 use Rattle.text_field.specs.Number.{number_text}
 use Rattle.text_field.specs.Buffer.{Buf, put, puts}
 use Rattle.text_field.proofs.NumberLaws.{length_below}
@@ -29,8 +29,8 @@ use Rattle.board.proofs.Queries.{accepted}
 after_sum : (c : Figures) (f : Found) → total (figures_after c f) ≡ total c + 1
 unfolding figures_after
 after_sum c found_none = omega arith
-after_sum c found-one = omega arith
-after_sum c found-several = omega arith
+after_sum c found_one = omega arith
+after_sum c found_several = omega arith
 
 module _ (cells : List ℕ) where
   abbrev Q : Type 0
@@ -45,25 +45,25 @@ module _ (cells : List ℕ) where
       let x : drop i qs ≡ query_at cells i ∷ drop (i + 1) qs = drop-cons qs i _ h ∙ ap (λ (n : ℕ). query_at cells i ∷ drop n qs) (sym (add-one i)) in
       ap (λ (y : Figures). figures_over cells y (drop (i + 1) qs)) (k ∙ ap (figures_after c) g) ∙ sym (ap (figures_over cells c) x)
 
-  over_one : (c : Figures) (qs : List Q) → (figures_over cells c qs).one ≡ c.one + count_found found-one (map (found_for cells) qs)
+  over_one : (c : Figures) (qs : List Q) → (figures_over cells c qs).one ≡ c.one + count_found found_one (map (found_for cells) qs)
   unfolding figures_over count_found figures_after same_found
   over_one c [] = omega arith
   over_one c (q ∷ qs) = over_one (figures_after c (found_for cells q)) qs ∙ by (found_for cells q)
     where
-      by : (f : Found) → (figures_after c f).one + count_found found-one (map (found_for cells) qs) ≡ c.one + count_found found-one (f ∷ map (found_for cells) qs)
+      by : (f : Found) → (figures_after c f).one + count_found found_one (map (found_for cells) qs) ≡ c.one + count_found found_one (f ∷ map (found_for cells) qs)
       by found_none = omega arith
-      by found-one = omega arith
-      by found-several = omega arith
+      by found_one = omega arith
+      by found_several = omega arith
 
-  over_several : (c : Figures) (qs : List Q) → (figures_over cells c qs).several ≡ c.several + count_found found-several (map (found_for cells) qs)
+  over_several : (c : Figures) (qs : List Q) → (figures_over cells c qs).several ≡ c.several + count_found found_several (map (found_for cells) qs)
   unfolding figures_over count_found figures_after same_found
   over_several c [] = omega arith
   over_several c (q ∷ qs) = over_several (figures_after c (found_for cells q)) qs ∙ by (found_for cells q)
     where
-      by : (f : Found) → (figures_after c f).several + count_found found-several (map (found_for cells) qs) ≡ c.several + count_found found-several (f ∷ map (found_for cells) qs)
+      by : (f : Found) → (figures_after c f).several + count_found found_several (map (found_for cells) qs) ≡ c.several + count_found found_several (f ∷ map (found_for cells) qs)
       by found_none = omega arith
-      by found-one = omega arith
-      by found-several = omega arith
+      by found_one = omega arith
+      by found_several = omega arith
 
   over_none : (c : Figures) (qs : List Q) → (figures_over cells c qs).none ≡ c.none + count_found found_none (map (found_for cells) qs)
   unfolding figures_over count_found figures_after same_found
@@ -72,8 +72,8 @@ module _ (cells : List ℕ) where
     where
       by : (f : Found) → (figures_after c f).none + count_found found_none (map (found_for cells) qs) ≡ c.none + count_found found_none (f ∷ map (found_for cells) qs)
       by found_none = omega arith
-      by found-one = omega arith
-      by found-several = omega arith
+      by found_one = omega arith
+      by found_several = omega arith
 
   over_sum : (c : Figures) (qs : List Q) → total (figures_over cells c qs) ≡ total c + length qs
   unfolding figures_over
@@ -119,8 +119,8 @@ module _ (cells : List ℕ) where
     unfolding summary_of summary_by no_figures figures_text
     figures_text_lem =
         let founds : List Found = map (found_for cells) (queries_of cells) in
-        let a : r.one ≡ count_found found-one founds = (let z = ap (λ (x : Figures). x.one) e ∙ over_one no_figures (queries_of cells) in omega arith) in
-        let b : r.several ≡ count_found found-several founds = (let z = ap (λ (x : Figures). x.several) e ∙ over_several no_figures (queries_of cells) in omega arith) in
+        let a : r.one ≡ count_found found_one founds = (let z = ap (λ (x : Figures). x.one) e ∙ over_one no_figures (queries_of cells) in omega arith) in
+        let b : r.several ≡ count_found found_several founds = (let z = ap (λ (x : Figures). x.several) e ∙ over_several no_figures (queries_of cells) in omega arith) in
         let c : r.none ≡ count_found found_none founds = (let z = ap (λ (x : Figures). x.none) e ∙ over_none no_figures (queries_of cells) in omega arith) in
         ap (λ (n : ℕ). summary_text n r.one r.several r.none) (total_is ∙ sym (length-map (queries_of cells) (found_for cells))) ∙ rw (a, b, c)
 

@@ -12,7 +12,7 @@ use Rattle.scope_graph.specs.Language.{stop, Language, Laws}
 use Rattle.scope_graph.specs.Graph.{Graph, InRange, Query}
 use Rattle.scope_graph.specs.Rows.{PackedName, language}
 use Rattle.scope_graph.specs.Order.{end_of}
-use Rattle.scope_graph.specs.Computed.{Found, found_none, found-one, found-several, declares_any}
+use Rattle.scope_graph.specs.Computed.{Found, found_none, found_one, found_several, declares_any}
 use Rattle.scope_graph.specs.Listing.{Accepted}
 use Rattle.scope_graph.specs.Ends.{has_second, ends_at, several_marks}
 use Rattle.scope_graph.proofs.Lists.{Two, true_false}
@@ -112,7 +112,7 @@ module _ (cells block ask : List ℕ) (ready : Ready cells block ask) where
 
   found_by : (f : Found) → told f → f ≡ found_for cells q
   unfolding found_for
-  found_by f a = sym ((found_among_lem L so.laws g q so.in_range_lem so.starts so.declarations_ascend 64 few f).1 a)
+  found_by f a = sym ((found_among_lem L so.laws g q so.in_range so.starts so.declarations_ascend 64 few f).1 a)
 
   -- what the code sees of a scope's marks
   pub second_seen : (s : ℕ) (rows : List ℕ) (x : PackedName) → rows ≡ part_of declaration_section cells → x ≡ ask_name ask
@@ -132,17 +132,17 @@ module _ (cells block ask : List ℕ) (ready : Ready cells block ask) where
     module _ (below : first < 64) where
       pub ends_second : several_marks L g q first ≡ true → found_meaning Several ≡ found_for cells q
       unfolding found_meaning
-      ends_second e = found_by found-several (inl (first, below, is.ends below, e))
+      ends_second e = found_by found_several (inl (first, below, is.ends below, e))
 
       module _ (next : ℕ) (more : FirstEnd cells q (first + 1) next) where
         pub ends_two : next < 64 → found_meaning Several ≡ found_for cells q
         unfolding found_meaning
-        ends_two h = found_by found-several (inr (first, next, (let k = more.on_from h in omega arith), h, is.ends below, more.ends h))
+        ends_two h = found_by found_several (inr (first, next, (let k = more.on_from h in omega arith), h, is.ends below, more.ends h))
 
         pub ends_one : 64 ≤ next → several_marks L g q first ≡ false
             → found_meaning One ≡ found_for cells q
         unfolding found_meaning
-        ends_one h e = found_by found-one (first, below, is.ends below, e, alone)
+        ends_one h e = found_by found_one (first, below, is.ends below, e, alone)
           where
             alone : (t : ℕ) → t < 64 → ends_at L g q t ≡ true → t ≡ first
             alone t k m =

@@ -14,7 +14,7 @@ use Rattle.scope_graph.specs.Graph.{Query, OpenPair}
 use Rattle.scope_graph.specs.Rows.{PackedName, language}
 use Rattle.scope_graph.specs.Order.{end_of}
 use Rattle.scope_graph.specs.Completion.{PairBefore}
-use Rattle.scope_graph.specs.Computed.{Found, found_none, found-one, found-several, followed_at, awaits}
+use Rattle.scope_graph.specs.Computed.{Found, found_none, found_one, found_several, followed_at, awaits}
 use Rattle.scope_graph.proofs.Lists.{first_of_some}
 use Rattle.text_field.specs.Number.{number_text}
 use Rattle.text_field.specs.Buffer.{Buf, puts}
@@ -128,8 +128,8 @@ module _ (cells block ask : List ℕ) (ready : Ready cells block ask) where
   found_short : (f : Found) → length (found_text f) ≤ 7
   unfolding found_text
   found_short found_none = omega arith
-  found_short found-one = omega arith
-  found_short found-several = omega arith
+  found_short found_one = omega arith
+  found_short found_several = omega arith
 
   line_short : (form : Form) → length (head_line form) ≤ 29
   line_short Old = omega arith

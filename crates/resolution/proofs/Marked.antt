@@ -13,7 +13,7 @@ use Rattle.scope_graph.specs.Path.{PathRow}
 use Rattle.scope_graph.specs.Rows.{same_end, same_name, any_of, preferred_by, next_by, language}
 use Rattle.scope_graph.specs.Turns.{same_turn, same_turned, later, later_step, above_one, above}
 use Rattle.scope_graph.specs.Order.{end_of}
-use Rattle.scope_graph.specs.Computed.{keep, first_of, any_below, Found, found-one, found-several, same_declaration, found_of, is_visible_lem, is-shadowed, is-unreached, hops_at, marks_at, declares_any, behind, hop_on, nodes_from, leads_on, usable, same_hop, same_hops, preferred_to, nodes, reached_nodes, cut, rows_at, entries, found, is_reached, standing, judged, open_end, followed_at, awaits}
+use Rattle.scope_graph.specs.Computed.{keep, first_of, any_below, Found, found_one, found_several, same_declaration, found_of, is_visible, is_shadowed, is_unreached, hops_at, marks_at, declares_any, behind, hop_on, nodes_from, leads_on, usable, same_hop, same_hops, preferred_to, nodes, reached_nodes, cut, rows_at, entries, found, is_reached, standing, judged, open_end, followed_at, awaits}
 use Rattle.scope_graph.specs.Listing.{Pairwise, RowBefore, FoundIs}
 use Rattle.scope_graph.specs.Completion.{Settled, Awaits}
 use Rattle.scope_graph.specs.Promises.{QueryPromises}
@@ -129,45 +129,45 @@ turned_read : read_cells turned_text ≡ done turned_cells
 unfolding reads
 turned_read = refl
 
-m1 : Lists example_text 0 2 service ((21, 2, []) ∷ []) found-one none service_at2
+m1 : Lists example_text 0 2 service ((21, 2, []) ∷ []) found_one none service_at2
 unfolding answers
-m1 = lists example_text example_cells example_read 0 (omega arith) 2 service ((21, 2, []) ∷ []) found-one none refl refl refl refl service_at2 refl
+m1 = lists example_text example_cells example_read 0 (omega arith) 2 service ((21, 2, []) ∷ []) found_one none refl refl refl refl service_at2 refl
 
-m2 : Lists example_text 1 3 service ((10, 3, (P, 1) ∷ []) ∷ []) found-one (some (3, stop)) service_at3_awaits3
+m2 : Lists example_text 1 3 service ((10, 3, (P, 1) ∷ []) ∷ []) found_one (some (3, stop)) service_at3_awaits3
 unfolding answers
-m2 = lists example_text example_cells example_read 1 (omega arith) 3 service ((10, 3, (P, 1) ∷ []) ∷ []) found-one (some (3, stop)) refl refl refl refl service_at3_awaits3 refl
+m2 = lists example_text example_cells example_read 1 (omega arith) 3 service ((10, 3, (P, 1) ∷ []) ∷ []) found_one (some (3, stop)) refl refl refl refl service_at3_awaits3 refl
 
-m3 : Lists example_text 2 2 hours ((40, 2, (I, 4) ∷ []) ∷ []) found-one none hours_at2
+m3 : Lists example_text 2 2 hours ((40, 2, (I, 4) ∷ []) ∷ []) found_one none hours_at2
 unfolding answers
-m3 = lists example_text example_cells example_read 2 (omega arith) 2 hours ((40, 2, (I, 4) ∷ []) ∷ []) found-one none refl refl refl refl hours_at2 refl
+m3 = lists example_text example_cells example_read 2 (omega arith) 2 hours ((40, 2, (I, 4) ∷ []) ∷ []) found_one none refl refl refl refl hours_at2 refl
 
-m4 : Lists closed_text 1 3 service ((10, 3, (P, 1) ∷ []) ∷ []) found-one none service_at3
+m4 : Lists closed_text 1 3 service ((10, 3, (P, 1) ∷ []) ∷ []) found_one none service_at3
 unfolding answers
-m4 = lists closed_text closed_cells closed_read 1 (omega arith) 3 service ((10, 3, (P, 1) ∷ []) ∷ []) found-one none refl refl refl refl service_at3 refl
+m4 = lists closed_text closed_cells closed_read 1 (omega arith) 3 service ((10, 3, (P, 1) ∷ []) ∷ []) found_one none refl refl refl refl service_at3 refl
 
-m5 : Lists open1_text 1 3 service ((10, 3, (P, 1) ∷ []) ∷ []) found-one (some (1, stop)) service_at3_awaits1
+m5 : Lists open1_text 1 3 service ((10, 3, (P, 1) ∷ []) ∷ []) found_one (some (1, stop)) service_at3_awaits1
 unfolding answers
-m5 = lists open1_text open1_cells open1_read 1 (omega arith) 3 service ((10, 3, (P, 1) ∷ []) ∷ []) found-one (some (1, stop)) refl refl refl refl service_at3_awaits1 refl
+m5 = lists open1_text open1_cells open1_read 1 (omega arith) 3 service ((10, 3, (P, 1) ∷ []) ∷ []) found_one (some (1, stop)) refl refl refl refl service_at3_awaits1 refl
 
-m5_start : Lists open1_text 0 2 service ((21, 2, []) ∷ []) found-one none service_at2
+m5_start : Lists open1_text 0 2 service ((21, 2, []) ∷ []) found_one none service_at2
 unfolding answers
-m5_start = lists open1_text open1_cells open1_read 0 (omega arith) 2 service ((21, 2, []) ∷ []) found-one none refl refl refl refl service_at2 refl
+m5_start = lists open1_text open1_cells open1_read 0 (omega arith) 2 service ((21, 2, []) ∷ []) found_one none refl refl refl refl service_at2 refl
 
-m6 : Lists open2_p_text 2 2 hours ((40, 2, (I, 4) ∷ []) ∷ []) found-one none hours_at2
+m6 : Lists open2_p_text 2 2 hours ((40, 2, (I, 4) ∷ []) ∷ []) found_one none hours_at2
 unfolding answers
-m6 = lists open2_p_text open2_p_cells open2_p_read 2 (omega arith) 2 hours ((40, 2, (I, 4) ∷ []) ∷ []) found-one none refl refl refl refl hours_at2 refl
+m6 = lists open2_p_text open2_p_cells open2_p_read 2 (omega arith) 2 hours ((40, 2, (I, 4) ∷ []) ∷ []) found_one none refl refl refl refl hours_at2 refl
 
-m7 : Lists open2_i_text 2 2 hours ((40, 2, (I, 4) ∷ []) ∷ []) found-one (some (2, by I)) hours_at2_awaits_i
+m7 : Lists open2_i_text 2 2 hours ((40, 2, (I, 4) ∷ []) ∷ []) found_one (some (2, by I)) hours_at2_awaits_i
 unfolding answers
-m7 = lists open2_i_text open2_i_cells open2_i_read 2 (omega arith) 2 hours ((40, 2, (I, 4) ∷ []) ∷ []) found-one (some (2, by I)) refl refl refl refl hours_at2_awaits_i refl
+m7 = lists open2_i_text open2_i_cells open2_i_read 2 (omega arith) 2 hours ((40, 2, (I, 4) ∷ []) ∷ []) found_one (some (2, by I)) refl refl refl refl hours_at2_awaits_i refl
 
-m8 : Lists two_marks_text 2 2 hours ((40, 2, (I, 4) ∷ []) ∷ (41, 2, (I, 4) ∷ []) ∷ []) found-several none hours_twice
+m8 : Lists two_marks_text 2 2 hours ((40, 2, (I, 4) ∷ []) ∷ (41, 2, (I, 4) ∷ []) ∷ []) found_several none hours_twice
 unfolding answers
-m8 = lists two_marks_text two_marks_cells two_marks_read 2 (omega arith) 2 hours ((40, 2, (I, 4) ∷ []) ∷ (41, 2, (I, 4) ∷ []) ∷ []) found-several none refl refl refl refl hours_twice refl
+m8 = lists two_marks_text two_marks_cells two_marks_read 2 (omega arith) 2 hours ((40, 2, (I, 4) ∷ []) ∷ (41, 2, (I, 4) ∷ []) ∷ []) found_several none refl refl refl refl hours_twice refl
 
-m9 : Lists turned_text 0 0 service ((21, 0, (P, 2) ∷ []) ∷ []) found-one none service_at0
+m9 : Lists turned_text 0 0 service ((21, 0, (P, 2) ∷ []) ∷ []) found_one none service_at0
 unfolding answers
-m9 = lists turned_text turned_cells turned_read 0 (omega arith) 0 service ((21, 0, (P, 2) ∷ []) ∷ []) found-one none refl refl refl refl service_at0 refl
+m9 = lists turned_text turned_cells turned_read 0 (omega arith) 0 service ((21, 0, (P, 2) ∷ []) ∷ []) found_one none refl refl refl refl service_at0 refl
 
 m10 : Judges example_text 0 2 service (10, 2, (P, 1) ∷ []) (21, 2, []) (5, 2, (P, 1) ∷ (P, 0) ∷ [])
 unfolding answers

@@ -8,7 +8,7 @@ use Rattle.scope_graph.specs.Language.{Language, Laws}
 use Rattle.scope_graph.specs.Graph.{Declaration, Query}
 use Rattle.scope_graph.specs.Path.{PathRow, row_declaration}
 use Rattle.scope_graph.specs.Rows.{any_of, language}
-use Rattle.scope_graph.specs.Computed.{Found, found_none, found-one, found-several, same_declaration, found_of, entries, found}
+use Rattle.scope_graph.specs.Computed.{Found, found_none, found_one, found_several, same_declaration, found_of, entries, found}
 use Rattle.graph_rows.specs.Decode.{letters_of, rules_of, graph_of}
 use Rattle.board.proofs.Queries.{accepted}
 use Rattle.follow.specs.declared.Bounds.{Bounds}
@@ -25,8 +25,8 @@ use Rattle.resolution.specs.Asked.{Ready, query_in, entries_taken, TallyOf}
 -- what they are found to be
 unfoldable pub seen_found : Seen → Found
 seen_found None = found_none
-seen_found (One a m) = found-one
-seen_found Several = found-several
+seen_found (One a m) = found_one
+seen_found Several = found_several
 
 module _ (L : Language) (laws : Laws L) (q : Query L) (text : PathRow L → List ℕ) where
   abbrev decl : PathRow L → Declaration L
@@ -46,7 +46,7 @@ module _ (L : Language) (laws : Laws L) (q : Query L) (text : PathRow L → List
   -- the first is kept, and each later one held against it
   one_noted : (x : PathRow L) (rs : List (PathRow L))
       → seen_found (noted_all (One (decl x).at x.mark) (map taken rs))
-      ≡ (elim (any_of (other x) (map decl rs)) as (λ _. Found) [ true ↦ found-several | false ↦ found-one ])
+      ≡ (elim (any_of (other x) (map decl rs)) as (λ _. Found) [ true ↦ found_several | false ↦ found_one ])
   unfolding noted_all noted any_of seen_found
   one_noted x [] = refl
   one_noted x (r ∷ rs) =
@@ -54,9 +54,9 @@ module _ (L : Language) (laws : Laws L) (q : Query L) (text : PathRow L → List
     where
       step : (b : Bool)
           → seen_found (noted_all (One (decl x).at x.mark) (map taken rs))
-          ≡ (elim (any_of (other x) (map decl rs)) as (λ _. Found) [ true ↦ found-several | false ↦ found-one ])
+          ≡ (elim (any_of (other x) (map decl rs)) as (λ _. Found) [ true ↦ found_several | false ↦ found_one ])
           → seen_found (noted_all (elim b as (λ _. Seen) [ true ↦ One (decl x).at x.mark | false ↦ Several ]) (map taken rs))
-          ≡ (elim (elim (not b) as (λ _. Bool) [ true ↦ true | false ↦ any_of (other x) (map decl rs) ]) as (λ _. Found) [ true ↦ found-several | false ↦ found-one ])
+          ≡ (elim (elim (not b) as (λ _. Bool) [ true ↦ true | false ↦ any_of (other x) (map decl rs) ]) as (λ _. Found) [ true ↦ found_several | false ↦ found_one ])
       step true e = e
       step false e = ap seen_found (several_stay (map taken rs))
 

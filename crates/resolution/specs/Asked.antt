@@ -6,7 +6,7 @@ use Rattle.scope_graph.specs.Graph.{Query, OpenPair}
 use Rattle.scope_graph.specs.Path.{row_declaration}
 use Rattle.scope_graph.specs.Rows.{language}
 use Rattle.scope_graph.specs.Order.{end_of}
-use Rattle.scope_graph.specs.Computed.{Found, found_none, found-one, found-several, entries, awaits}
+use Rattle.scope_graph.specs.Computed.{Found, found_none, found_one, found_several, entries, awaits}
 use Rattle.scope_graph.specs.Ends.{ends_at}
 use Rattle.text_field.specs.Number.{number_text}
 use Rattle.graph_rows.specs.Admission.{Row, value}
@@ -78,8 +78,8 @@ pub record FirstEnd (cells : List ℕ) (q : Query (language (rules_of cells))) (
 -- `found` as the code holds it
 unfoldable pub found_meaning : told.Found → Found
 found_meaning None = found_none
-found_meaning One = found-one
-found_meaning Several = found-several
+found_meaning One = found_one
+found_meaning Several = found_several
 
 -- a place that does not show the pair of this scope and end followed: it is away, or what is sought
 -- is there itself and stopping is preferred to the end

@@ -3,7 +3,7 @@
 use Rattle.std.specs.Prelude.{ℕ, ◌+◌, ◌≤◌, List, [], ◌∷◌, ◌++◌}
 use Rattle.scope_graph.specs.Graph.{Query}
 use Rattle.scope_graph.specs.Rows.{language}
-use Rattle.scope_graph.specs.Computed.{Found, found_none, found-one, found-several}
+use Rattle.scope_graph.specs.Computed.{Found, found_none, found_one, found_several}
 use Rattle.text_field.specs.Number.{number_text}
 use Rattle.graph_rows.specs.Decode.{rules_of}
 use Rattle.resolution.specs.Summary.{summary_line, summary_text}
@@ -16,8 +16,8 @@ no_figures = record { one = 0; several = 0; none = 0 }
 -- one query more, by its `found`
 unfoldable pub figures_after : Figures → Found → Figures
 figures_after c found_none = record { one = c.one; several = c.several; none = c.none + 1 }
-figures_after c found-one = record { one = c.one + 1; several = c.several; none = c.none }
-figures_after c found-several = record { one = c.one; several = c.several + 1; none = c.none }
+figures_after c found_one = record { one = c.one + 1; several = c.several; none = c.none }
+figures_after c found_several = record { one = c.one; several = c.several + 1; none = c.none }
 
 -- these queries more
 unfoldable pub figures_over : (cells : List ℕ) → Figures → List (Query (language (rules_of cells))) → Figures

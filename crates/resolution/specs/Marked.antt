@@ -8,7 +8,7 @@ use Rattle.scope_graph.specs.Graph.{Query, OpenPair}
 use Rattle.scope_graph.specs.Path.{PathRow, Reached, Shadowed, MarkDeclared, Entry}
 use Rattle.scope_graph.specs.Completion.{Settled, Awaits}
 use Rattle.scope_graph.specs.Rows.{Rules, language}
-use Rattle.scope_graph.specs.Computed.{Found, found-one, found-several}
+use Rattle.scope_graph.specs.Computed.{Found, found_one, found_several}
 use Rattle.scope_graph.specs.Listing.{Pairwise, RowBefore, FoundIs}
 use Rattle.text_field.specs.Name.{pack_high, pack_low}
 use Rattle.text_field.specs.Outcome.{done}
@@ -139,14 +139,14 @@ pub record Judges (text : List ℕ) (i start : ℕ) (name : List ℕ) (a b c : S
       × MarkDeclared (language (rules_of cells)) (graph_of cells) (query_at cells i) (path_row (rules_of cells) c))
 
 pub record Marked : Type 0 where
-  pub m1 : Lists example_text 0 2 service ((21, 2, []) ∷ []) found-one none service_at2
-  pub m2 : Lists example_text 1 3 service ((10, 3, (P, 1) ∷ []) ∷ []) found-one (some (3, stop)) service_at3_awaits3
-  pub m3 : Lists example_text 2 2 hours ((40, 2, (I, 4) ∷ []) ∷ []) found-one none hours_at2
-  pub m4 : Lists closed_text 1 3 service ((10, 3, (P, 1) ∷ []) ∷ []) found-one none service_at3
-  pub m5 : Lists open1_text 1 3 service ((10, 3, (P, 1) ∷ []) ∷ []) found-one (some (1, stop)) service_at3_awaits1
-  pub m5_start : Lists open1_text 0 2 service ((21, 2, []) ∷ []) found-one none service_at2
-  pub m6 : Lists open2_p_text 2 2 hours ((40, 2, (I, 4) ∷ []) ∷ []) found-one none hours_at2
-  pub m7 : Lists open2_i_text 2 2 hours ((40, 2, (I, 4) ∷ []) ∷ []) found-one (some (2, by I)) hours_at2_awaits_i
-  pub m8 : Lists two_marks_text 2 2 hours ((40, 2, (I, 4) ∷ []) ∷ (41, 2, (I, 4) ∷ []) ∷ []) found-several none hours_twice
-  pub m9 : Lists turned_text 0 0 service ((21, 0, (P, 2) ∷ []) ∷ []) found-one none service_at0
+  pub m1 : Lists example_text 0 2 service ((21, 2, []) ∷ []) found_one none service_at2
+  pub m2 : Lists example_text 1 3 service ((10, 3, (P, 1) ∷ []) ∷ []) found_one (some (3, stop)) service_at3_awaits3
+  pub m3 : Lists example_text 2 2 hours ((40, 2, (I, 4) ∷ []) ∷ []) found_one none hours_at2
+  pub m4 : Lists closed_text 1 3 service ((10, 3, (P, 1) ∷ []) ∷ []) found_one none service_at3
+  pub m5 : Lists open1_text 1 3 service ((10, 3, (P, 1) ∷ []) ∷ []) found_one (some (1, stop)) service_at3_awaits1
+  pub m5_start : Lists open1_text 0 2 service ((21, 2, []) ∷ []) found_one none service_at2
+  pub m6 : Lists open2_p_text 2 2 hours ((40, 2, (I, 4) ∷ []) ∷ []) found_one none hours_at2
+  pub m7 : Lists open2_i_text 2 2 hours ((40, 2, (I, 4) ∷ []) ∷ []) found_one (some (2, by I)) hours_at2_awaits_i
+  pub m8 : Lists two_marks_text 2 2 hours ((40, 2, (I, 4) ∷ []) ∷ (41, 2, (I, 4) ∷ []) ∷ []) found_several none hours_twice
+  pub m9 : Lists turned_text 0 0 service ((21, 0, (P, 2) ∷ []) ∷ []) found_one none service_at0
   pub m10 : Judges example_text 0 2 service (10, 2, (P, 1) ∷ []) (21, 2, []) (5, 2, (P, 1) ∷ (P, 0) ∷ [])

@@ -1,7 +1,7 @@
 -- The text of the summary (01, "The listing"; the share as 02, K1 has it): for its figures, and for
 -- what each query is found. Assumes nothing: these are definitions.
 use Rattle.std.specs.Prelude.{ℕ, zero, suc, Bool, true, false, List, [], ◌∷◌, ◌++◌, length}
-use Rattle.scope_graph.specs.Computed.{Found, found_none, found-one, found-several}
+use Rattle.scope_graph.specs.Computed.{Found, found_none, found_one, found_several}
 use Rattle.text_field.specs.Number.{number_text}
 use Rattle.share.specs.Share.{share}
 
@@ -27,14 +27,14 @@ summary_text n one several none =
 -- is it the same of the three?
 unfoldable pub same_found : Found → Found → Bool
 same_found found_none found_none = true
-same_found found_none found-one = false
-same_found found_none found-several = false
-same_found found-one found_none = false
-same_found found-one found-one = true
-same_found found-one found-several = false
-same_found found-several found_none = false
-same_found found-several found-one = false
-same_found found-several found-several = true
+same_found found_none found_one = false
+same_found found_none found_several = false
+same_found found_one found_none = false
+same_found found_one found_one = true
+same_found found_one found_several = false
+same_found found_several found_none = false
+same_found found_several found_one = false
+same_found found_several found_several = true
 
 -- how many of the list are f
 unfoldable pub count_found : Found → List Found → ℕ
@@ -44,4 +44,4 @@ count_found f (x ∷ xs) = elim (same_found f x) [ true ↦ suc (count_found f x
 -- the summary's text, where the list has one `found` for each query
 unfoldable pub summary_by : List Found → List ℕ
 summary_by founds =
-    summary_text (length founds) (count_found found-one founds) (count_found found-several founds) (count_found found_none founds)
+    summary_text (length founds) (count_found found_one founds) (count_found found_several founds) (count_found found_none founds)

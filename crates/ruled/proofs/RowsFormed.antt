@@ -32,7 +32,7 @@ unfolding shape_at shapes_of formed every_item item_formed field_formed idle_zer
 transition_formed form labels scopes k to h l t = record {
   five = refl;
   formed = rw (le-leb (k / 8) 99999 (omega arith), le-leb to 99999 (omega arith));
-  in_range_lem = rw (lt-ltb (k / 8) 16 (omega arith), lt-ltb (k % 8) labels l, lt-ltb to 16 t);
+  in_range = rw (lt-ltb (k / 8) 16 (omega arith), lt-ltb (k % 8) labels l, lt-ltb to 16 t);
 }
 
 accept_formed : (form labels scopes q : ℕ) → q < 16 → FormedRow labels scopes (shape_at form 3).row (accepting q)
@@ -40,7 +40,7 @@ unfolding shape_at shapes_of formed every_item item_formed field_formed idle_zer
 accept_formed form labels scopes q h = record {
   five = refl;
   formed = rw (le-leb q 99999 (omega arith));
-  in_range_lem = rw (lt-ltb q 16 h);
+  in_range = rw (lt-ltb q 16 h);
 }
 
 -- a later cell's row has the greater key

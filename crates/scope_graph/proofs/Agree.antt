@@ -16,9 +16,9 @@ use Rattle.scope_graph.specs.Path.{Hop, Path, PathRow, MoreSpecific, Reached, Sh
 use Rattle.scope_graph.specs.Turns.{Turned}
 use Rattle.scope_graph.specs.Rows.{Rules}
 use Rattle.scope_graph.specs.Rows.{language as languageOf}
-use Rattle.scope_graph.specs.Computed.{Standing, is_visible_lem, is-shadowed, is-unreached, Node, keep, same_hop, preferred_to, reached_nodes, judged}
+use Rattle.scope_graph.specs.Computed.{Standing, is_visible, is_shadowed, is_unreached, Node, keep, same_hop, preferred_to, reached_nodes, judged}
 use Rattle.scope_graph.specs.Listing.{Accepted}
-use Rattle.scope_graph.specs.Agree.{most, Judgement, as_visible, as_shadowed, as-unreached, with_steps, same_step, agree_hops, agree, ShadowedWith, caught, judgement, OneStep, PathsAgree, CaughtIs, AgreePromises}
+use Rattle.scope_graph.specs.Agree.{most, Judgement, as_visible, as_shadowed, as_unreached, with_steps, same_step, agree_hops, agree, ShadowedWith, caught, judgement, OneStep, PathsAgree, CaughtIs, AgreePromises}
 use Rattle.scope_graph.proofs.Lists.{Two, not_true, true_false, and_left, and_right, and_both, here, there, keep_intro, keep_elim, map_intro, map_elim}
 use Rattle.scope_graph.proofs.Order.{recursive}
 use Rattle.scope_graph.proofs.Reached.{same_hop_lem, reached_sound, reached_complete}
@@ -60,23 +60,23 @@ most_within [] n h = omega arith
 most_within (y ∷ l) n h = h (most (y ∷ l)) (most_first y l)
 
 -- a standing with its number, taken apart
-is_visible_with : (s : Standing) (n : ℕ) → with_steps s n ≡ as_visible → s ≡ is_visible_lem
+is_visible_with : (s : Standing) (n : ℕ) → with_steps s n ≡ as_visible → s ≡ is_visible
 unfolding with_steps
-is_visible_with is_visible_lem n e = refl
-is_visible_with is-shadowed n e = absurd (let z : ◌≡◌ {A = ℕ} 0 1 = cc in omega arith)
-is_visible_with is-unreached n e = absurd (let z : ◌≡◌ {A = ℕ} 0 1 = cc in omega arith)
+is_visible_with is_visible n e = refl
+is_visible_with is_shadowed n e = absurd (let z : ◌≡◌ {A = ℕ} 0 1 = cc in omega arith)
+is_visible_with is_unreached n e = absurd (let z : ◌≡◌ {A = ℕ} 0 1 = cc in omega arith)
 
-is_unreached_with : (s : Standing) (n : ℕ) → with_steps s n ≡ as-unreached → s ≡ is-unreached
+is_unreached_with : (s : Standing) (n : ℕ) → with_steps s n ≡ as_unreached → s ≡ is_unreached
 unfolding with_steps
-is_unreached_with is_visible_lem n e = absurd (let z : ◌≡◌ {A = ℕ} 0 1 = cc in omega arith)
-is_unreached_with is-shadowed n e = absurd (let z : ◌≡◌ {A = ℕ} 0 1 = cc in omega arith)
-is_unreached_with is-unreached n e = refl
+is_unreached_with is_visible n e = absurd (let z : ◌≡◌ {A = ℕ} 0 1 = cc in omega arith)
+is_unreached_with is_shadowed n e = absurd (let z : ◌≡◌ {A = ℕ} 0 1 = cc in omega arith)
+is_unreached_with is_unreached n e = refl
 
-pub is_shadowed_with : (s : Standing) (m n : ℕ) → with_steps s m ≡ as_shadowed n → (s ≡ is-shadowed) × (m ≡ n)
+pub is_shadowed_with : (s : Standing) (m n : ℕ) → with_steps s m ≡ as_shadowed n → (s ≡ is_shadowed) × (m ≡ n)
 unfolding with_steps
-is_shadowed_with is_visible_lem m n e = absurd (let z : ◌≡◌ {A = ℕ} 0 1 = cc in omega arith)
-is_shadowed_with is-shadowed m n e = (refl, cc)
-is_shadowed_with is-unreached m n e = absurd (let z : ◌≡◌ {A = ℕ} 0 1 = cc in omega arith)
+is_shadowed_with is_visible m n e = absurd (let z : ◌≡◌ {A = ℕ} 0 1 = cc in omega arith)
+is_shadowed_with is_shadowed m n e = (refl, cc)
+is_shadowed_with is_unreached m n e = absurd (let z : ◌≡◌ {A = ℕ} 0 1 = cc in omega arith)
 
 module _ (L : Language) where
   step_self : (h : Hop L) → same_step L h h ≡ true
@@ -208,7 +208,7 @@ module _ (L : Language) (laws : Laws L) (g : Graph L) (q : Query L) (range : InR
     where
       to : ShadowedWith L g q p n → Shadowed L g q p × (most (depths p.hops) ≡ n)
       to w =
-          let k = depths_intro p w.catcher w.reached w.more_specific_lem in
+          let k = depths_intro p w.catcher w.reached w.more_specific in
           let d = depths_elim p w.shadowed.reached.from_start (most_in (depths p.hops) _ k) in
           let above = w.none_more d.0 d.1 d.2 in
           let below = most_least (depths p.hops) _ k in
@@ -222,7 +222,7 @@ module _ (L : Language) (laws : Laws L) (g : Graph L) (q : Query L) (range : InR
             shadowed = w.0;
             catcher = d.0;
             reached = d.1;
-            more_specific_lem = d.2;
+            more_specific = d.2;
             agrees = d.3 ∙ w.1;
             none_more = λ r v m. let k = most_least (depths p.hops) _ (depths_intro p r v m) in omega (arith, w.1);
           }
@@ -231,15 +231,15 @@ module _ (L : Language) (laws : Laws L) (g : Graph L) (q : Query L) (range : InR
   pub judgement_visible : (r : PathRow L) → (judgement L g q r ≡ as_visible) ↔ Entry L g q r
   unfolding judgement with_steps
   judgement_visible r = (
-    λ e. (judged_is L laws g q range starts is_visible_lem r).0 (is_visible_with (judged L g q r) _ e),
-    λ w. rw ((judged_is L laws g q range starts is_visible_lem r).1 w),
+    λ e. (judged_is L laws g q range starts is_visible r).0 (is_visible_with (judged L g q r) _ e),
+    λ w. rw ((judged_is L laws g q range starts is_visible r).1 w),
   )
 
-  pub judgement_unreached : (r : PathRow L) → (judgement L g q r ≡ as-unreached) ↔ (¬ (Reached L g q r.path × MarkDeclared L g q r))
+  pub judgement_unreached : (r : PathRow L) → (judgement L g q r ≡ as_unreached) ↔ (¬ (Reached L g q r.path × MarkDeclared L g q r))
   unfolding judgement with_steps
   judgement_unreached r = (
-    λ e. (judged_is L laws g q range starts is-unreached r).0 (is_unreached_with (judged L g q r) _ e),
-    λ w. rw ((judged_is L laws g q range starts is-unreached r).1 w),
+    λ e. (judged_is L laws g q range starts is_unreached r).0 (is_unreached_with (judged L g q r) _ e),
+    λ w. rw ((judged_is L laws g q range starts is_unreached r).1 w),
   )
 
   pub judgement_shadowed : (r : PathRow L) (n : ℕ)
@@ -248,11 +248,11 @@ module _ (L : Language) (laws : Laws L) (g : Graph L) (q : Query L) (range : InR
   judgement_shadowed r n = (
     λ e.
         let s = is_shadowed_with (judged L g q r) (caught L g q r.path) n e in
-        let j = (judged_is L laws g q range starts is-shadowed r).0 s.0 in
+        let j = (judged_is L laws g q range starts is_shadowed r).0 s.0 in
         ((shadowed_with r.path n).1 (j.0, s.1), j.1),
     λ w.
         let s = (shadowed_with r.path n).0 w.0 in
-        rw ((judged_is L laws g q range starts is-shadowed r).1 (s.0, w.1), s.1),
+        rw ((judged_is L laws g q range starts is_shadowed r).1 (s.0, w.1), s.1),
   )
 
 pub agree_promises : AgreePromises
@@ -260,10 +260,10 @@ agree_promises = record {
   language = λ r a b t e. (λ i. record { label = e i; turn = t e i });
   paths = paths_agree;
   query = λ L g opens q ok one. record {
-    one_step = step_whole L ok.laws g ok.in_range_lem one;
-    shadowed_with = shadowed_with L ok.laws g q ok.in_range_lem ok.starts;
-    visible = judgement_visible L ok.laws g q ok.in_range_lem ok.starts;
-    shadowed = judgement_shadowed L ok.laws g q ok.in_range_lem ok.starts;
-    unreached = judgement_unreached L ok.laws g q ok.in_range_lem ok.starts;
+    one_step = step_whole L ok.laws g ok.in_range one;
+    shadowed_with = shadowed_with L ok.laws g q ok.in_range ok.starts;
+    visible = judgement_visible L ok.laws g q ok.in_range ok.starts;
+    shadowed = judgement_shadowed L ok.laws g q ok.in_range ok.starts;
+    unreached = judgement_unreached L ok.laws g q ok.in_range ok.starts;
   };
 }

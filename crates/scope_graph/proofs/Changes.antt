@@ -230,7 +230,7 @@ module _ (L : Language) (laws : Laws L) (q : Query L) where
           to_h r en = record {
             visible = uncut_visible h r.path (reached_kept L Allowed g h ext q r.path en.visible.reached)
                 (λ t k m.
-                let d = down h ext.in_range_lem h_starts t k in
+                let d = down h ext.in_range h_starts t k in
                 let shown = all _ (entry_of h d.hops d.visible) in
                 visible_uncut g r.path en.visible d.hops shown.0
                 (⊎_elim (λ e. rw e m) (λ w. preferred_transitive L laws d.hops t r.path.hops w m) d.which));
@@ -247,7 +247,7 @@ module _ (L : Language) (laws : Laws L) (q : Query L) where
         -- an extension shows the same, or may add at a followed place
         pub same_or_followed : SameEntries L q g h ⊎ Place
         same_or_followed =
-            let list = entry_list h ext.in_range_lem h_starts in
+            let list = entry_list h ext.in_range h_starts in
             ⊎_elim
             (λ all. inl (λ r.
             let every : (r : PathRow L) → Entry L h q r → InG r = λ p en. all p ((list.1 p).1 en) in

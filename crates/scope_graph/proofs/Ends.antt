@@ -10,7 +10,7 @@ use Rattle.scope_graph.specs.Language.{◌∈◌, End, stop, by, Language, Laws}
 use Rattle.scope_graph.specs.Graph.{Declaration, Graph, InRange, Query, Admits}
 use Rattle.scope_graph.specs.Path.{Path, PathRow, last_from, row_declaration, Declares, Reached, Visible, Entry}
 use Rattle.scope_graph.specs.Followed.{Followed, FollowedAt}
-use Rattle.scope_graph.specs.Computed.{Found, found_none, found-one, found-several, marks_at, declares_any, followed_at, found}
+use Rattle.scope_graph.specs.Computed.{Found, found_none, found_one, found_several, marks_at, declares_any, followed_at, found}
 use Rattle.scope_graph.specs.Listing.{Pairwise, MarkBefore, FoundIs}
 use Rattle.scope_graph.specs.Ends.{has_second, found_among, ends_at, several_marks}
 use Rattle.scope_graph.proofs.Lists.{here, there, true_false, and_left, and_right, and_both}
@@ -134,7 +134,7 @@ module _ (L : Language) (laws : Laws L) (g : Graph L) (q : Query L) where
       told : (n : ℕ) → g.scopes ≤ n → (f : Found) → Among (ends_at L g q) (several_marks L g q) n f → FoundIs L g q f
       unfolding several_marks
       told n h found_none a = λ r e. true_false (entry_ends r e) (a _ (omega (arith, entry_below r e)))
-      told n h found-one a =
+      told n h found_one a =
           let d = end_mark a.0 a.2 in
           let r = ends_entry a.0 d.0 a.2 d.1 in
           (r.0, r.1, λ p e. same p e (a.4 _ (omega (arith, entry_below p e)) (entry_ends p e)) d.0 d.1 ∙ sym r.2)
@@ -145,12 +145,12 @@ module _ (L : Language) (laws : Laws L) (g : Graph L) (q : Query L) where
               let mine = marks_intro L laws g a.0 q.name (rw z at e.declared) in
               let k = second_none _ p.mark m a.3 mine (marks_intro L laws g a.0 q.name d) in
               rw (z, k)
-      told n h found-several (inl a) =
+      told n h found_several (inl a) =
           let k = second_elim (marks_at L g.declarations a.0 q.name) (marks_up a.0) a.3 in
           let r = ends_entry a.0 k.0 a.2 (marks_elim L laws g a.0 q.name k.2) in
           let p = ends_entry a.0 k.1 a.2 (marks_elim L laws g a.0 q.name k.3) in
           (r.0, p.0, r.1, p.1, λ e. let z : k.0 ≡ k.1 = ap (λ d. d.mark) (sym r.2 ∙ e ∙ p.2) in omega (arith, k.4))
-      told n h found-several (inr a) =
+      told n h found_several (inr a) =
           let d = end_mark a.0 a.4 in
           let c = end_mark a.1 a.5 in
           let r = ends_entry a.0 d.0 a.4 d.1 in

@@ -10,7 +10,7 @@ use mathlib.Core.List.{List, [], ◌∷◌}
 use Rattle.scope_graph.specs.Language.{◌∈◌, stop, Language, Laws}
 use Rattle.scope_graph.specs.Graph.{Graph, InRange, Query}
 use Rattle.scope_graph.specs.Path.{Path, PathRow, last_from, Declares, MoreSpecific, Reached, Visible, Shadowed, Unreached, MarkDeclared, Entry}
-use Rattle.scope_graph.specs.Computed.{keep, Node, reached_nodes, cut, rows_at, entries, Standing, is_visible_lem, is-shadowed, is-unreached, is_reached, standing, marks_at, judged}
+use Rattle.scope_graph.specs.Computed.{keep, Node, reached_nodes, cut, rows_at, entries, Standing, is_visible, is_shadowed, is_unreached, is_reached, standing, marks_at, judged}
 use Rattle.scope_graph.specs.Listing.{Pairwise, EdgeBefore, MarkBefore, RowBefore}
 use Rattle.scope_graph.proofs.Lists.{Two, not_true, true_false, not_is, is_not, keep_intro, keep_elim, flat_map_intro, flat_map_elim}
 use Rattle.scope_graph.proofs.Nodes.{nodes_sound}
@@ -52,9 +52,9 @@ module _ (L : Language) (laws : Laws L) (g : Graph L) (q : Query L) (range : InR
 
   -- what a standing says of a path
   abbrev Stands : Standing → Path L → Type 0
-  Stands is_visible_lem p = Visible L g q p
-  Stands is-shadowed p = Shadowed L g q p
-  Stands is-unreached p = Unreached L g q p
+  Stands is_visible p = Visible L g q p
+  Stands is_shadowed p = Shadowed L g q p
+  Stands is_unreached p = Unreached L g q p
 
   -- the computed one holds, and no two do
   stands : (p : Path L) → Stands (standing L g q p) p
@@ -63,35 +63,35 @@ module _ (L : Language) (laws : Laws L) (g : Graph L) (q : Query L) (range : InR
     where
       reach : (b : Bool) → is_reached L g q p ≡ b → (c : Bool) → cut L g q p.hops stop ≡ c
           → Stands (elim b as (λ _. Standing) [
-            | false ↦ is-unreached
-            | true ↦ elim c as (λ _. Standing) [ true ↦ is-shadowed | false ↦ is_visible_lem ]
+            | false ↦ is_unreached
+            | true ↦ elim c as (λ _. Standing) [ true ↦ is_shadowed | false ↦ is_visible ]
           ]) p
       reach false e c f = λ w. true_false ((reached_is p).1 w) e
       reach true e true f = hidden p ((reached_is p).0 e) f
       reach true e false f = seen p ((reached_is p).0 e) f
 
   one_stands : (s t : Standing) (p : Path L) → Stands s p → Stands t p → s ≡ t
-  one_stands is_visible_lem is_visible_lem p a b = refl
-  one_stands is_visible_lem is-shadowed p a b = absurd (b.shadowed a.unshadowed)
-  one_stands is_visible_lem is-unreached p a b = absurd (b a.reached)
-  one_stands is-shadowed is_visible_lem p a b = absurd (a.shadowed b.unshadowed)
-  one_stands is-shadowed is-shadowed p a b = refl
-  one_stands is-shadowed is-unreached p a b = absurd (b a.reached)
-  one_stands is-unreached is_visible_lem p a b = absurd (a b.reached)
-  one_stands is-unreached is-shadowed p a b = absurd (a b.reached)
-  one_stands is-unreached is-unreached p a b = refl
+  one_stands is_visible is_visible p a b = refl
+  one_stands is_visible is_shadowed p a b = absurd (b.shadowed a.unshadowed)
+  one_stands is_visible is_unreached p a b = absurd (b a.reached)
+  one_stands is_shadowed is_visible p a b = absurd (a.shadowed b.unshadowed)
+  one_stands is_shadowed is_shadowed p a b = refl
+  one_stands is_shadowed is_unreached p a b = absurd (b a.reached)
+  one_stands is_unreached is_visible p a b = absurd (a b.reached)
+  one_stands is_unreached is_shadowed p a b = absurd (a b.reached)
+  one_stands is_unreached is_unreached p a b = refl
 
   standing_is : (s : Standing) (p : Path L) → (standing L g q p ≡ s) ↔ Stands s p
   standing_is s p = (λ e. subst (λ t. Stands t p) e (stands p), one_stands (standing L g q p) s p (stands p))
 
-  pub visible : (p : Path L) → (standing L g q p ≡ is_visible_lem) ↔ Visible L g q p
-  visible = standing_is is_visible_lem
+  pub visible : (p : Path L) → (standing L g q p ≡ is_visible) ↔ Visible L g q p
+  visible = standing_is is_visible
 
-  pub shadowed : (p : Path L) → (standing L g q p ≡ is-shadowed) ↔ Shadowed L g q p
-  shadowed = standing_is is-shadowed
+  pub shadowed : (p : Path L) → (standing L g q p ≡ is_shadowed) ↔ Shadowed L g q p
+  shadowed = standing_is is_shadowed
 
-  pub unreached : (p : Path L) → (standing L g q p ≡ is-unreached) ↔ Unreached L g q p
-  unreached = standing_is is-unreached
+  pub unreached : (p : Path L) → (standing L g q p ≡ is_unreached) ↔ Unreached L g q p
+  unreached = standing_is is_unreached
 
   pub shadowed_by : (p : Path L) → Shadowed L g q p → (r : Path L) × Reached L g q r × MoreSpecific L r p
   shadowed_by p s =
@@ -133,9 +133,9 @@ module _ (L : Language) (laws : Laws L) (g : Graph L) (q : Query L) (range : InR
 
   -- a path row's standing goes by its mark too
   abbrev Judged : Standing → PathRow L → Type 0
-  Judged is_visible_lem r = Entry L g q r
-  Judged is-shadowed r = Shadowed L g q r.path × MarkDeclared L g q r
-  Judged is-unreached r = ¬ (Reached L g q r.path × MarkDeclared L g q r)
+  Judged is_visible r = Entry L g q r
+  Judged is_shadowed r = Shadowed L g q r.path × MarkDeclared L g q r
+  Judged is_unreached r = ¬ (Reached L g q r.path × MarkDeclared L g q r)
 
   judged_holds : (r : PathRow L) → Judged (judged L g q r) r
   unfolding judged
@@ -144,22 +144,22 @@ module _ (L : Language) (laws : Laws L) (g : Graph L) (q : Query L) (range : InR
       (standing L g q r.path) (stands r.path)
     where
       by_mark : (b : Bool) → any_of (eqb r.mark) (marks_at L g.declarations (last_from r.path.start r.path.hops) q.name) ≡ b
-          → (s : Standing) → Stands s r.path → Judged (elim b as (λ _. Standing) [ false ↦ is-unreached | true ↦ s ]) r
+          → (s : Standing) → Stands s r.path → Judged (elim b as (λ _. Standing) [ false ↦ is_unreached | true ↦ s ]) r
       by_mark false e s w = λ k. true_false (in_test _ _ (marks_intro L laws g _ _ k.1)) e
-      by_mark true e is_visible_lem w = record { visible = w; declared = marks_elim L laws g _ _ (in_true _ _ e) }
-      by_mark true e is-shadowed w = (w, marks_elim L laws g _ _ (in_true _ _ e))
-      by_mark true e is-unreached w = λ k. w k.0
+      by_mark true e is_visible w = record { visible = w; declared = marks_elim L laws g _ _ (in_true _ _ e) }
+      by_mark true e is_shadowed w = (w, marks_elim L laws g _ _ (in_true _ _ e))
+      by_mark true e is_unreached w = λ k. w k.0
 
   one_judged : (s t : Standing) (r : PathRow L) → Judged s r → Judged t r → s ≡ t
-  one_judged is_visible_lem is_visible_lem r a b = refl
-  one_judged is_visible_lem is-shadowed r a b = absurd (b.0.shadowed a.visible.unshadowed)
-  one_judged is_visible_lem is-unreached r a b = absurd (b (a.visible.reached, a.declared))
-  one_judged is-shadowed is_visible_lem r a b = absurd (a.0.shadowed b.visible.unshadowed)
-  one_judged is-shadowed is-shadowed r a b = refl
-  one_judged is-shadowed is-unreached r a b = absurd (b (a.0.reached, a.1))
-  one_judged is-unreached is_visible_lem r a b = absurd (a (b.visible.reached, b.declared))
-  one_judged is-unreached is-shadowed r a b = absurd (a (b.0.reached, b.1))
-  one_judged is-unreached is-unreached r a b = refl
+  one_judged is_visible is_visible r a b = refl
+  one_judged is_visible is_shadowed r a b = absurd (b.0.shadowed a.visible.unshadowed)
+  one_judged is_visible is_unreached r a b = absurd (b (a.visible.reached, a.declared))
+  one_judged is_shadowed is_visible r a b = absurd (a.0.shadowed b.visible.unshadowed)
+  one_judged is_shadowed is_shadowed r a b = refl
+  one_judged is_shadowed is_unreached r a b = absurd (b (a.0.reached, a.1))
+  one_judged is_unreached is_visible r a b = absurd (a (b.visible.reached, b.declared))
+  one_judged is_unreached is_shadowed r a b = absurd (a (b.0.reached, b.1))
+  one_judged is_unreached is_unreached r a b = refl
 
   pub judged_is : (s : Standing) (r : PathRow L) → (judged L g q r ≡ s) ↔ Judged s r
   judged_is s r = (λ e. subst (λ t. Judged t r) e (judged_holds r), one_judged (judged L g q r) s r (judged_holds r))

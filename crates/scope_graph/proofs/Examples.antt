@@ -10,7 +10,7 @@ use Rattle.scope_graph.specs.Graph.{Graph, Query, OpenPair}
 use Rattle.scope_graph.specs.Path.{Hop, PathRow}
 use Rattle.scope_graph.specs.Turns.{same_turn, same_turned, later, later_step, above_one, above}
 use Rattle.scope_graph.specs.Rows.{OrderPair, Transition, PackedName, Rules, same_end, same_name, any_of, preferred_by, next_by, language}
-use Rattle.scope_graph.specs.Computed.{keep, first_of, any_below, Found, found_none, found-one, found-several, same_declaration, found_of, Standing, is_visible_lem, is-shadowed, is-unreached, hops_at, marks_at, declares_any, behind, hop_on, nodes_from, leads_on, usable, same_hop, same_hops, preferred_to, more_specific, nodes, reached_nodes, cut, rows_at, entries, found, is_reached, standing, judged, open_end, followed_at, awaits}
+use Rattle.scope_graph.specs.Computed.{keep, first_of, any_below, Found, found_none, found_one, found_several, same_declaration, found_of, Standing, is_visible, is_shadowed, is_unreached, hops_at, marks_at, declares_any, behind, hop_on, nodes_from, leads_on, usable, same_hop, same_hops, preferred_to, more_specific, nodes, reached_nodes, cut, rows_at, entries, found, is_reached, standing, judged, open_end, followed_at, awaits}
 use Rattle.scope_graph.specs.Ends.{ends_at}
 use Rattle.scope_graph.specs.Own.{all_of, is_one, is_none, meet, has_own, keeps_own}
 
@@ -109,62 +109,62 @@ edges = (1, P, 0) ∷ (2, I, 4) ∷ (2, P, 1) ∷ (3, P, 1) ∷ []
 abbrev example : Graph (language gym)
 example = graph gym 5 edges ((0, hours, 5) ∷ (1, service, 10) ∷ (2, service, 21) ∷ (4, hours, 40) ∷ [])
 
-M1 : Shows gym example ((3, stop) ∷ []) (2, service) ((21, 2, []) ∷ []) found-one none
+M1 : Shows gym example ((3, stop) ∷ []) (2, service) ((21, 2, []) ∷ []) found_one none
 unfolding computed
 M1 = (refl, refl, refl)
 
-M2 : Shows gym example ((3, stop) ∷ []) (3, service) ((10, 3, (P, 1) ∷ []) ∷ []) found-one (some (3, stop))
+M2 : Shows gym example ((3, stop) ∷ []) (3, service) ((10, 3, (P, 1) ∷ []) ∷ []) found_one (some (3, stop))
 unfolding computed
 M2 = (refl, refl, refl)
 
-M3 : Shows gym example ((3, stop) ∷ []) (2, hours) ((40, 2, (I, 4) ∷ []) ∷ []) found-one none
+M3 : Shows gym example ((3, stop) ∷ []) (2, hours) ((40, 2, (I, 4) ∷ []) ∷ []) found_one none
 unfolding computed
 M3 = (refl, refl, refl)
 
-M4 : Shows gym example [] (3, service) ((10, 3, (P, 1) ∷ []) ∷ []) found-one none
+M4 : Shows gym example [] (3, service) ((10, 3, (P, 1) ∷ []) ∷ []) found_one none
 unfolding computed
 M4 = (refl, refl, refl)
 
-M5 : Shows gym example ((1, stop) ∷ []) (3, service) ((10, 3, (P, 1) ∷ []) ∷ []) found-one (some (1, stop))
+M5 : Shows gym example ((1, stop) ∷ []) (3, service) ((10, 3, (P, 1) ∷ []) ∷ []) found_one (some (1, stop))
 unfolding computed
 M5 = (refl, refl, refl)
 
 -- `2 service` is found at its start, so nothing behind the edge to 1 matters
-M5_start : Shows gym example ((1, stop) ∷ []) (2, service) ((21, 2, []) ∷ []) found-one none
+M5_start : Shows gym example ((1, stop) ∷ []) (2, service) ((21, 2, []) ∷ []) found_one none
 unfolding computed
 M5_start = (refl, refl, refl)
 
-M6 : Shows gym example ((2, by P) ∷ []) (2, hours) ((40, 2, (I, 4) ∷ []) ∷ []) found-one none
+M6 : Shows gym example ((2, by P) ∷ []) (2, hours) ((40, 2, (I, 4) ∷ []) ∷ []) found_one none
 unfolding computed
 M6 = (refl, refl, refl)
 
-M7 : Shows gym example ((2, by I) ∷ []) (2, hours) ((40, 2, (I, 4) ∷ []) ∷ []) found-one (some (2, by I))
+M7 : Shows gym example ((2, by I) ∷ []) (2, hours) ((40, 2, (I, 4) ∷ []) ∷ []) found_one (some (2, by I))
 unfolding computed
 M7 = (refl, refl, refl)
 
 abbrev two_marks : Graph (language gym)
 two_marks = graph gym 5 edges ((0, hours, 5) ∷ (1, service, 10) ∷ (2, service, 21) ∷ (4, hours, 40) ∷ (4, hours, 41) ∷ [])
 
-M8 : Shows gym two_marks ((3, stop) ∷ []) (2, hours) ((40, 2, (I, 4) ∷ []) ∷ (41, 2, (I, 4) ∷ []) ∷ []) found-several none
+M8 : Shows gym two_marks ((3, stop) ∷ []) (2, hours) ((40, 2, (I, 4) ∷ []) ∷ (41, 2, (I, 4) ∷ []) ∷ []) found_several none
 unfolding computed
 M8 = (refl, refl, refl)
 
 abbrev turned : Graph (language gym)
 turned = graph gym 5 ((0, P, 2) ∷ edges) ((0, hours, 5) ∷ (1, service, 10) ∷ (2, service, 21) ∷ (4, hours, 40) ∷ [])
 
-M9 : Shows gym turned ((3, stop) ∷ []) (0, service) ((21, 0, (P, 2) ∷ []) ∷ []) found-one none
+M9 : Shows gym turned ((3, stop) ∷ []) (0, service) ((21, 0, (P, 2) ∷ []) ∷ []) found_one none
 unfolding computed
 M9 = (refl, refl, refl)
 
-M10_shadowed : Stands gym example (2, service) (10, 2, (P, 1) ∷ []) is-shadowed
+M10_shadowed : Stands gym example (2, service) (10, 2, (P, 1) ∷ []) is_shadowed
 unfolding computed
 M10_shadowed = (refl, refl)
 
-M10_visible : Stands gym example (2, service) (21, 2, []) is_visible_lem
+M10_visible : Stands gym example (2, service) (21, 2, []) is_visible
 unfolding computed
 M10_visible = (refl, refl)
 
-M10_unreached : Stands gym example (2, service) (5, 2, (P, 1) ∷ (P, 0) ∷ []) is-unreached
+M10_unreached : Stands gym example (2, service) (5, 2, (P, 1) ∷ (P, 0) ∷ []) is_unreached
 unfolding computed
 M10_unreached = (refl, refl)
 
@@ -173,12 +173,12 @@ M10_unreached = (refl, refl)
 abbrev imports : Graph (language gym)
 imports = graph gym 3 ((0, I, 1) ∷ (1, I, 0) ∷ (1, I, 1) ∷ (1, I, 2) ∷ []) ((0, hours, 4) ∷ (2, hours, 9) ∷ [])
 
-cycle : Shows gym imports [] (1, hours) ((4, 1, (I, 0) ∷ []) ∷ (9, 1, (I, 2) ∷ []) ∷ []) found-several none
+cycle : Shows gym imports [] (1, hours) ((4, 1, (I, 0) ∷ []) ∷ (9, 1, (I, 2) ∷ []) ∷ []) found_several none
 unfolding computed
 cycle = (refl, refl, refl)
 
 -- no path goes along the self_edge
-self_edge : Stands gym imports (1, hours) (9, 1, (I, 1) ∷ (I, 2) ∷ []) is-unreached
+self_edge : Stands gym imports (1, hours) (9, 1, (I, 1) ∷ (I, 2) ∷ []) is_unreached
 unfolding computed
 self_edge = (refl, refl)
 
@@ -187,19 +187,19 @@ self_edge = (refl, refl)
 abbrev diamond : Graph (language gym)
 diamond = graph gym 4 ((0, P, 1) ∷ (0, P, 2) ∷ (1, P, 3) ∷ (2, P, 3) ∷ []) ((3, hours, 5) ∷ [])
 
-two_routes : Shows gym diamond ((3, stop) ∷ []) (0, hours) ((5, 0, (P, 1) ∷ (P, 3) ∷ []) ∷ (5, 0, (P, 2) ∷ (P, 3) ∷ []) ∷ []) found-one (some (3, stop))
+two_routes : Shows gym diamond ((3, stop) ∷ []) (0, hours) ((5, 0, (P, 1) ∷ (P, 3) ∷ []) ∷ (5, 0, (P, 2) ∷ (P, 3) ∷ []) ∷ []) found_one (some (3, stop))
 unfolding computed
 two_routes = (refl, refl, refl)
 
 -- A second mark there is a second declaration, seen along both routes.
 two_routes_two_marks : Shows gym (graph gym 4 ((0, P, 1) ∷ (0, P, 2) ∷ (1, P, 3) ∷ (2, P, 3) ∷ []) ((3, hours, 5) ∷ (3, hours, 6) ∷ [])) [] (0, hours)
-    ((5, 0, (P, 1) ∷ (P, 3) ∷ []) ∷ (6, 0, (P, 1) ∷ (P, 3) ∷ []) ∷ (5, 0, (P, 2) ∷ (P, 3) ∷ []) ∷ (6, 0, (P, 2) ∷ (P, 3) ∷ []) ∷ []) found-several none
+    ((5, 0, (P, 1) ∷ (P, 3) ∷ []) ∷ (6, 0, (P, 1) ∷ (P, 3) ∷ []) ∷ (5, 0, (P, 2) ∷ (P, 3) ∷ []) ∷ (6, 0, (P, 2) ∷ (P, 3) ∷ []) ∷ []) found_several none
 unfolding computed
 two_routes_two_marks = (refl, refl, refl)
 
 -- Two scopes with equal marks are two declarations.
 equal_marks : Shows gym (graph gym 3 ((0, P, 1) ∷ (0, P, 2) ∷ []) ((1, hours, 5) ∷ (2, hours, 5) ∷ [])) [] (0, hours)
-    ((5, 0, (P, 1) ∷ []) ∷ (5, 0, (P, 2) ∷ []) ∷ []) found-several none
+    ((5, 0, (P, 1) ∷ []) ∷ (5, 0, (P, 2) ∷ []) ∷ []) found_several none
 unfolding computed
 equal_marks = (refl, refl, refl)
 
@@ -214,19 +214,19 @@ unordered = record {
 }
 
 no_preference : Shows unordered (graph unordered 3 ((0, I, 1) ∷ (0, P, 2) ∷ []) ((1, hours, 1) ∷ (2, hours, 2) ∷ [])) [] (0, hours)
-    ((1, 0, (I, 1) ∷ []) ∷ (2, 0, (P, 2) ∷ []) ∷ []) found-several none
+    ((1, 0, (I, 1) ∷ []) ∷ (2, 0, (P, 2) ∷ []) ∷ []) found_several none
 unfolding computed
 no_preference = (refl, refl, refl)
 
 -- The import already reaches hours, so nothing that comes behind the parent matters, neither there
 -- nor further on.
-harmless : Shows gym example ((0, stop) ∷ (1, stop) ∷ (1, by I) ∷ (2, by P) ∷ []) (2, hours) ((40, 2, (I, 4) ∷ []) ∷ []) found-one none
+harmless : Shows gym example ((0, stop) ∷ (1, stop) ∷ (1, by I) ∷ (2, by P) ∷ []) (2, hours) ((40, 2, (I, 4) ∷ []) ∷ []) found_one none
 unfolding computed
 harmless = (refl, refl, refl)
 
 -- The import is there but reaches nothing, so it protects from nothing.
 no_protection : Shows gym (graph gym 3 ((0, I, 1) ∷ (0, P, 2) ∷ []) ((2, hours, 5) ∷ [])) ((0, by P) ∷ (2, stop) ∷ []) (0, hours)
-    ((5, 0, (P, 2) ∷ []) ∷ []) found-one (some (0, by P))
+    ((5, 0, (P, 2) ∷ []) ∷ []) found_one (some (0, by P))
 unfolding computed
 no_protection = (refl, refl, refl)
 
@@ -248,7 +248,7 @@ hope = (refl, refl, refl)
 abbrev eager : Rules
 eager = record { labels = 1; order = pair (by I) stop ∷ []; transitions = move 0 I 0 ∷ []; accept = 0 ∷ [] }
 
-longer_preferred : Shows eager (graph eager 2 ((0, I, 1) ∷ []) ((0, hours, 1) ∷ (1, hours, 2) ∷ [])) [] (0, hours) ((2, 0, (I, 1) ∷ []) ∷ []) found-one none
+longer_preferred : Shows eager (graph eager 2 ((0, I, 1) ∷ []) ((0, hours, 1) ∷ (1, hours, 2) ∷ [])) [] (0, hours) ((2, 0, (I, 1) ∷ []) ∷ []) found_one none
 unfolding computed
 longer_preferred = (refl, refl, refl)
 
@@ -256,13 +256,13 @@ longer_preferred = (refl, refl, refl)
 abbrev lax : Rules
 lax = record { labels = 1; order = []; transitions = move 0 I 0 ∷ []; accept = 0 ∷ [] }
 
-both_seen : Shows lax (graph lax 2 ((0, I, 1) ∷ []) ((0, hours, 1) ∷ (1, hours, 2) ∷ [])) [] (0, hours) ((1, 0, []) ∷ (2, 0, (I, 1) ∷ []) ∷ []) found-several none
+both_seen : Shows lax (graph lax 2 ((0, I, 1) ∷ []) ((0, hours, 1) ∷ (1, hours, 2) ∷ [])) [] (0, hours) ((1, 0, []) ∷ (2, 0, (I, 1) ∷ []) ∷ []) found_several none
 unfolding computed
 both_seen = (refl, refl, refl)
 
 -- After an import no parent may follow, so the path by 1 and 2 is not lawful and shadows nothing,
 -- though I is preferred.
-unlawful : Shows gym (graph gym 4 ((0, I, 1) ∷ (0, P, 3) ∷ (1, P, 2) ∷ []) ((2, hours, 6) ∷ (3, hours, 7) ∷ [])) [] (0, hours) ((7, 0, (P, 3) ∷ []) ∷ []) found-one none
+unlawful : Shows gym (graph gym 4 ((0, I, 1) ∷ (0, P, 3) ∷ (1, P, 2) ∷ []) ((2, hours, 6) ∷ (3, hours, 7) ∷ [])) [] (0, hours) ((7, 0, (P, 3) ∷ []) ∷ []) found_one none
 unfolding computed
 unlawful = (refl, refl, refl)
 
@@ -271,11 +271,11 @@ unlawful = (refl, refl, refl)
 abbrev unaccepted : Graph (language trap)
 unaccepted = graph trap 3 ((0, I, 1) ∷ (0, P, 2) ∷ []) ((1, hours, 6) ∷ (2, hours, 7) ∷ [])
 
-not_accepted : Shows trap unaccepted [] (0, hours) ((7, 0, (P, 2) ∷ []) ∷ []) found-one none
+not_accepted : Shows trap unaccepted [] (0, hours) ((7, 0, (P, 2) ∷ []) ∷ []) found_one none
 unfolding computed
 not_accepted = (refl, refl, refl)
 
-not_accepted_path : Stands trap unaccepted (0, hours) (6, 0, (I, 1) ∷ []) is-unreached
+not_accepted_path : Stands trap unaccepted (0, hours) (6, 0, (I, 1) ∷ []) is_unreached
 unfolding computed
 not_accepted_path = (refl, refl)
 
@@ -283,11 +283,11 @@ not_accepted_path = (refl, refl)
 abbrev two_kinds : Graph (language gym)
 two_kinds = graph gym 1 [] ((0, c_hours, 1) ∷ (0, hours, 2) ∷ [])
 
-kind_c : Shows gym two_kinds [] (0, c_hours) ((1, 0, []) ∷ []) found-one none
+kind_c : Shows gym two_kinds [] (0, c_hours) ((1, 0, []) ∷ []) found_one none
 unfolding computed
 kind_c = (refl, refl, refl)
 
-kind_v : Shows gym two_kinds [] (0, hours) ((2, 0, []) ∷ []) found-one none
+kind_v : Shows gym two_kinds [] (0, hours) ((2, 0, []) ∷ []) found_one none
 unfolding computed
 kind_v = (refl, refl, refl)
 
@@ -296,15 +296,15 @@ kind_v = (refl, refl, refl)
 abbrev other_kind_lem : Graph (language gym)
 other_kind_lem = graph gym 3 ((0, I, 1) ∷ (0, P, 2) ∷ []) ((1, c_hours, 6) ∷ (2, hours, 7) ∷ [])
 
-kinds_apart : Shows gym other_kind_lem ((1, stop) ∷ []) (0, hours) ((7, 0, (P, 2) ∷ []) ∷ []) found-one (some (1, stop))
+kinds_apart : Shows gym other_kind_lem ((1, stop) ∷ []) (0, hours) ((7, 0, (P, 2) ∷ []) ∷ []) found_one (some (1, stop))
 unfolding computed
 kinds_apart = (refl, refl, refl)
 
-kinds_apart_import : Shows gym other_kind_lem ((2, stop) ∷ []) (0, c_hours) ((6, 0, (I, 1) ∷ []) ∷ []) found-one none
+kinds_apart_import : Shows gym other_kind_lem ((2, stop) ∷ []) (0, c_hours) ((6, 0, (I, 1) ∷ []) ∷ []) found_one none
 unfolding computed
 kinds_apart_import = (refl, refl, refl)
 
-any_kind : Shows gym other_kind_lem ((1, stop) ∷ []) (0, c_hours) ((6, 0, (I, 1) ∷ []) ∷ []) found-one (some (1, stop))
+any_kind : Shows gym other_kind_lem ((1, stop) ∷ []) (0, c_hours) ((6, 0, (I, 1) ∷ []) ∷ []) found_one (some (1, stop))
 unfolding computed
 any_kind = (refl, refl, refl)
 
@@ -323,38 +323,38 @@ comparing = (refl, refl, refl, refl, refl)
 abbrev two_imports : Graph (language gym)
 two_imports = turned_graph gym 3 ((0, I, 3, 2) ∷ (0, I, 7, 1) ∷ []) ((1, hours, 5) ∷ (2, hours, 6) ∷ [])
 
-later_wins : ShowsTurned gym two_imports [] (0, hours) ((5, 0, (I, 7, 1) ∷ []) ∷ []) found-one none
+later_wins : ShowsTurned gym two_imports [] (0, hours) ((5, 0, (I, 7, 1) ∷ []) ∷ []) found_one none
 unfolding computed
 later_wins = (refl, refl, refl)
 
-earlier_shadowed : judged (language gym) two_imports (query gym (0, hours)) (turned_row gym (6, 0, (I, 3, 2) ∷ [])) ≡ is-shadowed
+earlier_shadowed : judged (language gym) two_imports (query gym (0, hours)) (turned_row gym (6, 0, (I, 3, 2) ∷ [])) ≡ is_shadowed
 unfolding computed
 earlier_shadowed = refl
 
 -- Yet an import row does not settle an open place for imports at its scope: one that comes may have
 -- a higher turn still. After the earlier import nothing matters.
-later_still : ShowsTurned gym two_imports ((0, by I) ∷ []) (0, hours) ((5, 0, (I, 7, 1) ∷ []) ∷ []) found-one (some (0, by I))
+later_still : ShowsTurned gym two_imports ((0, by I) ∷ []) (0, hours) ((5, 0, (I, 7, 1) ∷ []) ∷ []) found_one (some (0, by I))
 unfolding computed
 later_still = (refl, refl, refl)
 
-behind_earlier : ShowsTurned gym two_imports ((2, stop) ∷ []) (0, hours) ((5, 0, (I, 7, 1) ∷ []) ∷ []) found-one none
+behind_earlier : ShowsTurned gym two_imports ((2, stop) ∷ []) (0, hours) ((5, 0, (I, 7, 1) ∷ []) ∷ []) found_one none
 unfolding computed
 behind_earlier = (refl, refl, refl)
 
 -- A later import that reaches nothing shadows nothing; imports of one turn clash.
 later_empty : ShowsTurned gym (turned_graph gym 3 ((0, I, 3, 2) ∷ (0, I, 7, 1) ∷ []) ((2, hours, 6) ∷ [])) [] (0, hours)
-    ((6, 0, (I, 3, 2) ∷ []) ∷ []) found-one none
+    ((6, 0, (I, 3, 2) ∷ []) ∷ []) found_one none
 unfolding computed
 later_empty = (refl, refl, refl)
 
 one_turn : ShowsTurned gym (turned_graph gym 3 ((0, I, 7, 1) ∷ (0, I, 7, 2) ∷ []) ((1, hours, 5) ∷ (2, hours, 6) ∷ [])) [] (0, hours)
-    ((5, 0, (I, 7, 1) ∷ []) ∷ (6, 0, (I, 7, 2) ∷ []) ∷ []) found-several none
+    ((5, 0, (I, 7, 1) ∷ []) ∷ (6, 0, (I, 7, 2) ∷ []) ∷ []) found_several none
 unfolding computed
 one_turn = (refl, refl, refl)
 
 -- Labels compare as before, whatever the turns.
 labels_first : ShowsTurned gym (turned_graph gym 3 ((0, I, 0, 1) ∷ (0, P, 9, 2) ∷ []) ((1, hours, 5) ∷ (2, hours, 6) ∷ [])) [] (0, hours)
-    ((5, 0, (I, 0, 1) ∷ []) ∷ []) found-one none
+    ((5, 0, (I, 0, 1) ∷ []) ∷ []) found_one none
 unfolding computed
 labels_first = (refl, refl, refl)
 

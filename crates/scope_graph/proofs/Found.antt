@@ -11,7 +11,7 @@ use Rattle.scope_graph.specs.Language.{◌∈◌, Language, Laws}
 use Rattle.scope_graph.specs.Graph.{Declaration, Graph, InRange, Query}
 use Rattle.scope_graph.specs.Path.{PathRow, row_declaration, Entry}
 use Rattle.scope_graph.specs.Rows.{any_of}
-use Rattle.scope_graph.specs.Computed.{Found, found_none, found-one, found-several, same_declaration, found_of, entries, found}
+use Rattle.scope_graph.specs.Computed.{Found, found_none, found_one, found_several, same_declaration, found_of, entries, found}
 use Rattle.scope_graph.specs.Listing.{FoundIs}
 use Rattle.scope_graph.proofs.Lists.{here, there, true_false, not_is, and_left, and_right, and_both, any_of_elim, any_of_none, map_intro, map_elim}
 use Rattle.scope_graph.proofs.Entries.{entries_are}
@@ -40,14 +40,14 @@ module _ (L : Language) (laws : Laws L) where
     -- at most one value of `found` holds
     pub one_found : (f h : Found) → FoundIs L g q f → FoundIs L g q h → f ≡ h
     one_found found_none found_none a b = refl
-    one_found found_none found-one a b = absurd (a b.0 b.1)
-    one_found found_none found-several a b = absurd (a b.0 b.2)
-    one_found found-one found_none a b = absurd (b a.0 a.1)
-    one_found found-one found-one a b = refl
-    one_found found-one found-several a b = absurd (b.4 (a.2 b.0 b.2 ∙ sym (a.2 b.1 b.3)))
-    one_found found-several found_none a b = absurd (b a.0 a.2)
-    one_found found-several found-one a b = absurd (a.4 (b.2 a.0 a.2 ∙ sym (b.2 a.1 a.3)))
-    one_found found-several found-several a b = refl
+    one_found found_none found_one a b = absurd (a b.0 b.1)
+    one_found found_none found_several a b = absurd (a b.0 b.2)
+    one_found found_one found_none a b = absurd (b a.0 a.1)
+    one_found found_one found_one a b = refl
+    one_found found_one found_several a b = absurd (b.4 (a.2 b.0 b.2 ∙ sym (a.2 b.1 b.3)))
+    one_found found_several found_none a b = absurd (b a.0 a.2)
+    one_found found_several found_one a b = absurd (a.4 (b.2 a.0 a.2 ∙ sym (b.2 a.1 a.3)))
+    one_found found_several found_several a b = refl
 
     module _ (range : InRange L g) (starts : q.start < g.scopes) where
       abbrev decl : PathRow L → Declaration L
@@ -60,7 +60,7 @@ module _ (L : Language) (laws : Laws L) where
       -- all entries are held against the first
       held : (x : PathRow L) (es : List (PathRow L)) → ((r : PathRow L) → (r ∈ (x ∷ es)) ↔ Entry L g q r) → (b : Bool)
           → any_of (other (decl x)) (map decl es) ≡ b
-          → FoundIs L g q (elim b as (λ _. Found) [ true ↦ found-several | false ↦ found-one ])
+          → FoundIs L g q (elim b as (λ _. Found) [ true ↦ found_several | false ↦ found_one ])
       held x es are true t =
           let k = any_of_elim (other (decl x)) (map decl es) t in
           let p = map_elim decl es k.1 in

@@ -15,7 +15,7 @@ use Rattle.scope_graph.specs.Language.{◌∈◌, End, Language, Laws}
 use Rattle.scope_graph.specs.Graph.{Edge, Declaration, Graph, InRange, Query, OpenPair}
 use Rattle.scope_graph.specs.Path.{Hop, PathRow, last_from, Along, Declares, Reached, row_declaration}
 use Rattle.scope_graph.specs.Completion.{Extension, AtOne, Decisive, Settled}
-use Rattle.scope_graph.specs.Computed.{Found, found_none, found-one, found-several, marks_at, found, awaits}
+use Rattle.scope_graph.specs.Computed.{Found, found_none, found_one, found_several, marks_at, found, awaits}
 use Rattle.scope_graph.specs.Listing.{Accepted, FoundIs}
 use Rattle.scope_graph.specs.Ends.{has_second, ends_at, several_marks}
 use Rattle.scope_graph.specs.Own.{all_of, is_one, is_none, asked, Share, OwnAlways, OwnNow, OwnTold, meet, has_own, keeps_own, OwnPromises, Owns}
@@ -39,7 +39,7 @@ module _ (L : Language) where
     declarations_kept = λ d m. m;
     new_edge = λ e m. inl m;
     new_declaration = λ d m. inl m;
-    in_range_lem = range;
+    in_range = range;
   }
 
   -- where each edge is g's or comes to a new scope, a path is g's or ends at a new scope
@@ -69,7 +69,7 @@ module _ (L : Language) where
     twice_range : InRange L twice
     unfolding twice second
     twice_range =
-        let r = w.extends.in_range_lem in
+        let r = w.extends.in_range in
         record {
           from_scope = r.from_scope;
           to_scope = r.to_scope;
@@ -95,7 +95,7 @@ module _ (L : Language) where
               (λ e. let k : d.at ≡ w.place = ap (λ (z : Declaration L). z.at) e in
               rw k (⊎_elim (λ o. absurd (w.new o)) inr (x.new_declaration _ first_in)))
               (λ k. x.new_declaration d k) (Memᴰ.cases_cons m);
-          in_range_lem = twice_range;
+          in_range = twice_range;
         }
 
     -- the graph with the one is extended by the second
@@ -107,7 +107,7 @@ module _ (L : Language) where
       declarations_kept = λ d m. there m;
       new_edge = λ e m. inl m;
       new_declaration = λ d m. inr (inr tt);
-      in_range_lem = twice_range;
+      in_range = twice_range;
     }
 
     -- what is declared there of the name stands at the place, or in g
@@ -136,7 +136,7 @@ module _ (L : Language) where
         (old_or_new g twice range w.edges q.start p r.path.along))
         (placed (last_from q.start p) r.mark r.declared)
 
-    twice_several : ¬ FoundIs L twice q found-one
+    twice_several : ¬ FoundIs L twice q found_one
     unfolding twice second
     twice_several one = omega (arith, ap (λ (z : Declaration L). z.mark) both)
       where
@@ -183,11 +183,11 @@ module _ {A : Type 0} where
   is_none_lem none h = refl
   is_none_lem (some a) h = absurd (true_false h refl)
 
-is_one_lem : (f : Found) → is_one f ≡ true → f ≡ found-one
+is_one_lem : (f : Found) → is_one f ≡ true → f ≡ found_one
 unfolding is_one
 is_one_lem found_none h = absurd (true_false h refl)
-is_one_lem found-one h = refl
-is_one_lem found-several h = absurd (true_false h refl)
+is_one_lem found_one h = refl
+is_one_lem found_several h = absurd (true_false h refl)
 
 module _ (L : Language) (x : L.Name) (g : Graph L) (opens : List (OpenPair L)) (starts : List ℕ)
     (ok : (s : ℕ) → s ∈ starts → Accepted L g opens (asked L x s)) where
@@ -195,7 +195,7 @@ module _ (L : Language) (x : L.Name) (g : Graph L) (opens : List (OpenPair L)) (
   none_decisive : OwnAlways L x g opens starts → (s : ℕ) → s ∈ starts → (o : OpenPair L) → ¬ Decisive L g opens (asked L x s) o
   none_decisive always s m o d =
       let laws = (ok s m).laws in
-      let range = (ok s m).in_range_lem in
+      let range = (ok s m).in_range in
       let below = (ok s m).starts in
       let q = asked L x s in
       let dec = decided L laws in
@@ -211,14 +211,14 @@ module _ (L : Language) (x : L.Name) (g : Graph L) (opens : List (OpenPair L)) (
   is_settled_lem always s m =
       let laws = (ok s m).laws in
       (settled L laws g opens (asked L x s) (decided L laws) (reached_list L laws (asked L x s)) (entry_list L laws (asked L x s))
-      (ok s m).in_range_lem (ok s m).starts).1 (none_decisive always s m)
+      (ok s m).in_range (ok s m).starts).1 (none_decisive always s m)
 
   always_now : OwnAlways L x g opens starts ↔ OwnNow L x g opens starts
   always_now = (
     λ always. record {
       own = record {
-        one = λ s m. (always g (itself L (AtOne L opens) g (ok s m).in_range_lem)).one s m;
-        apart = λ s t m. (always g (itself L (AtOne L opens) g (ok s m).in_range_lem)).apart s t m;
+        one = λ s m. (always g (itself L (AtOne L opens) g (ok s m).in_range)).one s m;
+        apart = λ s t m. (always g (itself L (AtOne L opens) g (ok s m).in_range)).apart s t m;
       };
       settled = is_settled_lem always;
     },
@@ -242,29 +242,29 @@ module _ (L : Language) (x : L.Name) (g : Graph L) (opens : List (OpenPair L)) (
       to : Share L x g s t → (e : ℕ) × (ends_at L g (asked L x s) e ≡ true) × (ends_at L g (asked L x t) e ≡ true)
       to z = (
         (row_declaration L (asked L x s) z.first).at,
-        entry_ends L (ok s m).laws g (asked L x s) (ok s m).in_range_lem (ok s m).starts z.first z.first_seen,
+        entry_ends L (ok s m).laws g (asked L x s) (ok s m).in_range (ok s m).starts z.first z.first_seen,
         rw (ap (λ (d : Declaration L). d.at) z.same)
-            (entry_ends L (ok t k).laws g (asked L x t) (ok t k).in_range_lem (ok t k).starts z.second z.second_seen),
+            (entry_ends L (ok t k).laws g (asked L x t) (ok t k).in_range (ok t k).starts z.second z.second_seen),
       )
 
       from : (e : ℕ) × (ends_at L g (asked L x s) e ≡ true) × (ends_at L g (asked L x t) e ≡ true) → Share L x g s t
       from z =
-          let r = (ends_are L (ok s m).laws g (asked L x s) (ok s m).in_range_lem (ok s m).starts z.0).0 z.1 in
-          let p = ends_entry L (ok t k).laws g (asked L x t) (ok t k).in_range_lem (ok t k).starts
+          let r = (ends_are L (ok s m).laws g (asked L x s) (ok s m).in_range (ok s m).starts z.0).0 z.1 in
+          let p = ends_entry L (ok t k).laws g (asked L x t) (ok t k).in_range (ok t k).starts
           (row_declaration L (asked L x s) r.0).at r.0.mark (rw r.2 z.2) r.1.declared in
           record { first = r.0; second = p.0; first_seen = r.1; second_seen = p.1; same = sym p.2 }
 
   -- visible paths end at scopes of the graph
   below : (s : ℕ) → s ∈ starts → (e : ℕ) → ends_at L g (asked L x s) e ≡ true → e < g.scopes
   below s m e h =
-      let r = (ends_are L (ok s m).laws g (asked L x s) (ok s m).in_range_lem (ok s m).starts e).0 h in
-      rw r.2 at ((ok s m).in_range_lem.at_scope _ r.1.declared)
+      let r = (ends_are L (ok s m).laws g (asked L x s) (ok s m).in_range (ok s m).starts e).0 h in
+      rw r.2 at ((ok s m).in_range.at_scope _ r.1.declared)
 
   -- the word of one query
-  found_word : (s : ℕ) → s ∈ starts → (found L g (asked L x s) ≡ found-one) ↔ FoundIs L g (asked L x s) found-one
+  found_word : (s : ℕ) → s ∈ starts → (found L g (asked L x s) ≡ found_one) ↔ FoundIs L g (asked L x s) found_one
   found_word s m =
-      let is = found_is L (ok s m).laws g (asked L x s) (ok s m).in_range_lem (ok s m).starts in
-      (λ e. subst (FoundIs L g (asked L x s)) e is, λ f. one_found L (ok s m).laws g (asked L x s) _ found-one is f)
+      let is = found_is L (ok s m).laws g (asked L x s) (ok s m).in_range (ok s m).starts in
+      (λ e. subst (FoundIs L g (asked L x s)) e is, λ f. one_found L (ok s m).laws g (asked L x s) _ found_one is f)
 
   now_told : OwnNow L x g opens starts ↔ OwnTold L x g opens starts
   now_told = (
@@ -332,7 +332,7 @@ module _ (L : Language) (x : L.Name) (g : Graph L) (opens : List (OpenPair L)) (
       → (several_marks L g (asked L x s) e ≡ false) ↔ ((m : ℕ) × (marks_at L g.declarations e x ≡ m ∷ []))
   unfolding several_marks has_second
   one_mark s e m h =
-      let r = (ends_are L (ok s m).laws g (asked L x s) (ok s m).in_range_lem (ok s m).starts e).0 h in
+      let r = (ends_are L (ok s m).laws g (asked L x s) (ok s m).in_range (ok s m).starts e).0 h in
       (only _ (marks_intro L (ok s m).laws g e x (rw r.2 at r.1.declared)), λ k. rw k.1)
 
   pub own_promises : OwnPromises L x g opens starts
@@ -342,8 +342,8 @@ module _ (L : Language) (x : L.Name) (g : Graph L) (opens : List (OpenPair L)) (
     told_test = told_test;
     shares_ends = shares_ends;
     one_ends = λ s m.
-        found_among_lem L (ok s m).laws g (asked L x s) (ok s m).in_range_lem (ok s m).starts (ok s m).declarations_ascend g.scopes
-        (omega arith) found-one;
+        found_among_lem L (ok s m).laws g (asked L x s) (ok s m).in_range (ok s m).starts (ok s m).declarations_ascend g.scopes
+        (omega arith) found_one;
     one_mark = one_mark;
   }
 

@@ -9,7 +9,7 @@ use borrow.Author.Tests.{eqb-true, eq-eqb}
 use Rattle.scope_graph.specs.Language.{◌∈◌, stop, Language, Laws}
 use Rattle.scope_graph.specs.Graph.{Graph, InRange, Query, OpenPair}
 use Rattle.scope_graph.specs.Path.{Hop, Path, PathRow, MoreSpecific, Reached, Entry}
-use Rattle.scope_graph.specs.Computed.{Node, is_visible_lem, is-shadowed, is-unreached, reached_nodes, preferred_to, more_specific, entries}
+use Rattle.scope_graph.specs.Computed.{Node, is_visible, is_shadowed, is_unreached, reached_nodes, preferred_to, more_specific, entries}
 use Rattle.scope_graph.specs.Followed.{Preferred}
 use Rattle.scope_graph.specs.Listing.{Accepted}
 use Rattle.scope_graph.specs.Promises.{OrderPromises, QueryPromises, Promises}
@@ -67,7 +67,7 @@ module _ (L : Language) (laws : Laws L) where
 pub query : (L : Language) (g : Graph L) (opens : List (OpenPair L)) (q : Query L) → Accepted L g opens q → QueryPromises L g opens q
 query L g opens q ok =
     let laws = ok.laws in
-    let range = ok.in_range_lem in
+    let range = ok.in_range in
     let starts = ok.starts in
     let dec = decided L laws in
     let reached = reached_list L laws q in
@@ -77,9 +77,9 @@ query L g opens q ok =
       visible = visible L laws g q range starts;
       shadowed = shadowed L laws g q range starts;
       unreached = unreached L laws g q range starts;
-      judged_visible = judged_is L laws g q range starts is_visible_lem;
-      judged_shadowed = judged_is L laws g q range starts is-shadowed;
-      judged_unreached = judged_is L laws g q range starts is-unreached;
+      judged_visible = judged_is L laws g q range starts is_visible;
+      judged_shadowed = judged_is L laws g q range starts is_shadowed;
+      judged_unreached = judged_is L laws g q range starts is_unreached;
       shadowed_by = shadowed_by L laws g q range starts;
       entries_are = entries_are L laws g q range starts;
       entries_ascend = entries_ascend L laws g q range starts ok.edges_ascend ok.declarations_ascend;

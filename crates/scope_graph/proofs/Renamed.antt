@@ -162,7 +162,7 @@ module _ (L : Language) where
       entry_below = below_scopes g range q;
       row_back = row_home g.scopes f b num;
       row_forth = row_home g.scopes b f (other_way num);
-      same_found_lem =
+      same_found =
           one_found L laws k (query_under L f q) (found L k (query_under L f q)) (found L g q)
           (found_is L laws k (query_under L f q) new_range new_starts)
           (subst (λ (z : Query L). FoundIs L k z (found L g q)) same_query
@@ -172,11 +172,11 @@ module _ (L : Language) where
         λ e. (query L k pairs (query_under L f q) c).awaits_none.1 (same_settled.0 ((query L g opens q a).awaits_none.0 e)),
         λ e. (query L g opens q a).awaits_none.1 (same_settled.1 ((query L k pairs (query_under L f q) c).awaits_none.0 e)),
       );
-      in_range_lem = new_range;
+      in_range = new_range;
       starts = new_starts;
       accepted = λ e d o. record {
         laws = laws;
-        in_range_lem = new_range;
+        in_range = new_range;
         edges_ascend = e;
         declarations_ascend = d;
         opens_ascend = o;

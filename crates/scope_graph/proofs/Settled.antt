@@ -41,7 +41,7 @@ module _ (L : Language) where
     declarations_kept = x.declarations_kept;
     new_edge = λ e k. ⊎_elim (λ w. inl w) (λ w. inr (⊎_elim (λ z. inl z) (λ z. inr (o, m, z)) w)) (x.new_edge e k);
     new_declaration = λ d k. ⊎_elim (λ w. inl w) (λ w. inr (⊎_elim (λ z. inl z) (λ z. inr (o, m, z)) w)) (x.new_declaration d k);
-    in_range_lem = x.in_range_lem;
+    in_range = x.in_range;
   }
 
   module _ (laws : Laws L) (g : Graph L) (opens : List (OpenPair L)) (q : Query L)

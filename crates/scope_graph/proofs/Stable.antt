@@ -49,7 +49,7 @@ module _ (L : Language) where
     declarations_kept = λ d m. b.declarations_kept d (a.declarations_kept d m);
     new_edge = λ e m. ⊎_elim (a.new_edge e) (λ w. inr (old e.from (by e.step) w)) (b.new_edge e m);
     new_declaration = λ d m. ⊎_elim (a.new_declaration d) (λ w. inr (old d.at stop w)) (b.new_declaration d m);
-    in_range_lem = b.in_range_lem;
+    in_range = b.in_range;
   }
     where
       -- wherever the second completion adds a row, the first could have
@@ -71,9 +71,9 @@ module _ (L : Language) where
         (λ e. two.0 (one.1 e), λ e. one.0 (two.1 e)),
   )
 
-  same_found_lem : (q : Query L) (g h : Graph L) → entries L g q ≡ entries L h q → found L g q ≡ found L h q
+  same_found : (q : Query L) (g h : Graph L) → entries L g q ≡ entries L h q → found L g q ≡ found L h q
   unfolding found
-  same_found_lem q g h e = ap (λ (es : List (PathRow L)). found_of L (map (row_declaration L q) es)) e
+  same_found q g h e = ap (λ (es : List (PathRow L)). found_of L (map (row_declaration L q) es)) e
 
   same_listing : (q : Query L) (s t : Snapshot L) → Accepted L s.graph s.opens q → Accepted L t.graph t.opens q
       → awaits L s.graph q s.opens ≡ none → Grows L s t → SameListing L q s t
@@ -86,7 +86,7 @@ module _ (L : Language) where
         λ m. (r.entries_are x).1 ((k.0 x).0 ((p.entries_are x).0 m)),
         λ m. (p.entries_are x).1 ((k.0 x).1 ((r.entries_are x).0 m)),
       )) in
-      record { rows = e; word = same_found_lem q s.graph t.graph e; settled_first = w; settled_then = r.awaits_none.1 k.1 }
+      record { rows = e; word = same_found q s.graph t.graph e; settled_first = w; settled_then = r.awaits_none.1 k.1 }
 
   -- a graph completes itself
   self_grows : (s : Snapshot L) → InRange L s.graph → Grows L s s
@@ -97,7 +97,7 @@ module _ (L : Language) where
       declarations_kept = λ d m. m;
       new_edge = λ e m. inl m;
       new_declaration = λ d m. inl m;
-      in_range_lem = range;
+      in_range = range;
     },
     λ o m. m,
   )
@@ -112,7 +112,7 @@ module _ (L : Language) where
         declarations_kept = λ d m. rw c.declarations m;
         new_edge = λ f m. ⊎_elim (λ z. inr (inr (at f z))) (λ z. inl z) ((c.edges f).0 m);
         new_declaration = λ d m. inl (rw c.declarations at m);
-        in_range_lem = record {
+        in_range = record {
           from_scope = λ f m. rw c.scopes (⊎_elim (λ z. rw z c.from_scope) (range.from_scope f) ((c.edges f).0 m));
           to_scope = λ f m. rw c.scopes (⊎_elim (λ z. rw z c.to_scope) (range.to_scope f) ((c.edges f).0 m));
           listed = λ f m. ⊎_elim (λ z. rw z c.listed) (range.listed f) ((c.edges f).0 m);
@@ -142,7 +142,7 @@ module _ (L : Language) where
         declarations_kept = λ k m. (c.declarations k).1 (inr m);
         new_edge = λ f m. inl (rw c.edges at m);
         new_declaration = λ k m. ⊎_elim (λ z. inr (inr (at k z))) (λ z. inl z) ((c.declarations k).0 m);
-        in_range_lem = record {
+        in_range = record {
           from_scope = λ f m. rw c.scopes (range.from_scope f (rw c.edges at m));
           to_scope = λ f m. rw c.scopes (range.to_scope f (rw c.edges at m));
           listed = λ f m. range.listed f (rw c.edges at m);
@@ -169,7 +169,7 @@ module _ (L : Language) where
     replay_grows [] s t range e = rw (← e) (self_grows s range)
     replay_grows (a ∷ acts) s t range w =
         let f = act_grows a s w.0 range w.1 in
-        grows_on s w.0 t f (replay_grows acts w.0 t f.0.in_range_lem w.2)
+        grows_on s w.0 t f (replay_grows acts w.0 t f.0.in_range w.2)
 
 pub stable : Stable
 stable L laws = record {
@@ -181,11 +181,11 @@ stable L laws = record {
   replay_grows = replay_grows L laws;
   accepted_then = λ q s t a f e d o. record {
     laws = laws;
-    in_range_lem = f.0.in_range_lem;
+    in_range = f.0.in_range;
     edges_ascend = e;
     declarations_ascend = d;
     opens_ascend = o;
     starts = omega (arith, a.starts, f.0.scopes_kept);
   };
-  replay_same = λ acts q s t a b w e. same_listing L q s t a b e (replay_grows L laws acts s t a.in_range_lem w);
+  replay_same = λ acts q s t a b w e. same_listing L q s t a b e (replay_grows L laws acts s t a.in_range w);
 }

@@ -77,21 +77,21 @@ module _ (L : Language) (g : Graph L) (opens : List (OpenPair L)) (q : Query L) 
         rows_are = all_rows t.rows (λ r m. (p.judged_visible r).0 (w.visible r m)) w.all_different w.count;
         once = w.all_different;
         found_right = (found_word t.found).0 w.word;
-        may_await_lem = (await_pair t.awaits).0 w.await;
+        may_await = (await_pair t.awaits).0 w.await;
       },
       λ w. record {
         visible = λ r m. (p.judged_visible r).1 ((w.rows_are r).0 m);
         all_different = w.once;
         count = counted t.rows w.rows_are w.once;
         word = (found_word t.found).1 w.found_right;
-        await = (await_pair t.awaits).1 w.may_await_lem;
+        await = (await_pair t.awaits).1 w.may_await;
       },
     );
     own = record {
       rows_are = p.entries_are;
       once = entries_once;
       found_right = p.found_is;
-      may_await_lem = own_await (awaits L g q opens) p.awaits_is;
+      may_await = own_await (awaits L g q opens) p.awaits_is;
     };
   }
 

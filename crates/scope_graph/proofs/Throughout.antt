@@ -11,7 +11,7 @@ use Rattle.scope_graph.specs.Language.{◌∈◌, End, stop, Language, Laws}
 use Rattle.scope_graph.specs.Graph.{Edge, Declaration, Graph, InRange, Query, OpenPair, Admits}
 use Rattle.scope_graph.specs.Path.{Distinct, Hop, Path, PathRow, tos, last_from, row_declaration, Along, word, Reached, MoreSpecific, Entry}
 use Rattle.scope_graph.specs.Completion.{AtOne, Completion, Settled}
-use Rattle.scope_graph.specs.Computed.{Found, found_none, found-one, found-several, found}
+use Rattle.scope_graph.specs.Computed.{Found, found_none, found_one, found_several, found}
 use Rattle.scope_graph.specs.Listing.{FoundIs}
 use Rattle.scope_graph.specs.Followed.{Preferred}
 use Rattle.scope_graph.specs.Renamed.{SameElements, edge_under, declaration_under, open_under, query_under, graph_under, hop_under, path_under, row_under, Renamed}
@@ -210,7 +210,7 @@ module _ (L : Language) where
             let j = map_elim (declaration_under L b) h.declarations m in
             rw j.2 (⊎_elim (λ z. inl ((back_ren.declarations _).1 (map_intro (declaration_under L b) z)))
             (λ z. inr (⊎_elim (λ y. inl (w.old_above _ (rw ren.scopes at y))) (λ y. inr (old_pair _ _ y)) z)) (c.new_declaration j.0 j.1));
-        in_range_lem = range_under g.scopes b f (turned w) h (graph_under L b h) (omega (arith, c.scopes_kept, ren.scopes)) (old_graph h) c.in_range_lem;
+        in_range = range_under g.scopes b f (turned w) h (graph_under L b h) (omega (arith, c.scopes_kept, ren.scopes)) (old_graph h) c.in_range;
       }
 
       pub settled_under : (q : Query L) → Settled L g opens q → Settled L k pairs (query_under L f q)
@@ -244,12 +244,12 @@ module _ (L : Language) where
 
       pub found_under : (x : Found) → FoundIs L g q x → FoundIs L k (query_under L f q) x
       found_under found_none a = λ r e. a (row_under L b r) (old_entry r e)
-      found_under found-one a = (
+      found_under found_one a = (
         row_under L f a.0,
         entry_under n f b w g k le ren q a.0 a.1,
         λ p e. old_declaration p ∙ ap (declaration_under L f) (a.2 (row_under L b p) (old_entry p e)) ∙ sym (declaration_under_lem f q a.0),
       )
-      found_under found-several a = (
+      found_under found_several a = (
         row_under L f a.0,
         row_under L f a.1,
         entry_under n f b w g k le ren q a.0 a.2,

@@ -184,7 +184,7 @@ module _ (L : Language) where
           new_declaration = λ d m.
               ⊎_elim (λ e. let k : d.at ≡ s = ap (λ (z : Declaration L). z.at) e in inr (inr (rw k a)))
               (λ w. inl w) (Memᴰ.cases_cons m);
-          in_range_lem = declared_range;
+          in_range = declared_range;
         }
 
         declared_reached : Reached L declared q (route L laws q fo.hops)
@@ -317,7 +317,7 @@ module _ (L : Language) where
           new_declaration = λ d m.
               ⊎_elim (λ w. let k : d.at ≡ g.scopes + length ls = ap (λ (z : Declaration L). z.at) w in inr (inl (omega arith)))
               (λ w. inl w) (Memᴰ.cases_cons m);
-          in_range_lem = grown_range;
+          in_range = grown_range;
         }
           where
             by_kind : (e : Edge L) → Kind e → (e ∈ g.edges) ⊎ ((g.scopes ≤ e.from) ⊎ Allowed e.from (by e.step))

@@ -6,7 +6,7 @@ use Rattle.scope_graph.specs.Graph.{Graph, Query, OpenPair}
 use Rattle.scope_graph.specs.Path.{Hop, Path, PathRow, MoreSpecific, Reached, Shadowed, MarkDeclared, Entry}
 use Rattle.scope_graph.specs.Rows.{Rules}
 use Rattle.scope_graph.specs.Rows.{language as languageOf}
-use Rattle.scope_graph.specs.Computed.{Standing, is_visible_lem, is-shadowed, is-unreached, keep, same_hop, preferred_to, reached_nodes, judged}
+use Rattle.scope_graph.specs.Computed.{Standing, is_visible, is_shadowed, is_unreached, keep, same_hop, preferred_to, reached_nodes, judged}
 use Rattle.scope_graph.specs.Listing.{Accepted}
 
 -- the greatest of some numbers; 0 of none
@@ -16,14 +16,14 @@ most (x ∷ xs) = elim (ltb (most xs) x) [ true ↦ x | false ↦ most xs ]
 
 -- 01's three standings, of which *shadowed* carries a number of steps
 pub data Judgement : Type 0 where
-  as_visible as-unreached : Judgement
+  as_visible as_unreached : Judgement
   as_shadowed : ℕ → Judgement
 
 -- a standing with that number
 unfoldable pub with_steps : Standing → ℕ → Judgement
-with_steps is_visible_lem n = as_visible
-with_steps is-shadowed n = as_shadowed n
-with_steps is-unreached n = as-unreached
+with_steps is_visible n = as_visible
+with_steps is_shadowed n = as_shadowed n
+with_steps is_unreached n = as_unreached
 
 module _ (L : Language) where
   -- Is it the same step? By its label and the scope that it comes to, as a path row shows them (01,
@@ -50,7 +50,7 @@ module _ (L : Language) where
       pub shadowed : Shadowed L g q p
       pub catcher : Path L
       pub reached : Reached L g q catcher
-      pub more_specific_lem : MoreSpecific L catcher p
+      pub more_specific : MoreSpecific L catcher p
       pub agrees : agree catcher p ≡ n
       pub none_more : (r : Path L) → Reached L g q r → MoreSpecific L r p → agree r p ≤ n
 
@@ -84,7 +84,7 @@ module _ (L : Language) where
     -- exactly one judgement holds of each path row, and it is the computed one
     pub visible : (r : PathRow L) → (judgement g q r ≡ as_visible) ↔ Entry L g q r
     pub shadowed : (r : PathRow L) (n : ℕ) → (judgement g q r ≡ as_shadowed n) ↔ (ShadowedWith g q r.path n × MarkDeclared L g q r)
-    pub unreached : (r : PathRow L) → (judgement g q r ≡ as-unreached) ↔ (¬ (Reached L g q r.path × MarkDeclared L g q r))
+    pub unreached : (r : PathRow L) → (judgement g q r ≡ as_unreached) ↔ (¬ (Reached L g q r.path × MarkDeclared L g q r))
 
 -- all of it, for every language of a file and every accepted graph and query
 pub record AgreePromises : Type 1 where

@@ -17,14 +17,14 @@ module _ (L : Language) where
   -- h has all of g's scopes and rows. A row of h that g lacks stands at a new scope, or at an old
   -- one where `Allowed` lets one come: it says so of a scope and an end. New scopes are numbered
   -- after the old ones; there may be any number of them, with any rows, any marks and any turns. A
-  -- from, label and to has one turn (`in_range_lem`, its `together`: 02, K12, repeats none).
+  -- from, label and to has one turn (`in_range`, its `together`: 02, K12, repeats none).
   pub record Extension (Allowed : ℕ → End L.Step → Type 0) (g h : Graph L) : Type 0 where
     pub scopes_kept : g.scopes ≤ h.scopes
     pub edges_kept : (e : Edge L) → e ∈ g.edges → e ∈ h.edges
     pub declarations_kept : (d : Declaration L) → d ∈ g.declarations → d ∈ h.declarations
     pub new_edge : (e : Edge L) → e ∈ h.edges → (e ∈ g.edges) ⊎ ((g.scopes ≤ e.from) ⊎ Allowed e.from (by e.step))
     pub new_declaration : (d : Declaration L) → d ∈ h.declarations → (d ∈ g.declarations) ⊎ ((g.scopes ≤ d.at) ⊎ Allowed d.at stop)
-    pub in_range_lem : InRange L h
+    pub in_range : InRange L h
 
   -- at this open pair alone
   abbrev pub At : OpenPair L → ℕ → End L.Step → Type 0

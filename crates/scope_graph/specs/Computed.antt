@@ -25,11 +25,11 @@ any_below f (suc n) = elim (f n) [ true ↦ true | false ↦ any_below f n ]
 
 -- `found`, of declarations as 02, K2 has it
 pub data Found : Type 0 where
-  Found_None found-one found-several : Found
+  found_none found_one found_several : Found
 
 -- 01's three standings of a path
 pub data Standing : Type 0 where
-  is_visible_lem is-shadowed is-unreached : Standing
+  is_visible is_shadowed is_unreached : Standing
 
 -- a place of the search: the hops so far, the scope that they come to, and the state that they lead
 -- to
@@ -62,8 +62,8 @@ module _ (L : Language) where
 
   -- how many different declarations are listed (02, K2): each is held against the first
   unfoldable pub found_of : List (Declaration L) → Found
-  found_of [] = Found_None
-  found_of (d ∷ ds) = elim (any_of (λ e. not (same_declaration d e)) ds) [ true ↦ found-several | false ↦ found-one ]
+  found_of [] = found_none
+  found_of (d ∷ ds) = elim (any_of (λ e. not (same_declaration d e)) ds) [ true ↦ found_several | false ↦ found_one ]
 
   unfoldable pub behind : Hop L → Node L → Node L
   behind h n = record { hops = h ∷ n.hops; at = n.at; state = n.state }
@@ -144,14 +144,14 @@ module _ (L : Language) where
 
     unfoldable pub standing : Path L → Standing
     standing p =
-        elim (is_reached p) [ false ↦ is-unreached | true ↦ elim (cut p.hops stop) [ true ↦ is-shadowed | false ↦ is_visible_lem ] ]
+        elim (is_reached p) [ false ↦ is_unreached | true ↦ elim (cut p.hops stop) [ true ↦ is_shadowed | false ↦ is_visible ] ]
 
     -- a path row's standing: a mark that no matching declaration has is not reached (01, "Paths",
     -- its end)
     unfoldable pub judged : PathRow L → Standing
     judged r =
         elim (any_of (eqb r.mark) (marks_at g.declarations (last_from r.path.start r.path.hops) q.name))
-        [ false ↦ is-unreached | true ↦ standing r.path ]
+        [ false ↦ is_unreached | true ↦ standing r.path ]
 
     -- the end that stands for all that may come at an open place
     unfoldable pub open_end : End ℕ → End L.Step

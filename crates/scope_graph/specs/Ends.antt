@@ -4,7 +4,7 @@
 use Rattle.std.specs.Prelude.{ℕ, zero, suc, Bool, true, false, ◌&&◌, List, [], ◌∷◌}
 use Rattle.scope_graph.specs.Language.{stop, Language}
 use Rattle.scope_graph.specs.Graph.{Graph, Query}
-use Rattle.scope_graph.specs.Computed.{Found, found_none, found-one, found-several, marks_at, declares_any, followed_at}
+use Rattle.scope_graph.specs.Computed.{Found, found_none, found_one, found_several, marks_at, declares_any, followed_at}
 
 -- the list has a second element
 unfoldable pub has_second : {A : Type 0} → List A → Bool
@@ -16,9 +16,9 @@ has_second (x ∷ y ∷ xs) = true
 -- second mark
 unfoldable pub with_scope : Bool → Bool → Found → Found
 with_scope false more f = f
-with_scope true more found_none = elim more [ true ↦ found-several | false ↦ found-one ]
-with_scope true more found-one = found-several
-with_scope true more found-several = found-several
+with_scope true more found_none = elim more [ true ↦ found_several | false ↦ found_one ]
+with_scope true more found_one = found_several
+with_scope true more found_several = found_several
 
 -- `found` as far as the scopes below n say it
 unfoldable pub found_among : (ends more : ℕ → Bool) → ℕ → Found

@@ -26,7 +26,7 @@ pub record Language : Type 1 where
   pub label : Step → ℕ
   pub labels : ℕ
   pub Name : Type 0
-  pub same_name_lem : Name → Name → Bool
+  pub same_name : Name → Name → Bool
   -- the order pairs and, at one label, the turns (02, K12), as a test of two ends: is the one
   -- preferred to the other?
   pub prefers : End Step → End Step → Bool
@@ -50,8 +50,8 @@ pub record Language : Type 1 where
 pub record Laws (L : Language) : Type 0 where
   pub step_same : (a b : L.Step) → L.same_step a b ≡ true → a ≡ b
   pub step_self : (a : L.Step) → L.same_step a a ≡ true
-  pub name_same : (a b : L.Name) → L.same_name_lem a b ≡ true → a ≡ b
-  pub name_self : (a : L.Name) → L.same_name_lem a a ≡ true
+  pub name_same : (a b : L.Name) → L.same_name a b ≡ true → a ≡ b
+  pub name_self : (a : L.Name) → L.same_name a a ≡ true
   pub irreflexive : (a : End L.Step) → L.prefers a a ≡ false
   pub transitive : (a b c : End L.Step) → L.prefers a b ≡ true → L.prefers b c ≡ true → L.prefers a c ≡ true
   pub next_label : (q l r : ℕ) → L.next q l ≡ some r → l < L.labels

@@ -5,7 +5,7 @@ use Rattle.scope_graph.specs.Language.{◌∈◌, by, Language, Laws}
 use Rattle.scope_graph.specs.Graph.{Edge, Declaration, Graph, InRange, Query, OpenPair}
 use Rattle.scope_graph.specs.Path.{Hop, PathRow, row_declaration, Entry}
 use Rattle.scope_graph.specs.Completion.{PairBefore}
-use Rattle.scope_graph.specs.Computed.{Found, found_none, found-one, found-several}
+use Rattle.scope_graph.specs.Computed.{Found, found_none, found_one, found_several}
 
 -- each element stands in the relation to each later one
 abbrev pub Pairwise : {A : Type 0} → (A → A → Type 0) → List A → Type 0
@@ -50,7 +50,7 @@ module _ (L : Language) where
   -- give.
   pub record Accepted (g : Graph L) (opens : List (OpenPair L)) (q : Query L) : Type 0 where
     pub laws : Laws L
-    pub in_range_lem : InRange L g
+    pub in_range : InRange L g
     pub edges_ascend : Pairwise EdgeBefore g.edges
     pub declarations_ascend : Pairwise MarkBefore g.declarations
     pub opens_ascend : Pairwise (PairBefore L) opens
@@ -60,7 +60,7 @@ module _ (L : Language) where
   -- with different declarations
   abbrev pub FoundIs : Graph L → Query L → Found → Type 0
   FoundIs g q found_none = (r : PathRow L) → ¬ Entry L g q r
-  FoundIs g q found-one =
+  FoundIs g q found_one =
       (r : PathRow L) × Entry L g q r × ((p : PathRow L) → Entry L g q p → row_declaration L q p ≡ row_declaration L q r)
-  FoundIs g q found-several =
+  FoundIs g q found_several =
       (r : PathRow L) × (p : PathRow L) × Entry L g q r × Entry L g q p × ¬ (row_declaration L q r ≡ row_declaration L q p)

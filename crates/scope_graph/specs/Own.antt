@@ -7,7 +7,7 @@ use Rattle.scope_graph.specs.Language.{◌∈◌, Language}
 use Rattle.scope_graph.specs.Graph.{Graph, Query, OpenPair}
 use Rattle.scope_graph.specs.Path.{PathRow, row_declaration, Entry}
 use Rattle.scope_graph.specs.Completion.{Completion, Settled}
-use Rattle.scope_graph.specs.Computed.{any_below, Found, found_none, found-one, found-several, marks_at, found, awaits}
+use Rattle.scope_graph.specs.Computed.{any_below, Found, found_none, found_one, found_several, marks_at, found, awaits}
 use Rattle.scope_graph.specs.Listing.{Accepted, FoundIs}
 use Rattle.scope_graph.specs.Ends.{ends_at, several_marks}
 
@@ -19,8 +19,8 @@ all_of f (a ∷ rest) = f a && all_of f rest
 -- is it the word `one`? is it `-`?
 unfoldable pub is_one : Found → Bool
 is_one found_none = false
-is_one found-one = true
-is_one found-several = false
+is_one found_one = true
+is_one found_several = false
 
 unfoldable pub is_none : {A : Type 0} → Option A → Bool
 is_none none = true
@@ -42,7 +42,7 @@ module _ (L : Language) (x : L.Name) where
   -- in this graph each of the scopes has its own: it sees one declaration, by however many paths,
   -- and no other of the scopes sees that one
   pub record OwnIn (g : Graph L) (starts : List ℕ) : Type 0 where
-    pub one : (s : ℕ) → s ∈ starts → FoundIs L g (asked s) found-one
+    pub one : (s : ℕ) → s ∈ starts → FoundIs L g (asked s) found_one
     pub apart : (s t : ℕ) → s ∈ starts → t ∈ starts → ¬ (s ≡ t) → ¬ Share g s t
 
   -- is there a scope where visible paths of both end?
@@ -62,7 +62,7 @@ module _ (L : Language) (x : L.Name) where
     -- the same in what is computed: the words `one` and `-` of each listing, and no scope where
     -- visible paths of two of them end
     pub record OwnTold : Type 0 where
-      pub one : (s : ℕ) → s ∈ starts → found L g (asked s) ≡ found-one
+      pub one : (s : ℕ) → s ∈ starts → found L g (asked s) ≡ found_one
       pub settled : (s : ℕ) → s ∈ starts → awaits L g (asked s) opens ≡ none
       pub no_scope : (s t : ℕ) → s ∈ starts → t ∈ starts → ¬ (s ≡ t)
           → (e : ℕ) → e < g.scopes → ends_at L g (asked s) e ≡ true → ends_at L g (asked t) e ≡ true → ⊥
@@ -87,7 +87,7 @@ module _ (L : Language) (x : L.Name) where
       pub shares_ends : (s t : ℕ) → s ∈ starts → t ∈ starts
           → Share g s t ↔ ((e : ℕ) × (ends_at L g (asked s) e ≡ true) × (ends_at L g (asked t) e ≡ true))
       -- one declaration is found exactly if visible paths end at one scope, which has one mark
-      pub one_ends : (s : ℕ) → s ∈ starts → (found L g (asked s) ≡ found-one)
+      pub one_ends : (s : ℕ) → s ∈ starts → (found L g (asked s) ≡ found_one)
           ↔ ((e : ℕ) × (e < g.scopes) × (ends_at L g (asked s) e ≡ true) × (several_marks L g (asked s) e ≡ false)
           × ((t : ℕ) → t < g.scopes → ends_at L g (asked s) t ≡ true → t ≡ e))
       pub one_mark : (s e : ℕ) → s ∈ starts → ends_at L g (asked s) e ≡ true

@@ -9,7 +9,7 @@ use Rattle.scope_graph.specs.Completion.{Decisive, Settled, Awaits}
 use Rattle.scope_graph.specs.Rows.{Rules, RulesPass}
 use Rattle.scope_graph.specs.Rows.{language as languageOf}
 use Rattle.scope_graph.specs.Followed.{Preferred, FollowedAt}
-use Rattle.scope_graph.specs.Computed.{is_visible_lem, is-shadowed, is-unreached, more_specific, standing, judged, entries, found, followed_at, awaits}
+use Rattle.scope_graph.specs.Computed.{is_visible, is_shadowed, is_unreached, more_specific, standing, judged, entries, found, followed_at, awaits}
 use Rattle.scope_graph.specs.Listing.{Pairwise, RowBefore, Accepted, FoundIs}
 use Rattle.scope_graph.specs.Ends.{found_among, ends_at, several_marks}
 
@@ -29,14 +29,14 @@ module _ (L : Language) where
   module _ (g : Graph L) (opens : List (OpenPair L)) (q : Query L) where
     pub record QueryPromises : Type 0 where
       -- exactly one standing holds of each path, and it is the computed one
-      pub visible : (p : Path L) → (standing L g q p ≡ is_visible_lem) ↔ Visible L g q p
-      pub shadowed : (p : Path L) → (standing L g q p ≡ is-shadowed) ↔ Shadowed L g q p
-      pub unreached : (p : Path L) → (standing L g q p ≡ is-unreached) ↔ Unreached L g q p
+      pub visible : (p : Path L) → (standing L g q p ≡ is_visible) ↔ Visible L g q p
+      pub shadowed : (p : Path L) → (standing L g q p ≡ is_shadowed) ↔ Shadowed L g q p
+      pub unreached : (p : Path L) → (standing L g q p ≡ is_unreached) ↔ Unreached L g q p
       -- exactly one standing holds of each path row too, by its path and by whether its mark is
       -- declared at the path's last scope
-      pub judged_visible : (r : PathRow L) → (judged L g q r ≡ is_visible_lem) ↔ Entry L g q r
-      pub judged_shadowed : (r : PathRow L) → (judged L g q r ≡ is-shadowed) ↔ (Shadowed L g q r.path × MarkDeclared L g q r)
-      pub judged_unreached : (r : PathRow L) → (judged L g q r ≡ is-unreached) ↔ (¬ (Reached L g q r.path × MarkDeclared L g q r))
+      pub judged_visible : (r : PathRow L) → (judged L g q r ≡ is_visible) ↔ Entry L g q r
+      pub judged_shadowed : (r : PathRow L) → (judged L g q r ≡ is_shadowed) ↔ (Shadowed L g q r.path × MarkDeclared L g q r)
+      pub judged_unreached : (r : PathRow L) → (judged L g q r ≡ is_unreached) ↔ (¬ (Reached L g q r.path × MarkDeclared L g q r))
       pub shadowed_by : (p : Path L) → Shadowed L g q p → (r : Path L) × Reached L g q r × MoreSpecific L r p
       -- the computed entries are the entries of the rules, each once, in the listing's order: by
       -- label number, then by scope, whatever the turns (02, K12)

@@ -83,12 +83,12 @@ module _ (L : Language) where
       pub row_back : (r : PathRow L) → RowBelow g.scopes r → row_under b (row_under f r) ≡ r
       pub row_forth : (r : PathRow L) → RowBelow g.scopes r → row_under f (row_under b r) ≡ r
       -- it has the same `found`, and is settled exactly if the first one is
-      pub same_found_lem : found L k (query_under f q) ≡ found L g q
+      pub same_found : found L k (query_under f q) ≡ found L g q
       pub same_settled : Settled L g opens q ↔ Settled L k pairs (query_under f q)
       pub same_awaits : Accepted L g opens q → Accepted L k pairs (query_under f q)
           → (awaits L g q opens ≡ none) ↔ (awaits L k (query_under f q) pairs ≡ none)
       -- k is in range, and accepted if its rows ascend
-      pub in_range_lem : InRange L k
+      pub in_range : InRange L k
       pub starts : (query_under f q).start < k.scopes
       pub accepted : Pairwise (EdgeBefore L) k.edges → Pairwise (MarkBefore L) k.declarations → Pairwise (PairBefore L) pairs
           → Accepted L k pairs (query_under f q)

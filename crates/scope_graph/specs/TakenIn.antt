@@ -7,7 +7,7 @@ use Rattle.scope_graph.specs.Language.{◌∈◌, Language}
 use Rattle.scope_graph.specs.Graph.{Graph, Query, OpenPair}
 use Rattle.scope_graph.specs.Path.{PathRow, Entry}
 use Rattle.scope_graph.specs.Completion.{Decisive, Settled}
-use Rattle.scope_graph.specs.Computed.{Found, is_visible_lem, judged, entries, found, followed_at, awaits}
+use Rattle.scope_graph.specs.Computed.{Found, is_visible, judged, entries, found, followed_at, awaits}
 use Rattle.scope_graph.specs.Listing.{Pairwise, Accepted, FoundIs}
 
 -- all elements are different
@@ -32,7 +32,7 @@ module _ (L : Language) where
       pub rows_are : (r : PathRow L) → (r ∈ t.rows) ↔ Entry L g q r
       pub once : NoneTwice t.rows
       pub found_right : FoundIs L g q t.found
-      pub may_await_lem : MayAwait t.awaits
+      pub may_await : MayAwait t.awaits
 
     -- the test of `awaits`: `-` where our own listing says `-`, else an open pair that is followed
     abbrev pub AwaitPasses : Option (OpenPair L) → Type 0
@@ -42,7 +42,7 @@ module _ (L : Language) where
     -- the tests of a whole listing: the judge calls every row visible, no row is repeated, there are
     -- as many as there are entries, and `found` is ours
     pub record Passes (t : Told) : Type 0 where
-      pub visible : (r : PathRow L) → r ∈ t.rows → judged L g q r ≡ is_visible_lem
+      pub visible : (r : PathRow L) → r ∈ t.rows → judged L g q r ≡ is_visible
       pub all_different : NoneTwice t.rows
       pub count : length t.rows ≡ length (entries L g q)
       pub word : found L g q ≡ t.found

@@ -10,7 +10,7 @@ use Rattle.scope_graph.specs.Language.{◌∈◌, End, stop, Language, Laws}
 use Rattle.scope_graph.specs.Graph.{Graph, InRange, Query, OpenPair}
 use Rattle.scope_graph.specs.Path.{Hop, Path}
 use Rattle.scope_graph.specs.Rows.{any_of}
-use Rattle.scope_graph.specs.Computed.{keep, Node, Standing, is_visible_lem, is-shadowed, is-unreached, usable, nodes, reached_nodes, cut, rows_at, entries, same_hops, is_reached, standing, open_end, followed_at}
+use Rattle.scope_graph.specs.Computed.{keep, Node, Standing, is_visible, is_shadowed, is_unreached, usable, nodes, reached_nodes, cut, rows_at, entries, same_hops, is_reached, standing, open_end, followed_at}
 use Rattle.scope_graph.proofs.Lists.{and_right, any_of_elim, keep_elim}
 use Rattle.scope_graph.proofs.Reached.{same_hops_lem}
 use Rattle.search.specs.Board.{Board, board_of, without, reached_by, cut_along, hits_from}
@@ -88,18 +88,18 @@ module _ (L : Language) (laws : Laws L) (g : Graph L) (q : Query L) (range : InR
     -- a path's standing
     pub standing_is : (p : Path L) → standing L g q p
         ≡ (elim (eqb p.start q.start && reached p.hops) as (λ _. Standing) [
-          | false ↦ is-unreached
-          | true ↦ elim (cut_by p.hops stop) as (λ _. Standing) [ true ↦ is-shadowed | false ↦ is_visible_lem ]
+          | false ↦ is_unreached
+          | true ↦ elim (cut_by p.hops stop) as (λ _. Standing) [ true ↦ is_shadowed | false ↦ is_visible ]
         ])
     unfolding standing
     standing_is p = rw (← (reached_is p)) (split (is_reached L g q p) refl)
       where
         split : (c : Bool) → is_reached L g q p ≡ c
             → ◌≡◌ {A = Standing} (elim c as (λ _. Standing)
-            [ false ↦ is-unreached | true ↦ elim (cut L g q p.hops stop) as (λ _. Standing) [ true ↦ is-shadowed | false ↦ is_visible_lem ] ])
+            [ false ↦ is_unreached | true ↦ elim (cut L g q p.hops stop) as (λ _. Standing) [ true ↦ is_shadowed | false ↦ is_visible ] ])
             (elim c as (λ _. Standing) [
-              | false ↦ is-unreached
-              | true ↦ elim (cut_by p.hops stop) as (λ _. Standing) [ true ↦ is-shadowed | false ↦ is_visible_lem ]
+              | false ↦ is_unreached
+              | true ↦ elim (cut_by p.hops stop) as (λ _. Standing) [ true ↦ is_shadowed | false ↦ is_visible ]
             ])
         split false t = refl
         split true t = rw (reached_cut p t)

@@ -7,7 +7,7 @@ use Rattle.scope_graph.specs.Language.{End, stop, Language, Laws}
 use Rattle.scope_graph.specs.Graph.{Graph, InRange, Query, OpenPair}
 use Rattle.scope_graph.specs.Path.{Path}
 use Rattle.scope_graph.specs.Rows.{any_of}
-use Rattle.scope_graph.specs.Computed.{keep, Node, Standing, is_visible_lem, is-shadowed, is-unreached, usable, rows_at, entries, is_reached, standing, open_end, followed_at}
+use Rattle.scope_graph.specs.Computed.{keep, Node, Standing, is_visible, is_shadowed, is_unreached, usable, rows_at, entries, is_reached, standing, open_end, followed_at}
 use Rattle.search.specs.Board.{Board, board_of, without, exists_from, reached_by, cut_along, hits_from}
 use Rattle.search.specs.Live.{any_way, open_way, Closed}
 
@@ -29,8 +29,8 @@ module _ (L : Language) (g : Graph L) (q : Query L) (free : ℕ → Bool) where
     -- and then it is shadowed exactly if an end along it is cut
     pub standing_is : (p : Path L) → standing L g q p
         ≡ (elim (eqb p.start q.start && reached_by (board_of L g q.name) free q.start 0 p.hops) as (λ _. Standing) [
-          | false ↦ is-unreached
-          | true ↦ elim (cut_along (board_of L g q.name) L.prefers g.scopes free q.start 0 p.hops stop) as (λ _. Standing) [ true ↦ is-shadowed | false ↦ is_visible_lem ]
+          | false ↦ is_unreached
+          | true ↦ elim (cut_along (board_of L g q.name) L.prefers g.scopes free q.start 0 p.hops stop) as (λ _. Standing) [ true ↦ is_shadowed | false ↦ is_visible ]
         ])
 
 -- behind a place of a free scope that a closed table lacks nothing is reached and nothing is

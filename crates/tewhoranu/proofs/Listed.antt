@@ -40,7 +40,7 @@ use Rattle.comparison.proofs.FewSteps.{compare_few}
 use Rattle.resolution.specs.Listing.{listing_of, listing_for, summary_for}
 use Rattle.judge.specs.Judge.{judge_of, judge_answer}
 use Rattle.judge.proofs.FewSteps.{judge_few}
-use Rattle.scope_graph.specs.Agree.{Judgement, as_visible, as_shadowed, as-unreached}
+use Rattle.scope_graph.specs.Agree.{Judgement, as_visible, as_shadowed, as_unreached}
 use Rattle.conversion.specs.Conversion.{unshown, old_text, new_text, text_in, text_of, old_of, new_of}
 use Rattle.ruled.specs.Ruled.{ruled_of}
 use Rattle.ruled.proofs.Refusing.{refusals}
@@ -411,7 +411,7 @@ judge_steps : (text : List ℕ) (i : ℕ) (row : List ℕ) (room : ℕ) (j : Jud
 unfolding standing_steps
 judge_steps text i row room as_visible e = omega arith
 judge_steps text i row room (as_shadowed n) e = judge_few text i row room n e
-judge_steps text i row room as-unreached e = omega arith
+judge_steps text i row room as_unreached e = omega arith
 
 compare_steps : (text a b : List ℕ) (n m : ℕ) (t : Told) → compare_answer text a b n m ≡ done t → comparison_steps t ≤ 63
 unfolding comparison_steps

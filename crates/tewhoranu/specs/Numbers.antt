@@ -1,7 +1,7 @@
 -- The number that a C or Rust host gets for each answer: below 64 it is a refusal, by its own
 -- number; any other answer has 64 or more. Assumes nothing: these are definitions.
 use Rattle.std.specs.Prelude.{ℕ, ◌+◌, ◌*◌, ◌%◌, ◌<◌, List, Bool, true, false, eqb, length}
-use Rattle.scope_graph.specs.Agree.{Judgement, as_visible, as_shadowed, as-unreached}
+use Rattle.scope_graph.specs.Agree.{Judgement, as_visible, as_shadowed, as_unreached}
 use Rattle.text_field.specs.Outcome.{Outcome, refused, done}
 use Rattle.graph_file.specs.NameSought.{name_sought, place_sought}
 use Rattle.comparison.specs.Compare.{Comparison, first, second, neither, Told}
@@ -55,12 +55,12 @@ compared o = told (λ t. case_number (comparison_case t) (steps_number (comparis
 unfoldable pub standing_case : Judgement → ℕ
 standing_case as_visible = 0
 standing_case (as_shadowed n) = 1
-standing_case as-unreached = 2
+standing_case as_unreached = 2
 
 unfoldable pub standing_steps : Judgement → ℕ
 standing_steps as_visible = 0
 standing_steps (as_shadowed n) = n
-standing_steps as-unreached = 0
+standing_steps as_unreached = 0
 
 unfoldable pub judged : Outcome Judgement → ℕ
 judged o = told (λ s. case_number (standing_case s) (steps_number (standing_steps s))) o

@@ -9,7 +9,7 @@ use lib.Dec.{leb}
 use lib.ListN.{length, take, drop}
 use borrow.Author.Tests.{le-leb}
 use Rattle.scope_graph.specs.Rows.{PackedName}
-use Rattle.scope_graph.specs.Computed.{Found, found_none, found-one, found-several}
+use Rattle.scope_graph.specs.Computed.{Found, found_none, found_one, found_several}
 use Rattle.scope_graph.proofs.Lists.{and_both}
 use Rattle.text_field.specs.declared.NumberRead.{NumberRead}
 use Rattle.text_field.specs.declared.NumberRead.TheVariants.{Number, NoNumber}
@@ -51,8 +51,8 @@ module _ (s rest : List ℕ) where
   pub found_is : (f : Found) → found_here s ≡ done (f, rest) → s ≡ found_text f ++ rest
   unfolding found_here
   found_is f e =
-      else_either (s ≡ found_text f ++ rest) (word_here found_none s) (or_else (word_here found-one s) (word_here found-several s)) (f, rest) e (word_is found_none f)
-      (λ k. else_either (s ≡ found_text f ++ rest) (word_here found-one s) (word_here found-several s) (f, rest) k (word_is found-one f) (word_is found-several f))
+      else_either (s ≡ found_text f ++ rest) (word_here found_none s) (or_else (word_here found_one s) (word_here found_several s)) (f, rest) e (word_is found_none f)
+      (λ k. else_either (s ≡ found_text f ++ rest) (word_here found_one s) (word_here found_several s) (f, rest) k (word_is found_one f) (word_is found_several f))
 
   -- what may stand under `awaits`
   pub record AwaitsStand (a : Option NamedPair) : Type 0 where

@@ -11,7 +11,7 @@ use lib.ListN.{length, get_or, take, drop}
 use lib.Seq.{take_at, drop_at, drop-append-add}
 use borrow.Author.Tests.{ne_eqb, eqb-true, leb-true}
 use Rattle.scope_graph.specs.Rows.{PackedName}
-use Rattle.scope_graph.specs.Computed.{Found, found_none, found-one, found-several}
+use Rattle.scope_graph.specs.Computed.{Found, found_none, found_one, found_several}
 use Rattle.text_field.specs.Bytes.{within, is_digit, is_capital}
 use Rattle.text_field.specs.declared.NumberRead.{NumberRead}
 use Rattle.text_field.specs.declared.NumberRead.TheVariants.{Number, NoNumber}
@@ -41,8 +41,8 @@ use Rattle.told.proofs.Apart.{parts_are}
 pub found_back : (f : Found) (rest : List ℕ) → found_here (found_text f ++ rest) ≡ done (f, rest)
 unfolding found_here word_here after or_else and_then found_text
 found_back found_none rest = refl
-found_back found-one rest = refl
-found_back found-several rest = refl
+found_back found_one rest = refl
+found_back found_several rest = refl
 
 -- an end is no digit
 end_bare : (x : ℕ) → is_end x ≡ true → is_digit x ≡ false

@@ -12,7 +12,7 @@ use Rattle.scope_graph.specs.Language.{◌∈◌}
 use Rattle.scope_graph.specs.Graph.{Query, OpenPair}
 use Rattle.scope_graph.specs.Path.{PathRow}
 use Rattle.scope_graph.specs.Rows.{PackedName, language}
-use Rattle.scope_graph.specs.Computed.{Found, found_none, found-one, found-several}
+use Rattle.scope_graph.specs.Computed.{Found, found_none, found_one, found_several}
 use Rattle.scope_graph.proofs.Lists.{here, there}
 use Rattle.text_field.specs.declared.NumberRead.{NumberRead}
 use Rattle.text_field.specs.declared.NumberRead.TheVariants.{Number, NoNumber}
@@ -115,8 +115,8 @@ word_ten f s n e = then_ten (after (found_text f) s) (λ t. done (f, t)) n e (af
 found_ten : (s : List ℕ) (n : ℕ) → found_here s ≡ refused n → n ≡ 10
 unfolding found_here
 found_ten s n e =
-    word_ten found-several s n
-    (else_ten (word_here found-one s) (word_here found-several s) n (else_ten (word_here found_none s) (or_else (word_here found-one s) (word_here found-several s)) n e))
+    word_ten found_several s n
+    (else_ten (word_here found_one s) (word_here found_several s) n (else_ten (word_here found_none s) (or_else (word_here found_one s) (word_here found_several s)) n e))
 
 end_ten : (v : ℕ) (s : List ℕ) (n : ℕ) → end_by v s ≡ refused n → n ≡ 10
 unfolding end_by

@@ -4,7 +4,7 @@ use mathlib.Core.Path.{◌≡◌, refl, sym, ap, ◌∙◌}
 use mathlib.Core.List.{List, [], ◌∷◌, ◌++◌}
 use native.Mathlib.Omega.{arith}
 use lib.ListN.{drop}
-use Rattle.scope_graph.specs.Computed.{Found, found_none, found-one, found-several}
+use Rattle.scope_graph.specs.Computed.{Found, found_none, found_one, found_several}
 use Rattle.text_field.specs.Outcome.{Outcome, refused, done, and_then}
 use Rattle.text_field.proofs.OutcomeLaws.{went}
 use Rattle.follow.specs.Text.{found_text}

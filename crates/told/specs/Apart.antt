@@ -5,7 +5,7 @@ use Rattle.std.specs.Prelude.{ℕ, zero, suc, Bool, true, false, not, List, [], 
 use Rattle.std.proofs.Math.Option.{Option, some, none}
 use Rattle.scope_graph.specs.Graph.{Query}
 use Rattle.scope_graph.specs.Rows.{PackedName, language}
-use Rattle.scope_graph.specs.Computed.{Found, found_none, found-one, found-several}
+use Rattle.scope_graph.specs.Computed.{Found, found_none, found_one, found_several}
 use Rattle.text_field.specs.declared.NumberRead.{NumberRead}
 use Rattle.text_field.specs.declared.NumberRead.TheVariants.{Number, NoNumber}
 use Rattle.text_field.specs.declared.lines.LineRead.{LineRead}
@@ -41,7 +41,7 @@ unfoldable pub word_here : Found → List ℕ → Read Found
 word_here f s = and_then (after (found_text f) s) (λ rest. done (f, rest))
 
 unfoldable pub found_here : List ℕ → Read Found
-found_here s = or_else (word_here found_none s) (or_else (word_here found-one s) (word_here found-several s))
+found_here s = or_else (word_here found_none s) (or_else (word_here found_one s) (word_here found_several s))
 
 -- an open pair: its scope, then its end
 unfoldable pub end_by : ℕ → List ℕ → Read (Option NamedPair)

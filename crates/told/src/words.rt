@@ -1,6 +1,6 @@
 // The word under `found`.
 ghost use Rattle.std.specs.Prelude.{◌≡◌, drop};
-ghost use Rattle.scope_graph.specs.Computed.{found-one, found-several};
+ghost use Rattle.scope_graph.specs.Computed.{found_one, found_several};
 ghost use Rattle.told.specs.Apart.{or_else, word_here, found_here};
 ghost use Rattle.told.specs.Steps.{word_meaning};
 
@@ -16,7 +16,7 @@ pub enum FoundRead {
 
 // `several`, if it stands at the place.
 fn read_several(s: &[u8], at: usize) -> FoundRead
-    ensures answer { word_meaning s.now result ≡ word_here found-several (drop at s.now) }
+    ensures answer { word_meaning s.now result ≡ word_here found_several (drop at s.now) }
 {
     let Place::At(next) = past(s, at, b"several") else {
         return FoundRead::NoWord;
@@ -26,7 +26,7 @@ fn read_several(s: &[u8], at: usize) -> FoundRead
 
 // `one` or `several`.
 fn read_one(s: &[u8], at: usize) -> FoundRead
-    ensures answer { word_meaning s.now result ≡ or_else (word_here found-one (drop at s.now)) (word_here found-several (drop at s.now)) }
+    ensures answer { word_meaning s.now result ≡ or_else (word_here found_one (drop at s.now)) (word_here found_several (drop at s.now)) }
 {
     let Place::At(next) = past(s, at, b"one") else {
         return read_several(s, at);

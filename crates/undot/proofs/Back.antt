@@ -131,7 +131,7 @@ module _ (text cells : List ℕ) (read : read_cells text ≡ done cells) where
   label_is : (row : Row) → row ∈ rows → place (get_or letters (value row 1) 0) letters ≡ value row 1
   unfolding shape_at shapes_of
   label_is row m =
-      let below = label_below (has_turns (form_in cells)) (length (rows_in label_section cells)) _ row ((t.rows.sections edge_section (omega arith)).each row m).in_range_lem in
+      let below = label_below (has_turns (form_in cells)) (length (rows_in label_section cells)) _ row ((t.rows.sections edge_section (omega arith)).each row m).in_range in
       let n = labels_are cells t in
       place_at letters (accepted cells t).letters (value row 1) (omega arith)
 

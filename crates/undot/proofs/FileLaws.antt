@@ -31,7 +31,7 @@ use Rattle.undot.specs.Scopes.{file_scopes}
 use Rattle.undot.specs.Edges.{rows_with}
 use Rattle.undot.specs.Undrawn.{with_edges, drawn_rows, undrawn_text, undrawn_by}
 use Rattle.undot.specs.Rows.{Ready, without_edges, edges_put, edges_text}
-use Rattle.undot.proofs.Places.{label_count_lem, some_cell}
+use Rattle.undot.proofs.Places.{label_count, some_cell}
 use Rattle.undot.proofs.Tables.{read_table, accepted, size_most, with_again, letters_stay, scopes_stay, none_left}
 use Rattle.undot.proofs.Putting.{changed_read}
 
@@ -53,7 +53,7 @@ module _ (cells : List ℕ) (was : WasRead cells) where
   unfolding rules_of
   labels_counted r e =
       let s : r ≡ start_of 1 cells = e ∙ start_at 1 cells read_some in
-      let c : (r - 1) / 6 ≡ length (letters_of cells) = ap (λ (n : ℕ). (n - 1) / 6) s ∙ label_count_lem cells formed in
+      let c : (r - 1) / 6 ≡ length (letters_of cells) = ap (λ (n : ℕ). (n - 1) / 6) s ∙ label_count cells formed in
       (c, few c)
     where
       few : (r - 1) / 6 ≡ length (letters_of cells) → (r - 1) / 6 ≤ 8
@@ -91,8 +91,8 @@ module _ (cells : List ℕ) (was : WasRead cells) where
     bare_ready = record {
       formed = (none_left cells formed).formed;
       turns = λ row m. absurd (Memᴰ.not-nil (subst (λ (l : List Row). row ∈ l) none_rows m));
-      label_count_lem = a ∙ sym (ap length (letters_stay [] cells bare (none_left cells formed)));
-      scope_count_lem = b ∙ sym (scopes_stay [] cells bare (none_left cells formed));
+      label_count = a ∙ sym (ap length (letters_stay [] cells bare (none_left cells formed)));
+      scope_count = b ∙ sym (scopes_stay [] cells bare (none_left cells formed));
     }
 
     pub cleared_ready : (c : List ℕ) → c ≡ bare → Ready labels scopes c × (length (rows_in edge_section c) ≡ 0)

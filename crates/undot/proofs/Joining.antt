@@ -86,12 +86,12 @@ unfolding edge_shape formed every_item item_formed field_formed idle_zeros idle_
 edge_formed true labels scopes from l to few a b c = record {
   five = refl;
   formed = rw (le-leb from 99999 (omega arith), le-leb to 99999 (omega arith));
-  in_range_lem = rw (lt-ltb from scopes a, lt-ltb l labels b, lt-ltb to scopes c);
+  in_range = rw (lt-ltb from scopes a, lt-ltb l labels b, lt-ltb to scopes c);
 }
 edge_formed false labels scopes from l to few a b c = record {
   five = refl;
   formed = rw (le-leb from 99999 (omega arith), le-leb to 99999 (omega arith));
-  in_range_lem = rw (lt-ltb from scopes a, lt-ltb l labels b, lt-ltb to scopes c);
+  in_range = rw (lt-ltb from scopes a, lt-ltb l labels b, lt-ltb to scopes c);
 }
 
 module _ (labels scopes : ℕ) (cells : List ℕ) (r : Ready labels scopes cells) (e : DrawnEdge) where
@@ -143,8 +143,8 @@ module _ (labels scopes : ℕ) (cells : List ℕ) (r : Ready labels scopes cells
         record {
           formed = joined.formed;
           turns = λ a m. turns a (subst (λ (l : List Row). a ∈ l) joined.own m);
-          label_count_lem = r.label_count_lem ∙ sym (ap length (letters_stay _ cells (with_row edge_section row cells) joined));
-          scope_count_lem = r.scope_count_lem ∙ sym (scopes_stay _ cells (with_row edge_section row cells) joined);
+          label_count = r.label_count ∙ sym (ap length (letters_stay _ cells (with_row edge_section row cells) joined));
+          scope_count = r.scope_count ∙ sym (scopes_stay _ cells (with_row edge_section row cells) joined);
         }
       where
         turns : (a : Row) → a ∈ inserted (section_at edge_section).key row rows → value a 3 ≡ 0

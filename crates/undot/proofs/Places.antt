@@ -51,9 +51,9 @@ module _ (cells : List ℕ) (t : FormedTable cells) where
   unfolding letters_of
   labels_are = length-map (rows_in label_section cells) (λ (row : Row). value row 0)
 
-  pub label_count_lem : (start_of 1 cells - 1) / 6 ≡ length (letters_of cells)
+  pub label_count : (start_of 1 cells - 1) / 6 ≡ length (letters_of cells)
   unfolding cells_from
-  label_count_lem =
+  label_count =
       let s = start_is 1 (omega arith) in
       let n = cells_size 0 (rows 0) (five 0 (omega arith)) in
       let l = labels_are in

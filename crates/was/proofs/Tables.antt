@@ -73,12 +73,12 @@ module _ (cells : List ℕ) (was : WasRead cells) where
   start_below = start_in_lem L (scopes_of cells) (queries_of cells) a.scopes_least a.starts
 
   -- where the edges lead
-  in_range_lem : InRange L (graph_of cells)
-  in_range_lem = let least = a.scopes_least in (a.accepted (record { start = 0; name = record { kind = 0; high = 0; low = 0 } }) (omega arith)).in_range_lem
+  in_range : InRange L (graph_of cells)
+  in_range = let least = a.scopes_least in (a.accepted (record { start = 0; name = record { kind = 0; high = 0; low = 0 } }) (omega arith)).in_range
 
   pub after_below : (s t : ℕ) → t ∈ scopes_after L edges s → t < scopes_of cells
   unfolding graph_of
-  after_below s t m = let e = after_in L edges s t m in rw e.2 (in_range_lem.to_scope e.0 e.1)
+  after_below s t m = let e = after_in L edges s t m in rw e.2 (in_range.to_scope e.0 e.1)
 
   pub after_is : (s : ℕ) → scopes_by (part_of edge_section cells) s ≡ scopes_after L edges s
   unfolding scopes_by graph_of

@@ -11,10 +11,10 @@ scope-count-requires : tie.Need-scope-count-requires
 scope-count-requires c κs = search rules
 
 returns : tie.Need-returns
-returns c = walked_over _ _ _ _ _ (rw c.before.scope_count_lem.ensures at c.if1.true)
+returns c = walked_over _ _ _ _ _ (rw c.before.scope_count.ensures at c.if1.true)
 
 returns-2 : tie.Need-returns-2
-returns-2 c = walked_none _ _ _ _ _ (sym c.before.before.scope_count_lem.ensures ∙ c.if2.true)
+returns-2 c = walked_none _ _ _ _ _ (sym c.before.before.scope_count.ensures ∙ c.if2.true)
 
 ask-start-requires : tie.Need-ask-start-requires
 ask-start-requires c κs = search rules
@@ -41,7 +41,7 @@ returns-3 : tie.Need-returns-3
 returns-3 c =
     let a = c.before.before.before.before.before.before.before.before.before.before.before.before.before.before.args in
     c.before.before.follow-at.ensures
-    ∙ walked_all a.block.now a.table.now a.ask.now a.aim _ c.before.before.before.before.before.before.before.before.scope_count_lem.result c.before.before.before.before.before.ask-start.result c.before.before.before.before.taken.result _ c.before.before.before.before.before.before.before.before.scope_count_lem.ensures (omega (arith, c.before.before.before.before.before.before.before.if1.false)) c.before.before.before.before.before.before.if2.false c.before.before.before.before.before.ask-start.ensures c.before.before.before.before.taken.ensures
+    ∙ walked_all a.block.now a.table.now a.ask.now a.aim _ c.before.before.before.before.before.before.before.before.scope_count.result c.before.before.before.before.before.ask-start.result c.before.before.before.before.taken.result _ c.before.before.before.before.before.before.before.before.scope_count.ensures (omega (arith, c.before.before.before.before.before.before.before.if1.false)) c.before.before.before.before.before.before.if2.false c.before.before.before.before.before.ask-start.ensures c.before.before.before.before.taken.ensures
 
 pub walk-spec : {M : Type 1} → statement M
 walk-spec =

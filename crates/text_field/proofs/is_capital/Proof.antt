@@ -8,7 +8,7 @@ in-range-requires c κs = search rules
 
 returns : tie.Need-returns
 unfolding is_capital
-returns c = c.in_range_lem.ensures
+returns c = c.in_range.ensures
 
 pub is-capital-spec : {M : Type 1} → statement M
 is-capital-spec = tie.close (tie.spec in-range-requires returns)

@@ -8,7 +8,7 @@ in-range-requires c κs = search rules
 
 returns : tie.Need-returns
 unfolding is_digit
-returns c = c.in_range_lem.ensures
+returns c = c.in_range.ensures
 
 pub is-digit-spec : {M : Type 1} → statement M
 is-digit-spec = tie.close (tie.spec in-range-requires returns)

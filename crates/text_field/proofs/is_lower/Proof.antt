@@ -8,7 +8,7 @@ in-range-requires c κs = search rules
 
 returns : tie.Need-returns
 unfolding is_lower
-returns c = c.in_range_lem.ensures
+returns c = c.in_range.ensures
 
 pub is-lower-spec : {M : Type 1} → statement M
 is-lower-spec = tie.close (tie.spec in-range-requires returns)

@@ -30,7 +30,7 @@ same-found-requires : tie.Need-same-found-requires
 same-found-requires c κs = search rules
 
 returns-3 : tie.Need-returns-3
-returns-3 c = let a = c.before.before.before.before.before.before.before.before.before.before.before.args in count_told a.table.now (query_in a.table.now a.ask.now) (found_meaning a.found) a.count a.bytes _ refl refl _ _ c.before.before.before.before.before.before.take_entries.ensures c.before.before.before.before.if1.false (omega arith) _ c.before.found_by.ensures _ c.same_found_lem.ensures
+returns-3 c = let a = c.before.before.before.before.before.before.before.before.before.before.before.args in count_told a.table.now (query_in a.table.now a.ask.now) (found_meaning a.found) a.count a.bytes _ refl refl _ _ c.before.before.before.before.before.before.take_entries.ensures c.before.before.before.before.if1.false (omega arith) _ c.before.found_by.ensures _ c.same_found.ensures
 
 pub count-right-spec : {M : Type 1} → statement M
 count-right-spec =

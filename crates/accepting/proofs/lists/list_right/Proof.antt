@@ -51,7 +51,7 @@ may-await-requires : tie.Need-may-await-requires
 may-await-requires c κs = c.before.before.before.before.before.before.before.before.before.ask-of.ensures.ready
 
 returns-4 : tie.Need-returns-4
-returns-4 c = let a = c.before.before.before.before.before.before.before.before.before.before.before.before.before.before.args in let w = c.before.before.before.before.before.before.before.before.before.before.before.before.before.before.requires.1.1 in all_but_awaits a.table.now (query_on a.table.now a.q) (listing_at a.lists.now a.l) a.l.count (a.l.next - a.l.first) w.counted _ (subst (λ (z : Query (language (rules_of a.table.now))). CountTold a.table.now z (found_meaning a.l.found) a.l.count (a.l.next - a.l.first) c.before.before.before.before.before.before.before.count-right.result) c.before.before.before.before.before.before.before.before.before.before.ask-of.ensures.query c.before.before.before.before.before.before.before.count-right.ensures) (not-false _ c.before.before.before.before.before.before.if1.false) (sym c.before.before.before.before.before.all-visible.ensures ∙ not-false _ c.before.before.before.before.if2.false) (sym c.before.before.before.all_different.ensures ∙ not-false _ c.before.before.if3.false) _ (c.may_await_lem.ensures ∙ ap (λ (z : Query (language (rules_of a.table.now))). may_await a.table.now z (named_meaning a.l.awaits)) c.before.before.before.before.before.before.before.before.before.before.ask-of.ensures.query)
+returns-4 c = let a = c.before.before.before.before.before.before.before.before.before.before.before.before.before.before.args in let w = c.before.before.before.before.before.before.before.before.before.before.before.before.before.before.requires.1.1 in all_but_awaits a.table.now (query_on a.table.now a.q) (listing_at a.lists.now a.l) a.l.count (a.l.next - a.l.first) w.counted _ (subst (λ (z : Query (language (rules_of a.table.now))). CountTold a.table.now z (found_meaning a.l.found) a.l.count (a.l.next - a.l.first) c.before.before.before.before.before.before.before.count-right.result) c.before.before.before.before.before.before.before.before.before.before.ask-of.ensures.query c.before.before.before.before.before.before.before.count-right.ensures) (not-false _ c.before.before.before.before.before.before.if1.false) (sym c.before.before.before.before.before.all-visible.ensures ∙ not-false _ c.before.before.before.before.if2.false) (sym c.before.before.before.all_different.ensures ∙ not-false _ c.before.before.if3.false) _ (c.may_await.ensures ∙ ap (λ (z : Query (language (rules_of a.table.now))). may_await a.table.now z (named_meaning a.l.awaits)) c.before.before.before.before.before.before.before.before.before.before.ask-of.ensures.query)
 
 pub list-right-spec : {M : Type 1} → statement M
 list-right-spec =

@@ -5,7 +5,7 @@ use native.Mathlib.Omega.{arith}
 use lib.ListN.{length, drop}
 use Rattle.graph_table.specs.Sections.{rows_of}
 use Rattle.accepting.specs.Steps.{has_open}
-use Rattle.accepting.proofs.OpenLaws.{open_end_lem, open_here, open_scope, open_other}
+use Rattle.accepting.proofs.OpenLaws.{open_end, open_here, open_scope, open_other}
 use Rattle.accepting.proofs.opens.is_open.Statement.{statement}
 use Rattle.accepting.proofs.opens.is_open.Tie as tie
 
@@ -43,7 +43,7 @@ loop-again-2 : tie.Need-loop-preserved-2 invariant-loop decreases-loop
 loop-again-2 c = let a = c.before.before.before.before.before.before.before.before.args in let l = c.before.before.before.before.before.before.loop in (omega arith, open_other a.at a.end a.opens.now l.p c.before.before.before.before.open_row.result (omega arith) c.before.before.before.before.open_row.ensures c.before.before.if1.false c.if2.false ∙ l.invariant.1)
 
 returns-2 : tie.Need-returns-2 invariant-loop decreases-loop
-returns-2 c = let a = c.before.before.before.args in let l = c.before.loop in open_end_lem a.at a.end a.opens.now l.p (omega arith) ∙ l.invariant.1
+returns-2 c = let a = c.before.before.before.args in let l = c.before.loop in open_end a.at a.end a.opens.now l.p (omega arith) ∙ l.invariant.1
 
 pub is-open-spec : {M : Type 1} → statement M
 is-open-spec =

@@ -28,7 +28,7 @@ is-visible-requires : tie.Need-is-visible-requires
 is-visible-requires c κs = search rules
 
 returns-2 : tie.Need-returns-2
-returns-2 c = let a = c.before.before.before.before.before.before.before.before.before.before.args in text_judged a.table.now a.q a.row.now _ _ _ (row_read a.row.now _ c.before.before.before.before.before.before.read_row_lem.ensures _ _ _ c.before.before.before.before.mark.given.1) _ c.before.before.steps_of.ensures _ c.before.standing.ensures _ c.is_visible_lem.ensures
+returns-2 c = let a = c.before.before.before.before.before.before.before.before.before.before.args in text_judged a.table.now a.q a.row.now _ _ _ (row_read a.row.now _ c.before.before.before.before.before.before.read_row_lem.ensures _ _ _ c.before.before.before.before.mark.given.1) _ c.before.before.steps_of.ensures _ c.before.standing.ensures _ c.is_visible.ensures
 
 pub row-visible-spec : {M : Type 1} → statement M
 row-visible-spec =

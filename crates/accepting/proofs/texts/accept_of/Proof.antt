@@ -31,7 +31,7 @@ first-wrong-requires : tie.Need-first-wrong-requires
 first-wrong-requires c κs = (c.before.before.before.before.before.before.before.before.before.requires, (c.before.before.before.before.before.put-board.ensures, sym c.before.before.in_form_lem.ensures ∙ not-false _ c.before.if1.false))
 
 returns-2 : tie.Need-returns-2
-returns-2 c = c.first_wrong_lem.ensures
+returns-2 c = c.first_wrong.ensures
 
 pub accept-of-spec : {M : Type 1} → statement M
 accept-of-spec =

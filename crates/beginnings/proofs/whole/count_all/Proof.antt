@@ -35,7 +35,7 @@ slice-aggregate-comes-to-most c = search rules
 comes-to-most-requires : tie.Need-comes-to-most-requires
 comes-to-most-requires c κs =
     let s = c.before.before.before.before.before.before.before.before.before.before.before in
-    let scopes = c.before.before.before.before.before.before.before.scope_count_lem in
+    let scopes = c.before.before.before.before.before.before.before.scope_count in
     let start = c.before.before.before.before.before.before.ask-start in
     let first = c.before.before.before.before.before.first-scopes in
     let free = c.before.before.before.before.taken in
@@ -45,7 +45,7 @@ comes-to-most-requires c κs =
 returns : tie.Need-returns
 returns c =
     let s = c.before.before.before.before.before.before.before.before.before.before.before.before.before in
-    let scopes = c.before.before.before.before.before.before.before.before.before.scope_count_lem in
+    let scopes = c.before.before.before.before.before.before.before.before.before.scope_count in
     let start = c.before.before.before.before.before.before.before.before.ask-start in
     let first = c.before.before.before.before.before.before.before.first-scopes in
     let free = c.before.before.before.before.before.before.taken in
@@ -58,7 +58,7 @@ slice-aggregate-count-by c = search rules
 count-by-requires : tie.Need-count-by-requires
 count-by-requires c κs =
     let s = c.before.before.before.before.before.before.before.before.before.before.before in
-    let scopes = c.before.before.before.before.before.before.before.scope_count_lem in
+    let scopes = c.before.before.before.before.before.before.before.scope_count in
     let start = c.before.before.before.before.before.before.ask-start in
     let first = c.before.before.before.before.before.first-scopes in
     let free = c.before.before.before.before.taken in
@@ -68,7 +68,7 @@ count-by-requires c κs =
 returns-2 : tie.Need-returns-2
 returns-2 c =
     let s = c.before.before.before.before.before.before.before.before.before.before.before.before in
-    let scopes = c.before.before.before.before.before.before.before.before.scope_count_lem in
+    let scopes = c.before.before.before.before.before.before.before.before.scope_count in
     let start = c.before.before.before.before.before.before.before.ask-start in
     let first = c.before.before.before.before.before.before.first-scopes in
     let free = c.before.before.before.before.before.taken in

@@ -26,7 +26,7 @@ more-specific-requires : tie.Need-more-specific-requires
 more-specific-requires c κs = c.before.before.put-board.ensures.size
 
 returns-2 : tie.Need-returns-2
-returns-2 c = let a = c.before.before.before.before.before.before.before.before.args in starts_same a.cells.now a.start a.other (steps_taken a.a) (steps_taken a.b) c.before.before.before.before.before.before.before.before.requires c.before.before.before.before.before.if1.false _ c.before.before.before.put-board.ensures c.before.before.before.before.before.before.agreed.result c.before.before.before.before.before.before.agreed.ensures c.more_specific_lem.result c.more_specific_lem.ensures
+returns-2 c = let a = c.before.before.before.before.before.before.before.before.args in starts_same a.cells.now a.start a.other (steps_taken a.a) (steps_taken a.b) c.before.before.before.before.before.before.before.before.requires c.before.before.before.before.before.if1.false _ c.before.before.before.put-board.ensures c.before.before.before.before.before.before.agreed.result c.before.before.before.before.before.before.agreed.ensures c.more_specific.result c.more_specific.ensures
 
 pub compare-steps-spec : {M : Type 1} → statement M
 compare-steps-spec =

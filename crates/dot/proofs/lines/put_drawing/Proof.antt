@@ -37,7 +37,7 @@ same_length c = search rules
 
 returns : tie.Need-returns
 unfolding close_line
-returns c = table_puts c.before.before.before.before.before.before.before.before.before.before.before.before.before.before.before.before.before.before.before.before.before.before.before.args.table.now c.before.before.before.before.before.before.before.before.before.before.before.before.before.before.before.before.before.before.before.before.before.before.before.requires _ _ c.before.before.before.before.before.before.before.before.before.before.before.before.before.before.before.before.before.before.before.before.section-rows.ensures c.before.before.before.before.before.before.before.before.before.section-rows2.ensures _ c.before.before.before.before.before.before.before.before.before.before.before.before.before.before.before.before.before.before.has-turn.ensures _ c.before.before.before.before.before.before.before.before.before.before.before.before.before.scope_count_lem.ensures _ _ _ _ _ c.before.before.before.before.before.before.before.before.before.before.before.before.before.before.before.before.before.put-head.ensures c.before.before.before.before.before.before.before.before.before.before.before.before.put-scopes.ensures c.before.before.before.before.before.before.before.put-edges.ensures c.before.before.put-bytes.ensures
+returns c = table_puts c.before.before.before.before.before.before.before.before.before.before.before.before.before.before.before.before.before.before.before.before.before.before.before.args.table.now c.before.before.before.before.before.before.before.before.before.before.before.before.before.before.before.before.before.before.before.before.before.before.before.requires _ _ c.before.before.before.before.before.before.before.before.before.before.before.before.before.before.before.before.before.before.before.before.section-rows.ensures c.before.before.before.before.before.before.before.before.before.section-rows2.ensures _ c.before.before.before.before.before.before.before.before.before.before.before.before.before.before.before.before.before.before.has-turn.ensures _ c.before.before.before.before.before.before.before.before.before.before.before.before.before.scope_count.ensures _ _ _ _ _ c.before.before.before.before.before.before.before.before.before.before.before.before.before.before.before.before.before.put-head.ensures c.before.before.before.before.before.before.before.before.before.before.before.before.put-scopes.ensures c.before.before.before.before.before.before.before.put-edges.ensures c.before.before.put-bytes.ensures
 
 pub put-drawing-spec : {M : Type 1} → statement M
 put-drawing-spec =

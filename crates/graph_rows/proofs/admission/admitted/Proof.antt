@@ -25,18 +25,18 @@ in-range-requires : tie.Need-in-range-requires
 in-range-requires c κs = search rules
 
 returns-2 : tie.Need-returns-2
-returns-2 c = let a = c.before.before.before.before.before.before.args in let i : in_range a.c.labels a.c.scopes (items_at (range_place a.s.form a.s.section)) (row_of (drop a.p a.table.now)) ≡ false = rw (← layout_range a.s c.before.before.before.before.before.before.requires.1.1.0, ← c.before.in_range_lem.ensures) (not-true _ c.if2.true) in sym (refused_range a.s.form a.s.section a.table.now a.p a.c (omega (arith, layout_limit a.s c.before.before.before.before.before.before.requires.1.1.0, c.before.before.if1.false)) i)
+returns-2 c = let a = c.before.before.before.before.before.before.args in let i : in_range a.c.labels a.c.scopes (items_at (range_place a.s.form a.s.section)) (row_of (drop a.p a.table.now)) ≡ false = rw (← layout_range a.s c.before.before.before.before.before.before.requires.1.1.0, ← c.before.in_range.ensures) (not-true _ c.if2.true) in sym (refused_range a.s.form a.s.section a.table.now a.p a.c (omega (arith, layout_limit a.s c.before.before.before.before.before.before.requires.1.1.0, c.before.before.if1.false)) i)
 
 row-follows-requires : tie.Need-row-follows-requires
 row-follows-requires c κs = search rules
 
 returns-3 : tie.Need-returns-3
 unfolding unless
-returns-3 c = let a = c.before.before.before.before.before.before.before.before.args in let i : in_range a.c.labels a.c.scopes (items_at (range_place a.s.form a.s.section)) (row_of (drop a.p a.table.now)) ≡ true = rw (← layout_range a.s c.before.before.before.before.before.before.before.before.requires.1.1.0, ← c.before.before.before.in_range_lem.ensures) (not-false _ c.before.before.if2.false) in sym (follows_last a.s.form a.s.section a.table.now a.p a.c (omega (arith, layout_limit a.s c.before.before.before.before.before.before.before.before.requires.1.1.0, c.before.before.before.before.if1.false)) i (sym c.before.row-follows.ensures ∙ not-true _ c.if3.true))
+returns-3 c = let a = c.before.before.before.before.before.before.before.before.args in let i : in_range a.c.labels a.c.scopes (items_at (range_place a.s.form a.s.section)) (row_of (drop a.p a.table.now)) ≡ true = rw (← layout_range a.s c.before.before.before.before.before.before.before.before.requires.1.1.0, ← c.before.before.before.in_range.ensures) (not-false _ c.before.before.if2.false) in sym (follows_last a.s.form a.s.section a.table.now a.p a.c (omega (arith, layout_limit a.s c.before.before.before.before.before.before.before.before.requires.1.1.0, c.before.before.before.before.if1.false)) i (sym c.before.row-follows.ensures ∙ not-true _ c.if3.true))
 
 returns-4 : tie.Need-returns-4
 unfolding unless
-returns-4 c = let a = c.before.before.before.before.before.before.before.before.args in let i : in_range a.c.labels a.c.scopes (items_at (range_place a.s.form a.s.section)) (row_of (drop a.p a.table.now)) ≡ true = rw (← layout_range a.s c.before.before.before.before.before.before.before.before.requires.1.1.0, ← c.before.before.before.in_range_lem.ensures) (not-false _ c.before.before.if2.false) in sym (follows_last a.s.form a.s.section a.table.now a.p a.c (omega (arith, layout_limit a.s c.before.before.before.before.before.before.before.before.requires.1.1.0, c.before.before.before.before.if1.false)) i (sym c.before.row-follows.ensures ∙ not-false _ c.if3.false))
+returns-4 c = let a = c.before.before.before.before.before.before.before.before.args in let i : in_range a.c.labels a.c.scopes (items_at (range_place a.s.form a.s.section)) (row_of (drop a.p a.table.now)) ≡ true = rw (← layout_range a.s c.before.before.before.before.before.before.before.before.requires.1.1.0, ← c.before.before.before.in_range.ensures) (not-false _ c.before.before.if2.false) in sym (follows_last a.s.form a.s.section a.table.now a.p a.c (omega (arith, layout_limit a.s c.before.before.before.before.before.before.before.before.requires.1.1.0, c.before.before.before.before.if1.false)) i (sym c.before.row-follows.ensures ∙ not-false _ c.if3.false))
 
 pub admitted-spec : {M : Type 1} → statement M
 admitted-spec =

@@ -10,7 +10,7 @@ same-name-requires : tie.Need-same-name-requires
 same-name-requires c κs = search rules
 
 returns : tie.Need-returns
-returns c = let a = c.before.before.before.args in c.same_name_lem.ensures ∙ sym (declares_there _ a.s a.row c.before.if1.true)
+returns c = let a = c.before.before.before.args in c.same_name.ensures ∙ sym (declares_there _ a.s a.row c.before.if1.true)
 
 returns-2 : tie.Need-returns-2
 returns-2 c = let a = c.before.before.args in ne_eqb a.row.at a.s c.if1.false ∙ sym (declares_apart _ a.s a.row c.if1.false)

@@ -2,7 +2,7 @@
 use borrow.Author.Rules.{rules}
 use mathlib.Core.Path.{ap}
 use native.Mathlib.Omega.{arith}
-use Rattle.scope_graph.specs.Agree.{as_visible, as_shadowed, as-unreached}
+use Rattle.scope_graph.specs.Agree.{as_visible, as_shadowed, as_unreached}
 use Rattle.judge.specs.Judge.{meaning}
 use Rattle.gym.specs.Said.{counted, standing_name}
 use Rattle.gym.proofs.ReplyLaws.{line_replied, refused_replied, visible_short, shadowed_short, unreached_short}
@@ -61,7 +61,7 @@ same-length-3 c = search rules
 
 returns-3 : tie.Need-returns-3
 unfolding standing_name meaning
-returns-3 c = line_replied standing_name (meaning c.before.before.before.before.before.before.before.before.args.j) _ _ _ as-unreached (ap meaning c.before.before.before.before.before.enum-told2.given.1) unreached_short c.before.before.put-bytes2.ensures
+returns-3 c = line_replied standing_name (meaning c.before.before.before.before.before.before.before.before.args.j) _ _ _ as_unreached (ap meaning c.before.before.before.before.before.enum-told2.given.1) unreached_short c.before.before.put-bytes2.ensures
 
 same-length-4 : tie.Need-same-length-4
 same-length-4 c = search rules

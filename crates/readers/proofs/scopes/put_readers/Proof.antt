@@ -57,7 +57,7 @@ reads-requires : tie.Need-reads-requires invariant-loop decreases-loop
 reads-requires c κs =
     let a = c.before.before.before.before.before.before.before.before.before.before.before.before.before.args in
     let p = c.before.before.before.before.before.before.before.before.before.before.before.before.before.requires in
-    let n = c.before.before.before.before.before.before.before.scope_count_lem.ensures in
+    let n = c.before.before.before.before.before.before.before.scope_count.ensures in
     let m = scopes_counted a.table.now a.block.now a.d p in
     (p, (subst (λ (l : List ℕ). DeclaringIs l (packed a.d.name) c.before.before.before.before.before.before.before.before.declaring.result) c.before.before.before.before.before.before.before.before.before.part.ensures c.before.before.before.before.before.before.before.before.declaring.ensures, omega arith))
 
@@ -94,9 +94,9 @@ unfolding readers
 returns c =
     let a = c.before.before.before.before.before.before.before.before.before.before.before.before.before.args in
     let l = c.before.loop in
-    let all : l.next ≡ c.before.before.before.before.before.before.before.scope_count_lem.result = omega arith in
+    let all : l.next ≡ c.before.before.before.before.before.before.before.scope_count.result = omega arith in
     text_whole (test a.table.now a.d) l.next _ _ _ _
-    (all ∙ c.before.before.before.before.before.before.before.scope_count_lem.ensures ∙ scopes_all a.table.now a.block.now a.d c.before.before.before.before.before.before.before.before.before.before.before.before.before.requires)
+    (all ∙ c.before.before.before.before.before.before.before.scope_count.ensures ∙ scopes_all a.table.now a.block.now a.d c.before.before.before.before.before.before.before.before.before.before.before.before.before.requires)
     c.before.before.before.before.put-bytes.ensures l.invariant.1
 
 pub put-readers-spec : {M : Type 1} → statement M

@@ -47,7 +47,7 @@ same_length : tie.Need-same-length
 same_length c = search rules
 
 returns : tie.Need-returns
-returns c = let w = where_at c.before.before.before.before.before.before.before.before.before.before.before.before.before.before.before.before.before.before.before.before.before.before.before.before.before.args.table.now c.before.before.before.before.before.before.before.before.before.before.before.before.before.before.before.before.before.before.before.before.before.before.before.before.before.requires.0 c.before.before.before.before.before.before.before.before.before.before.before.before.before.before.before.before.before.before.before.before.before.rows_from_lem.result c.before.before.before.before.before.before.before.before.before.before.before.before.before.before.before.before.before.before.before.before.rows-from2.result c.before.before.before.before.before.before.before.before.before.before.before.before.before.before.before.before.before.before.before.before.before.rows_from_lem.ensures c.before.before.before.before.before.before.before.before.before.before.before.before.before.before.before.before.before.before.before.before.rows-from2.ensures in let at = w.in_turn in let in-it = w.within in let front = w.front in let back = w.back in let room = c.before.before.before.before.before.before.before.before.before.before.before.before.before.before.before.before.before.before.before.before.before.before.before.before.before.requires.1 in let a = c.before.before.before.before.before.before.before.before.before.before.before.before.before.before.before.before.before.before.before.before.before.before.before.before.before.args in filled a.table.now c.before.before.before.before.before.before.before.before.before.before.before.before.before.before.before.before.before.before.before.before.before.before.before.before.before.requires.0 a.r c.before.before.before.before.before.before.before.before.before.before.before.before.before.before.before.before.before.before.before.before.before.rows_from_lem.result c.before.before.before.before.before.before.before.before.before.before.before.before.before.before.before.before.before.before.before.before.rows-from2.result c.before.before.before.before.before.before.before.before.before.before.before.before.before.before.before.before.before.before.before.before.before.before.label_count_lem.result (a.own.now, 0) _ _ _ _ w.at w.to c.before.before.before.before.before.before.before.before.before.before.before.before.before.before.before.before.before.before.before.before.before.before.label_count_lem.ensures c.before.before.before.before.before.before.before.before.before.before.before.before.before.before.before.before.before.put-cells.ensures.0 c.before.before.before.before.before.before.before.before.before.before.before.put-transitions.ensures.0 c.before.before.before.before.before.before.before.put-accepts.ensures.0 c.before.before.put-cells2.ensures.0
+returns c = let w = where_at c.before.before.before.before.before.before.before.before.before.before.before.before.before.before.before.before.before.before.before.before.before.before.before.before.before.args.table.now c.before.before.before.before.before.before.before.before.before.before.before.before.before.before.before.before.before.before.before.before.before.before.before.before.before.requires.0 c.before.before.before.before.before.before.before.before.before.before.before.before.before.before.before.before.before.before.before.before.before.rows_from_lem.result c.before.before.before.before.before.before.before.before.before.before.before.before.before.before.before.before.before.before.before.before.rows-from2.result c.before.before.before.before.before.before.before.before.before.before.before.before.before.before.before.before.before.before.before.before.before.rows_from_lem.ensures c.before.before.before.before.before.before.before.before.before.before.before.before.before.before.before.before.before.before.before.before.rows-from2.ensures in let at = w.in_turn in let in-it = w.within in let front = w.front in let back = w.back in let room = c.before.before.before.before.before.before.before.before.before.before.before.before.before.before.before.before.before.before.before.before.before.before.before.before.before.requires.1 in let a = c.before.before.before.before.before.before.before.before.before.before.before.before.before.before.before.before.before.before.before.before.before.before.before.before.before.args in filled a.table.now c.before.before.before.before.before.before.before.before.before.before.before.before.before.before.before.before.before.before.before.before.before.before.before.before.before.requires.0 a.r c.before.before.before.before.before.before.before.before.before.before.before.before.before.before.before.before.before.before.before.before.before.rows_from_lem.result c.before.before.before.before.before.before.before.before.before.before.before.before.before.before.before.before.before.before.before.before.rows-from2.result c.before.before.before.before.before.before.before.before.before.before.before.before.before.before.before.before.before.before.before.before.before.before.label_count.result (a.own.now, 0) _ _ _ _ w.at w.to c.before.before.before.before.before.before.before.before.before.before.before.before.before.before.before.before.before.before.before.before.before.before.label_count.ensures c.before.before.before.before.before.before.before.before.before.before.before.before.before.before.before.before.before.put-cells.ensures.0 c.before.before.before.before.before.before.before.before.before.before.before.put-transitions.ensures.0 c.before.before.before.before.before.before.before.put-accepts.ensures.0 c.before.before.put-cells2.ensures.0
 
 pub fill_spec : {M : Type 1} → statement M
 fill_spec =

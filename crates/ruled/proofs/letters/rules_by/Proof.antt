@@ -14,19 +14,19 @@ label-count-requires : tie.Need-label-count-requires
 label-count-requires c κs = read_some c.before.before.args.table.now c.before.before.requires
 
 letter-bytes-requires : tie.Need-letter-bytes-requires
-letter-bytes-requires c κs = few_labels c.before.before.before.args.table.now c.before.before.before.requires _ c.label_count_lem.ensures
+letter-bytes-requires c κs = few_labels c.before.before.before.args.table.now c.before.before.before.requires _ c.label_count.ensures
 
 array-share-prefix-letters : tie.Need-array-share-prefix-letters
-array-share-prefix-letters c = few_letters c.before.before.before.before.args.table.now c.before.before.before.before.requires _ c.before.label_count_lem.ensures c.letter-bytes.result c.letter-bytes.ensures.0
+array-share-prefix-letters c = few_letters c.before.before.before.before.args.table.now c.before.before.before.before.requires _ c.before.label_count.ensures c.letter-bytes.result c.letter-bytes.ensures.0
 
 slice-aggregate-path-rules : tie.Need-slice-aggregate-path-rules
-slice-aggregate-path-rules c = sym (length-take-le _ _ (few_letters c.before.before.before.before.before.args.table.now c.before.before.before.before.before.requires _ c.before.before.label_count_lem.ensures c.before.letter-bytes.result c.before.letter-bytes.ensures.0))
+slice-aggregate-path-rules c = sym (length-take-le _ _ (few_letters c.before.before.before.before.before.args.table.now c.before.before.before.before.before.requires _ c.before.before.label_count.ensures c.before.letter-bytes.result c.before.letter-bytes.ensures.0))
 
 path-rules-requires : tie.Need-path-rules-requires
 path-rules-requires c κs = search rules
 
 returns : tie.Need-returns
-returns c = let a = c.before.before.before.before.before.before.args in c.path-rules.ensures ∙ ap (λ (ls : List ℕ). rules_of ls a.expression.now) (letters_are a.table.now c.before.before.before.before.before.before.requires _ c.before.before.before.label_count_lem.ensures c.before.before.letter-bytes.result c.before.before.letter-bytes.ensures.1)
+returns c = let a = c.before.before.before.before.before.before.args in c.path-rules.ensures ∙ ap (λ (ls : List ℕ). rules_of ls a.expression.now) (letters_are a.table.now c.before.before.before.before.before.before.requires _ c.before.before.before.label_count.ensures c.before.before.letter-bytes.result c.before.before.letter-bytes.ensures.1)
 
 pub rules-by-spec : {M : Type 1} → statement M
 rules-by-spec =

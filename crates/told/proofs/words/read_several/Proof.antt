@@ -1,7 +1,7 @@
 -- `read_several` meets its contract. Assumes nothing.
 use mathlib.Core.Path.{sym, ap, ◌∙◌}
 use lib.ListN.{drop}
-use Rattle.scope_graph.specs.Computed.{found-several}
+use Rattle.scope_graph.specs.Computed.{found_several}
 use Rattle.follow.specs.Text.{found_text}
 use Rattle.resolution.specs.Asked.{found_meaning}
 use Rattle.told.specs.Steps.{word_meaning}
@@ -25,11 +25,11 @@ enum_told c = search rules
 
 returns : tie.Need-returns
 unfolding word_meaning found_text
-returns c = let a = c.before.before.before.before.before.args in sym (word_none found-several (drop a.at a.s.now) (place_none a.s.now _ _ _ c.before.before.past.ensures c.enum_told.given.1))
+returns c = let a = c.before.before.before.before.before.args in sym (word_none found_several (drop a.at a.s.now) (place_none a.s.now _ _ _ c.before.before.past.ensures c.enum_told.given.1))
 
 returns-2 : tie.Need-returns-2
 unfolding word_meaning found_meaning found_text
-returns-2 c = let a = c.before.before.before.before.before.before.args in sym (word_some found-several (drop a.at a.s.now) _ (place_at a.s.now _ _ _ c.before.before.before.past.ensures _ c.before.next.given.1))
+returns-2 c = let a = c.before.before.before.before.before.before.args in sym (word_some found_several (drop a.at a.s.now) _ (place_at a.s.now _ _ _ c.before.before.before.past.ensures _ c.before.next.given.1))
 
 pub read-several-spec : {M : Type 1} → statement M
 read-several-spec =

@@ -32,14 +32,14 @@ scope-count-requires : tie.Need-scope-count-requires
 scope-count-requires c κs = search rules
 
 has-scopes-requires : tie.Need-has-scopes-requires
-has-scopes-requires c κs = scopes_few _ c.before.before.before.before.before.before.before.before.before.requires.0 _ c.scope_count_lem.ensures
+has-scopes-requires c κs = scopes_few _ c.before.before.before.before.before.before.before.before.before.requires.0 _ c.scope_count.ensures
 
 same_length : tie.Need-same-length
 same_length c = search rules
 
 returns-2 : tie.Need-returns-2
 unfolding answer_of
-returns-2 c = scopes_other _ c.before.before.before.before.before.before.before.before.before.before.before.requires.0 c.before.before.before.before.before.before.before.before.before.before.before.args.dot.now _ c.before.before.before.before.before.before.before.drawing.ensures c.before.before.before.before.before.before.before.before.before.before.before.args.out.now _ _ c.before.before.before.before.before.scopes.given.1 _ c.before.before.scope_count_lem.ensures _ c.before.has-scopes.ensures (not-true _ c.if1.true)
+returns-2 c = scopes_other _ c.before.before.before.before.before.before.before.before.before.before.before.requires.0 c.before.before.before.before.before.before.before.before.before.before.before.args.dot.now _ c.before.before.before.before.before.before.before.drawing.ensures c.before.before.before.before.before.before.before.before.before.before.before.args.out.now _ _ c.before.before.before.before.before.scopes.given.1 _ c.before.before.scope_count.ensures _ c.before.has-scopes.ensures (not-true _ c.if1.true)
 
 write-with-requires : tie.Need-write-with-requires
 write-with-requires c κs = search rules
@@ -51,7 +51,7 @@ same-length-3 : tie.Need-same-length-3
 same-length-3 c = search rules
 
 returns-3 : tie.Need-returns-3
-returns-3 c = scopes_same _ c.before.before.before.before.before.before.before.before.before.before.before.before.before.before.before.before.before.before.requires.0 c.before.before.before.before.before.before.before.before.before.before.before.before.before.before.before.before.before.before.args.dot.now _ c.before.before.before.before.before.before.before.before.before.before.before.before.before.before.drawing.ensures c.before.before.before.before.before.before.before.before.before.before.before.before.before.before.before.before.before.before.args.out.now _ _ c.before.before.before.before.before.before.before.before.before.before.before.before.scopes.given.1 _ c.before.before.before.before.before.before.before.before.before.scope_count_lem.ensures _ c.before.before.before.before.before.before.before.before.has-scopes.ensures (not-false _ c.before.before.before.before.before.before.before.if1.false) _ _ c.before.before.before.before.write-with.ensures
+returns-3 c = scopes_same _ c.before.before.before.before.before.before.before.before.before.before.before.before.before.before.before.before.before.before.requires.0 c.before.before.before.before.before.before.before.before.before.before.before.before.before.before.before.before.before.before.args.dot.now _ c.before.before.before.before.before.before.before.before.before.before.before.before.before.before.drawing.ensures c.before.before.before.before.before.before.before.before.before.before.before.before.before.before.before.before.before.before.args.out.now _ _ c.before.before.before.before.before.before.before.before.before.before.before.before.scopes.given.1 _ c.before.before.before.before.before.before.before.before.before.scope_count.ensures _ c.before.before.before.before.before.before.before.before.has-scopes.ensures (not-false _ c.before.before.before.before.before.before.before.if1.false) _ _ c.before.before.before.before.write-with.ensures
 
 pub undraw-spec : {M : Type 1} → statement M
 undraw-spec =

@@ -31,7 +31,7 @@ clear-edges-requires : tie.Need-clear-edges-requires
 clear-edges-requires c κs = search rules
 
 put-edges-requires : tie.Need-put-edges-requires
-put-edges-requires c κs = let q = cleared_ready _ c.before.before.before.before.before.before.before.before.before.before.before.before.requires.0 _ _ c.before.before.before.before.before.before.before.label_count_lem.ensures c.before.before.before.before.before.scope_count_lem.ensures _ c.before.before.before.clear-edges.ensures.0 in (q.0, (q.1, (c.before.before.before.clear-edges.ensures.1, omega (arith, c.before.before.before.before.before.before.before.before.before.before.before.before.requires.1.1, c.before.before.before.clear-edges.auto.0))))
+put-edges-requires c κs = let q = cleared_ready _ c.before.before.before.before.before.before.before.before.before.before.before.before.requires.0 _ _ c.before.before.before.before.before.before.before.label_count.ensures c.before.before.before.before.before.scope_count.ensures _ c.before.before.before.clear-edges.ensures.0 in (q.0, (q.1, (c.before.before.before.clear-edges.ensures.1, omega (arith, c.before.before.before.before.before.before.before.before.before.before.before.before.requires.1.1, c.before.before.before.clear-edges.auto.0))))
 
 enum-known-put : tie.Need-enum-known-put
 enum-known-put c = search rules

@@ -25,10 +25,10 @@ scope-count-requires : tie.Need-scope-count-requires
 scope-count-requires c κs = search rules
 
 list-unmet-requires : tie.Need-list-unmet-requires
-list-unmet-requires c κs = let t = c.before.before.before.before.before.before.before.before.args.table.now in let w = c.before.before.before.before.before.before.before.before.requires in let m = scopes_most t w in let e = c.scope_count_lem.ensures in (omega arith, met_begins t w _ c.before.before.before.before.before.before.section-rows.ensures _ (start_is t w _ c.before.before.before.before.before.first_in.ensures) _ _ c.before.before.before.list-met.ensures.0 c.before.before.before.list-met.ensures.1)
+list-unmet-requires c κs = let t = c.before.before.before.before.before.before.before.before.args.table.now in let w = c.before.before.before.before.before.before.before.before.requires in let m = scopes_most t w in let e = c.scope_count.ensures in (omega arith, met_begins t w _ c.before.before.before.before.before.before.section-rows.ensures _ (start_is t w _ c.before.before.before.before.before.first_in.ensures) _ _ c.before.before.before.list-met.ensures.0 c.before.before.before.list-met.ensures.1)
 
 returns : tie.Need-returns
-returns c = let t = c.before.before.before.before.before.before.before.before.before.before.args.table.now in let w = c.before.before.before.before.before.before.before.before.before.before.requires in list_is t w _ c.before.before.before.before.before.before.before.before.section-rows.ensures _ (start_is t w _ c.before.before.before.before.before.before.before.first_in.ensures) _ _ c.before.before.before.before.before.list-met.ensures.0 c.before.before.before.before.before.list-met.ensures.1 _ _ c.before.before.scope_count_lem.ensures c.before.list-unmet.ensures.1
+returns c = let t = c.before.before.before.before.before.before.before.before.before.before.args.table.now in let w = c.before.before.before.before.before.before.before.before.before.before.requires in list_is t w _ c.before.before.before.before.before.before.before.before.section-rows.ensures _ (start_is t w _ c.before.before.before.before.before.before.before.first_in.ensures) _ _ c.before.before.before.before.before.list-met.ensures.0 c.before.before.before.before.before.list-met.ensures.1 _ _ c.before.before.scope_count.ensures c.before.list-unmet.ensures.1
 
 pub list-scopes-spec : {M : Type 1} → statement M
 list-scopes-spec =
