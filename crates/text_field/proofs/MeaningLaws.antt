@@ -6,7 +6,6 @@ use Rattle.text_field.specs.declared.NumberRead.{NumberRead}
 use Rattle.text_field.specs.declared.NumberRead.TheVariants.{Number, NoNumber}
 use Rattle.text_field.specs.declared.NameRead.{NameRead}
 use Rattle.text_field.specs.declared.NameRead.TheVariants.{Name, NoName}
-use Rattle.text_field.specs.Outcome.{Outcome, refused, done}
 use Rattle.text_field.specs.Number.{NumberFound, number_meaning}
 use Rattle.text_field.specs.Name.{NameFound, name_meaning}
 use Rattle.text_field.proofs.OutcomeLaws.{done_same, not_done}
