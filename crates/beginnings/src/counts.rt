@@ -17,7 +17,7 @@ use resolution::{ask_of, listing, query_at, query_count};
 use text_field::Answer;
 
 // What asking for the count comes to.
-#[derive(Drop)]
+#[derive(Clone, Copy)]
 pub enum Counted {
     Refused(u64),
     Count(u64),

@@ -13,7 +13,7 @@ const ROOM: usize = 512;
 
 // How many edges are put, the place behind the rows that were looked through, and a number that no
 // edge's cell is above.
-#[derive(Drop)]
+#[derive(Clone, Copy)]
 pub struct Put {
     pub edges: usize,
     pub place: usize,

@@ -19,7 +19,7 @@ const NO_STEPS: usize = 0;
 
 // Which of two rows is more specific, with the number of steps that they share from the front on; or
 // the refusal's number.
-#[derive(Drop)]
+#[derive(Clone, Copy)]
 pub enum Compared {
     First(usize),
     Second(usize),
@@ -28,7 +28,7 @@ pub enum Compared {
 }
 
 // Two rows compared: the answer, and the steps of each for its table, none after a refusal.
-#[derive(Drop)]
+#[derive(Clone, Copy)]
 pub struct ComparedRows {
     pub answer: Compared,
     pub first: Steps,

@@ -8,7 +8,7 @@ use text_field::NumberRead;
 
 // An edge: the scope that it leaves, its label's letter, the scope that it leads to, and the place
 // after it.
-#[derive(Drop)]
+#[derive(Clone, Copy)]
 pub enum EdgeRead {
     Edge(u64, u8, u64, usize),
     NoEdge,

@@ -11,14 +11,14 @@ use text_field::{NumberRead, is_capital, read_number};
 const QUOTED: usize = 3;
 
 // Where the text goes on after what was looked for; or it does not stand there.
-#[derive(Drop)]
+#[derive(Clone, Copy)]
 pub enum Rest {
     From(usize),
     Nowhere,
 }
 
 // A letter in quotes, and the place after it.
-#[derive(Drop)]
+#[derive(Clone, Copy)]
 pub enum LetterRead {
     Letter(u8, usize),
     NoLetter,

@@ -8,7 +8,7 @@ use crate::tokens::{Rest, fixed, is_blank, past_blanks, past_bytes};
 use text_field::NumberRead;
 
 // Where the scopes and where the edges begin; or the text is no drawing.
-#[derive(Drop)]
+#[derive(Clone, Copy)]
 pub enum DrawingRead {
     Parts(usize, usize),
     NoDrawing,

@@ -23,7 +23,7 @@ pub use next::{Next, first_followed, next_followed};
 use nodes::follow_at;
 
 // What the walk does at a place: takes the rows of the entries there, or notes that it is one.
-#[derive(Drop)]
+#[derive(Clone, Copy)]
 pub enum Task {
     Entries,
     Place,
@@ -31,7 +31,7 @@ pub enum Task {
 
 // What a walk asks for: bytes after which rows are only counted and their declarations compared,
 // bytes of the lent memory that it may write, and how many entries it counts up to.
-#[derive(Drop)]
+#[derive(Clone, Copy)]
 pub struct Bounds {
     pub limit: usize,
     pub kept: usize,
@@ -40,7 +40,7 @@ pub struct Bounds {
 
 // What is sought: places of these scopes and states where the end is not cut, and what is done
 // there.
-#[derive(Drop)]
+#[derive(Clone, Copy)]
 pub struct Aim {
     pub scopes: u64,
     pub states: u64,
@@ -51,7 +51,7 @@ pub struct Aim {
 
 // The declarations that the rows so far are of: none, one, by its scope and mark, or several. All
 // are of the name sought.
-#[derive(Drop)]
+#[derive(Clone, Copy)]
 pub enum Seen {
     None,
     One(u64, u64),
@@ -60,7 +60,7 @@ pub enum Seen {
 
 // The place behind the rows that are within the limit, the entries up to the most that are counted,
 // whether the rows passed the limit, and their declarations.
-#[derive(Drop)]
+#[derive(Clone, Copy)]
 pub struct Tally {
     pub bytes: usize,
     pub entries: u64,

@@ -11,7 +11,7 @@ use block::{ask_goal, edge_at, edge_label, edges_end, edges_from, most_turn};
 use search::{ALL_LABELS, Node, edge_cut, learn, next_hop};
 
 // An edge, or one past the node's last, and what is known by then of the node's ends.
-#[derive(Drop)]
+#[derive(Clone, Copy)]
 pub struct Next {
     pub at: u64,
     pub known: u64,

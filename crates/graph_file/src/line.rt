@@ -20,7 +20,7 @@ use text_field::{
 
 // What an item at the front of a text gives: the place after it and its values, or nothing where it
 // does not stand there.
-#[derive(Drop)]
+#[derive(Clone, Copy)]
 pub enum Took {
     Nothing,
     Bare(usize),
@@ -29,7 +29,7 @@ pub enum Took {
 }
 
 // Whether an item stands where it must, and the place after it.
-#[derive(Drop)]
+#[derive(Clone, Copy)]
 struct Step {
     ok: bool,
     next: usize,

@@ -25,7 +25,7 @@ pub const SHORT_CELLS: usize = 253;
 
 // How far reading has come: a refusal or 0, the place after what was read in the text, the place
 // after its rows in the table, and what they count.
-#[derive(Drop)]
+#[derive(Clone, Copy)]
 pub struct Part {
     pub refusal: u64,
     pub next: usize,

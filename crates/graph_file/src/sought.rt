@@ -12,7 +12,7 @@ use text_field::{
 };
 
 // The place of a name's first byte in the text, and the place after its last.
-#[derive(Drop)]
+#[derive(Clone, Copy)]
 pub struct NamePlace {
     pub from: usize,
     pub to: usize,

@@ -23,7 +23,7 @@ use text_field::{Answer, cell};
 
 // How far writing has come: the place after the text, the place after the rows written, and what
 // they count.
-#[derive(Drop)]
+#[derive(Clone, Copy)]
 pub struct Put {
     pub next: usize,
     pub cells: usize,

@@ -169,9 +169,9 @@ module _ (cells : List ℕ) (t : AdmittedTable cells) where
   abbrev Beside : Edge L → Edge L → Type 0
   Beside e f = e.from ≡ f.from → e.to ≡ f.to → L.Together e.step f.step
 
-  in_range : InRange L (graph_of cells)
+  graph_in_range : InRange L (graph_of cells)
   unfolding graph_of edge_of declaration_of rules_of shape_at shapes_of
-  in_range = record {
+  graph_in_range = record {
     from_scope = each as_edge (λ (e : Edge L). e.from < scopes_of cells) (rows_in edge_section cells) (scope_in edge_section (omega arith) 0 edge_from);
     to_scope = each as_edge (λ (e : Edge L). e.to < scopes_of cells) (rows_in edge_section cells)
         (scope_in edge_section (omega arith) 2 edge_to_lem);
@@ -193,7 +193,7 @@ module _ (cells : List ℕ) (t : AdmittedTable cells) where
   unfolding graph_of opens_of section_at sections edges declarations open_pairs
   accepted q s = record {
     laws = language_laws (rules_of cells) rules_pass;
-    in_range = in_range;
+    in_range = graph_in_range;
     edges_ascend = ascend as_edge (EdgeBefore L) edge_section (omega arith) tt (edge_key_lem (rules_of cells));
     declarations_ascend = ascend as_declaration (MarkBefore L) declaration_section (omega arith) tt (mark_key (rules_of cells));
     opens_ascend = ascend as_open_pair (PairBefore L) open_section (omega arith) tt (open_key (rules_of cells));

@@ -96,7 +96,7 @@ follow_apart q key letters own row e h =
     and_left (ascends key own row) (not (repeats own row)) (ap (λ (s : Sequence). follows s key letters own row) e ∙ h)
 
 pub sorted_on : (k : ℕ) (st : Sofar) (row : Row) → follows (section_at k).sequence (section_at k).key st.letters st.own row ≡ true → SortedSofar k st.own
-    → SortedSofar k (taken k st row).own_val
+    → SortedSofar k (taken k st row).own
 unfolding taken
 sorted_on k st row f s e =
     ascended_row (section_at k).key st.own row (s e) (follow_apart (section_at k).sequence (section_at k).key st.letters st.own row e f)

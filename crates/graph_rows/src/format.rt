@@ -195,7 +195,7 @@ pub fn least(k: usize) -> usize
 
 // How a section's rows follow one another: they ascend; they ascend and no edge stands twice; no
 // letter stands twice; or they are free.
-#[derive(Drop)]
+#[derive(Clone, Copy)]
 pub enum Sequence {
     Ascending,
     Apart,
@@ -243,7 +243,7 @@ fn filled_place(form: u64, k: usize) -> usize
 // What every row of a section asks for, looked up once where the section begins: the form of the
 // file and the section's number, how many rows it may have, where the items of a row and those of
 // its fields start that have a range, and how many places of a row are filled.
-#[derive(Drop)]
+#[derive(Clone, Copy)]
 pub struct Layout {
     pub form: u64,
     pub section: usize,

@@ -13,7 +13,7 @@ const VALUES: usize = 5;
 
 // What has been counted of the rows so far: the labels, the order pairs, the scopes that the file
 // says it has, the rows of this section.
-#[derive(Drop)]
+#[derive(Clone, Copy)]
 pub struct Counts {
     pub labels: u32,
     pub pairs: u32,

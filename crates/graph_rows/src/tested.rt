@@ -16,7 +16,7 @@ use crate::rows::{Counts, counts_after};
 use text_field::cell;
 
 // How far a test has come: its refusal or 0, the place after the rows tested, and what they count.
-#[derive(Drop)]
+#[derive(Clone, Copy)]
 pub struct Tested {
     pub refusal: u64,
     pub cells: usize,

@@ -4,7 +4,7 @@ ghost use Rattle.scope_graph.specs.Rows.{same_name};
 ghost use Rattle.graph_table.specs.Values.{packed};
 
 // The kind by its letter's byte, and the two numbers that the name's bytes are packed into.
-#[derive(Drop)]
+#[derive(Clone, Copy)]
 pub struct Name {
     pub kind: u64,
     pub high: u64,

@@ -9,7 +9,7 @@ use crate::names::{Name, same_name};
 use scope_graph::{End, Pair, Turn};
 
 // `state label next`
-#[derive(Drop)]
+#[derive(Clone, Copy)]
 pub struct TransitionRow {
     pub state: u64,
     pub label: u64,
@@ -17,7 +17,7 @@ pub struct TransitionRow {
 }
 
 // `from label to`, and the edge's turn: 0 where the file has none
-#[derive(Drop)]
+#[derive(Clone, Copy)]
 pub struct EdgeRow {
     pub from: u64,
     pub label: u64,
@@ -26,7 +26,7 @@ pub struct EdgeRow {
 }
 
 // `at name mark`, or with its kind `at kind name mark`
-#[derive(Drop)]
+#[derive(Clone, Copy)]
 pub struct DeclarationRow {
     pub at: u64,
     pub name: Name,
@@ -34,14 +34,14 @@ pub struct DeclarationRow {
 }
 
 // `at open`: the end by its number
-#[derive(Drop)]
+#[derive(Clone, Copy)]
 pub struct OpenRow {
     pub at: u64,
     pub end: u64,
 }
 
 // `start seek`, or with its kind `start kind seek`
-#[derive(Drop)]
+#[derive(Clone, Copy)]
 pub struct QueryRow {
     pub start: u64,
     pub name: Name,

@@ -14,7 +14,7 @@ pub const SECTION: usize = 0;
 pub const SCOPE: usize = 1;
 
 // The form of a file: the old one, or one that shows kinds, with or without turns.
-#[derive(Drop)]
+#[derive(Clone, Copy)]
 pub enum Form {
     Old,
     Kinds,

@@ -36,14 +36,14 @@ pub const ROOM: usize = 32768;
 const LIST: usize = 256;
 
 // Standard output, standard error.
-#[derive(Drop)]
+#[derive(Clone, Copy)]
 pub enum Stream {
     Out,
     Err,
 }
 
 // A reply: its bytes at the front of what was lent, and the stream that gets them.
-#[derive(Drop)]
+#[derive(Clone, Copy)]
 pub struct Put {
     pub on: Stream,
     pub size: usize,

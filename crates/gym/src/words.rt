@@ -8,7 +8,7 @@ use text_field::{NumberRead, read_number};
 // What is answered by one text. `Judge` and `Count` hold the query's number, `Readers` the
 // declaration's place; rows and the expression stay where they are, the judged row in the second
 // argument. `Back` and `Undot` have a second file, which their argument names.
-#[derive(Drop)]
+#[derive(Clone, Copy)]
 pub enum Reply {
     Old,
     New,
@@ -27,14 +27,14 @@ pub enum Reply {
 }
 
 // A command: the listings, which are handed over in parts, or a reply.
-#[derive(Drop)]
+#[derive(Clone, Copy)]
 pub enum Command {
     Listings,
     One(Reply),
 }
 
 // The query that an argument names, if it does.
-#[derive(Drop)]
+#[derive(Clone, Copy)]
 enum Query {
     At(usize),
     None,

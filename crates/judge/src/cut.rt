@@ -51,7 +51,7 @@ fn step_cut(block: &[u64], goal: u64, live: &[u64], n: Node, label: u64, to: u64
 }
 
 // The last place on a path's way whose own end is cut, if one is: how many steps lie before it.
-#[derive(Drop)]
+#[derive(Clone, Copy)]
 pub struct Caught {
     pub found: bool,
     pub place: usize,

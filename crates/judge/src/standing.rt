@@ -19,7 +19,7 @@ use search::{ALL, Node, goal_table};
 
 // The standing of a path row, or the refusal's number. `Shadowed` carries the greatest number of
 // steps in which a reached path that is more specific agrees with the row's.
-#[derive(Drop)]
+#[derive(Clone, Copy)]
 pub enum Judged {
     Visible,
     Shadowed(usize),

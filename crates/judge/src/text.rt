@@ -18,7 +18,7 @@ use path_row::taken::{Steps, no_steps, steps_of};
 use text_field::Answer;
 
 // A row judged: the answer, and the row's steps for its table, none after a refusal.
-#[derive(Drop)]
+#[derive(Clone, Copy)]
 pub struct JudgedRow {
     pub answer: Judged,
     pub steps: Steps,

@@ -18,28 +18,28 @@ pub const MOST_BYTES: usize = 256;
 
 // A step of a path: the label's letter, and the scope that it comes to.
 #[repr(C)]
-#[derive(Drop)]
+#[derive(Clone, Copy)]
 pub struct Step {
     pub label: u8,
     pub scope: u8,
 }
 
 // What stands at the front of a path row: its mark, its start, and the place after them.
-#[derive(Drop)]
+#[derive(Clone, Copy)]
 pub enum HeadRead {
     Head(u64, u64, usize),
     NoHead,
 }
 
 // The step at a place: its letter, its scope, and the place after it.
-#[derive(Drop)]
+#[derive(Clone, Copy)]
 pub enum StepRead {
     Taken(u8, u8, usize),
     NoStep,
 }
 
 // A path row in the large: its mark, its start, and how many steps it has.
-#[derive(Drop)]
+#[derive(Clone, Copy)]
 pub enum RowRead {
     Row(u64, u64, usize),
     NoRow,
@@ -107,7 +107,7 @@ pub fn next_step(s: &[u8], at: usize) -> StepRead
 }
 
 // How far steps go: how many there are, and the place after them.
-#[derive(Drop)]
+#[derive(Clone, Copy)]
 pub struct Walked {
     pub count: usize,
     pub at: usize,

@@ -9,7 +9,7 @@ ghost use Rattle.path_rules.specs.Reading.{fresh, spoiled, merged, chosen, pushe
 use crate::sets::{bit, both, either, has_bit, only_if};
 
 // What is kept of a part.
-#[derive(Drop)]
+#[derive(Clone, Copy)]
 pub struct Part {
     pub nullable: bool,
     pub first: u64,

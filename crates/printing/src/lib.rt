@@ -63,7 +63,7 @@ fn print_refused(text: &[u8], sent: usize, n: u64) -> usize
 }
 
 // The place behind a query's listing, and the query's `found`.
-#[derive(Drop)]
+#[derive(Clone, Copy)]
 struct Printed {
     place: usize,
     found: Found,

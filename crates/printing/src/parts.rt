@@ -16,7 +16,7 @@ use resolution::{Figures, Found, listing_on, summary_by};
 use text_field::{Answer, put_byte, put_bytes, put_number};
 
 // A query's part: its bytes at the front of what was lent, and the query's `found`.
-#[derive(Drop)]
+#[derive(Clone, Copy)]
 pub struct Part {
     pub size: usize,
     pub found: Found,

@@ -28,7 +28,7 @@ const NO_LIST: u64 = 17;
 const LINES: usize = 256;
 
 // What the host is told: a refusal by its number, or how many bytes the file and the list have.
-#[derive(Drop)]
+#[derive(Clone, Copy)]
 pub enum Numbered {
     Refused(u64),
     Written(usize, usize),

@@ -33,7 +33,7 @@ const KEPT: usize = 512;
 
 // What a listing answers, and the query's `found`, which is known of a listing that is too long
 // too. If there is no such query, it is `none`.
-#[derive(Drop)]
+#[derive(Clone, Copy)]
 pub struct Listed {
     pub answer: Answer,
     pub found: Found,

@@ -23,7 +23,7 @@ use share::share_of;
 use text_field::{Answer, put_byte, put_bytes, put_number};
 
 // How many queries were found so.
-#[derive(Drop)]
+#[derive(Clone, Copy)]
 pub struct Figures {
     pub one: u64,
     pub several: u64,

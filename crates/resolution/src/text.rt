@@ -15,7 +15,7 @@ use graph_table::{Form, Name};
 use text_field::{put_byte, put_bytes, put_name, put_number};
 
 // How many declarations the entries of a query have: `none`, `one` or `several`.
-#[derive(Drop)]
+#[derive(Clone, Copy)]
 pub enum Found {
     None,
     One,
@@ -23,7 +23,7 @@ pub enum Found {
 }
 
 // The first decisive open pair, by its scope and its end's number; or that the query is settled.
-#[derive(Drop)]
+#[derive(Clone, Copy)]
 pub enum Awaits {
     Settled,
     Pair(u64, u64),

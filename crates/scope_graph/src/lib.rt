@@ -4,7 +4,7 @@
 #![tactic(auto)]
 
 // The turn of a step: a step that is no edge row has none.
-#[derive(Drop)]
+#[derive(Clone, Copy)]
 pub enum Turn {
     None,
     Of(u64),
@@ -13,13 +13,13 @@ pub enum Turn {
 // The form that document 01 binds for order pairs ("Where each language form goes"): a struct of
 // two of these, and a preference test that matches on both (`preferred` of crate `comparison`). A
 // label has its number and, since two steps of one label are told apart by it (02, K12), a turn.
-#[derive(Drop)]
+#[derive(Clone, Copy)]
 pub enum End {
     Stop,
     Label(u64, Turn),
 }
 
-#[derive(Drop)]
+#[derive(Clone, Copy)]
 pub struct Pair {
     pub less: End,
     pub more: End,

@@ -28,7 +28,7 @@ pub fn is_goal(block: &[u64], goal: u64, s: u64, q: u64) -> bool
 
 // The table at hand: the one handed down, or one made anew for the scopes that are free at the
 // node.
-#[derive(Drop)]
+#[derive(Clone, Copy)]
 pub enum Table {
     Handed,
     Anew,

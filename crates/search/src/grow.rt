@@ -14,7 +14,7 @@ use block::{
 };
 
 // Against the edges, from where they lead to; or along them.
-#[derive(Drop)]
+#[derive(Clone, Copy)]
 pub enum Way {
     Back,
     On,

@@ -23,7 +23,7 @@ pub use tables::{away_table, goal_table, live_table};
 
 // Where a walk stands: the scopes that are not on its path, how many hops it may still enter, and
 // the scope and state that it has come to.
-#[derive(Drop)]
+#[derive(Clone, Copy)]
 pub struct Node {
     pub free: u64,
     pub left: usize,
@@ -32,7 +32,7 @@ pub struct Node {
 }
 
 // What is known of the ends at a node, and whether the end that was asked about is cut there.
-#[derive(Drop)]
+#[derive(Clone, Copy)]
 pub struct Learnt {
     pub known: u64,
     pub cut: bool,

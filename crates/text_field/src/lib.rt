@@ -14,14 +14,14 @@ pub use answer::Answer;
 pub use lines::{LineRead, next_line};
 
 // The number that starts at a place, and the place after it.
-#[derive(Drop)]
+#[derive(Clone, Copy)]
 pub enum NumberRead {
     Number(u64, usize),
     NoNumber,
 }
 
 // The name that starts at a place, as its two cells, and the place after it.
-#[derive(Drop)]
+#[derive(Clone, Copy)]
 pub enum NameRead {
     Name(u64, u64, usize),
     NoName,

@@ -4,7 +4,7 @@ ghost use Rattle.text_field.specs.Lines.{line_here, line_placed};
 
 // The line that starts at a place: the place of its LF, and the place after it. Without an LF there
 // is no line.
-#[derive(Drop)]
+#[derive(Clone, Copy)]
 pub enum LineRead {
     Line(usize, usize),
     NoLine,

@@ -13,7 +13,7 @@ use resolution::Found;
 
 // What a listing says: `found`, `awaits`, where its first row stands, how many rows there are, and
 // the place after them.
-#[derive(Drop)]
+#[derive(Clone, Copy)]
 pub struct Listing {
     pub found: Found,
     pub awaits: Awaited,
@@ -22,7 +22,7 @@ pub struct Listing {
     pub next: usize,
 }
 
-#[derive(Drop)]
+#[derive(Clone, Copy)]
 pub enum ListingRead {
     Read(Listing),
     NoListing,

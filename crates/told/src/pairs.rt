@@ -10,14 +10,14 @@ use path_row::form::MOST_SCOPE;
 use text_field::{NumberRead, is_capital, read_number};
 
 // `-`, or a scope and the byte of an end.
-#[derive(Drop)]
+#[derive(Clone, Copy)]
 pub enum Awaited {
     Dash,
     Named(u64, u8),
 }
 
 // The same, and the place after it.
-#[derive(Drop)]
+#[derive(Clone, Copy)]
 pub enum AwaitsRead {
     Read(Awaited, usize),
     NoAwaits,

@@ -10,7 +10,7 @@ use graph_table::{Form, Name, QueryRow};
 use text_field::{put_byte, put_name, put_number};
 
 // The place after something that must stand in the text, or that it does not stand there.
-#[derive(Drop)]
+#[derive(Clone, Copy)]
 pub enum Place {
     At(usize),
     Nowhere,

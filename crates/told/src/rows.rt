@@ -6,7 +6,7 @@ use path_row::form::{RowRead, read_row};
 use text_field::{LineRead, next_line};
 
 // Where a row's line ends, and the place after its LF.
-#[derive(Drop)]
+#[derive(Clone, Copy)]
 pub enum RowPlace {
     Row(usize, usize),
     NoRow,
@@ -26,7 +26,7 @@ pub fn row_at(s: &[u8], at: usize) -> RowPlace
 }
 
 // How many rows stand one after the other, and the place after them.
-#[derive(Drop)]
+#[derive(Clone, Copy)]
 pub struct Rows {
     pub count: usize,
     pub next: usize,

@@ -8,7 +8,7 @@ use crate::places::{Place, past};
 use resolution::Found;
 
 // One of the three words, and the place after it.
-#[derive(Drop)]
+#[derive(Clone, Copy)]
 pub enum FoundRead {
     Word(Found, usize),
     NoWord,

@@ -64,7 +64,7 @@ fn number(s: &[u8], at: usize) -> u64 {
 // The line above a case, `KIND WIDTH KEEP LENGTH TEXT ROW NUMBER ROOM`, numbers in hexadecimal: the
 // title's width; how many bytes stay of the case before, and how many come behind them; how many of
 // them all are the text and how many the first row; a number, and the room that is lent.
-#[derive(Drop)]
+#[derive(Clone, Copy)]
 pub struct Head {
     pub kind: u8,
     pub title: usize,

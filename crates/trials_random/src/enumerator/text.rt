@@ -60,7 +60,7 @@ pub fn mark(m: usize) -> usize {
 }
 
 // What stands in a column of a row.
-#[derive(Drop)]
+#[derive(Clone, Copy)]
 enum Column {
     Number(usize),
     Byte(usize),
