@@ -7,7 +7,7 @@ use crate::form::{MOST_STEPS, Step, StepRead, first_step, next_step};
 use text_field::byte_at;
 
 // The steps of a row: the letters and the scopes of the first `count`; behind them stands 0.
-#[derive(Drop)]
+#[derive(Clone, Copy)]
 pub struct Steps {
     pub letters: [u8; 63],
     pub scopes: [u8; 63],

@@ -19,7 +19,7 @@ use crate::walk::{Walk, walk_all};
 // The rows that an expression becomes: how many states there are, where each leads by each label,
 // at state * 8 + label, 16 for nowhere, and 1 for each state that accepts; or what the expression
 // is refused by, 12 or 13, else 0.
-#[derive(Drop)]
+#[derive(Clone, Copy)]
 pub struct Rules {
     pub refusal: u64,
     pub states: usize,

@@ -18,7 +18,7 @@ pub struct Part {
 
 // What is known after the bytes so far: the choice, the sequence and the item being read, whether
 // there is an item, and those of the brackets around; where a position may go on to, and its label.
-#[derive(Drop)]
+#[derive(Clone, Copy)]
 pub struct Reading {
     pub good: bool,
     pub filled: bool,

@@ -6,7 +6,7 @@ use crate::vectors::{place_same, positions_after, same};
 
 // States met so far, each with its set of positions, and where each leads by each label, at state *
 // 8 + label, 16 for nowhere; and whether a seventeenth was met.
-#[derive(Drop)]
+#[derive(Clone, Copy)]
 pub struct Walk {
     pub over: bool,
     pub states: usize,

@@ -12,7 +12,7 @@ use text_field::{NumberRead, put_byte, put_bytes, put_number, read_number};
 
 // What was read as a list: whether it is one, and its numbers, with zeros after them. Of a text
 // that is no list all numbers are 0.
-#[derive(Drop)]
+#[derive(Clone, Copy)]
 pub struct WasList {
     pub ok: bool,
     pub numbers: [u64; 64],
