@@ -148,7 +148,7 @@ module _ (letters : List ℕ) (i : Item) (row : Row) (s text : List ℕ) (t : To
 module _ {A B C : Type 0} (o : Outcome A) (f : A → B) (g : B → Outcome C) where
   pub then_done : (y : B) → and_then o (λ a. done (f a)) ≡ done y → and_then o (λ a. g (f a)) ≡ g y
   unfolding and_then
-  then_done = elim o [ refused n ↦ λ y e. absurd (never n y e) | done a ↦ λ y e. ap g (inner a y e) ]
+  then_done = elim o as (λ k. (y : B) → and_then k (λ a. done (f a)) ≡ done y → and_then k (λ a. g (f a)) ≡ g y) [ refused n ↦ λ y e. absurd (never n y e) | done a ↦ λ y e. ap g (inner a y e) ]
     where
       never : (n : ℕ) (y : B) → ◌≡◌ {A = Outcome B} (refused n) (done y) → ⊥
       never n y e = let z : ◌≡◌ {A = ℕ} 0 1 = cc in omega arith
@@ -158,7 +158,7 @@ module _ {A B C : Type 0} (o : Outcome A) (f : A → B) (g : B → Outcome C) wh
 
   pub then_refused : (n : ℕ) → and_then o (λ a. done (f a)) ≡ refused n → and_then o (λ a. g (f a)) ≡ refused n
   unfolding and_then
-  then_refused = elim o [ refused m ↦ λ n e. inner m n e | done a ↦ λ n e. absurd (never (f a) n e) ]
+  then_refused = elim o as (λ k. (n : ℕ) → and_then k (λ a. done (f a)) ≡ refused n → and_then k (λ a. g (f a)) ≡ refused n) [ refused m ↦ λ n e. inner m n e | done a ↦ λ n e. absurd (never (f a) n e) ]
     where
       never : (y : B) (n : ℕ) → ◌≡◌ {A = Outcome B} (done y) (refused n) → ⊥
       never y n e = let z : ◌≡◌ {A = ℕ} 0 1 = cc in omega arith
