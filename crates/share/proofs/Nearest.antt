@@ -8,7 +8,7 @@ use native.Mathlib.Omega.{arith}
 use native.Mathlib.Nat.{div-add-mod, div-le_self, mod-lt, mul-le-mul_left, eq-or-lt_of_le}
 use lib.Dec.{ltb, eqb, leb}
 use borrow.Author.Tests.{ltb-true, ltb-false, leb-true, leb-false, eqb-true, eqb-false, lt-ltb, le-ltb, eq-eqb, ne_eqb}
-use Rattle.share.specs.Share.{rounded, nearest, share, IsShare, ShareIs, ShareNearest}
+use Rattle.share.specs.Share.{rounded, nearest, share, IsShare, ShareNearest}
 
 -- the three ways, by twice the rest and n
 module _ (one n : ℕ) where
