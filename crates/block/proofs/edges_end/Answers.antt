@@ -1,0 +1,16 @@
+-- `edges_end` meets its contract. Assumes nothing.
+use Prim.Native.Nat.{ℕ, suc, ◌+◌}
+use mathlib.Core.Path.{◌≡◌, ap}
+use native.Mathlib.Omega.{arith}
+use lib.ListN.{get_or}
+use Rattle.block.specs.Layout.{FIRST}
+use Rattle.block.specs.Block.{first_edge}
+use Rattle.block.proofs.edges_end.Goals as goal
+
+pub returns : goal.returns
+unfolding first_edge
+returns c = record {
+  answer = let s = c.args.s in
+      let place : FIRST + s + 1 ≡ FIRST + suc s = omega arith in
+      ap (λ (i : ℕ). get_or c.args.block.now i 0) place;
+}
