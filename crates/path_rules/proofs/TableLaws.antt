@@ -24,7 +24,7 @@ use Rattle.path_rules.specs.declared.walk.Walk.{Walk}
 use Rattle.path_rules.specs.declared.Rules.{Rules}
 use Rattle.path_rules.proofs.Fill.{tabulate_at}
 use Rattle.path_rules.proofs.SetLaws.{has_or, has_only, has_one}
-use Rattle.path_rules.proofs.Positions.{nullable, first, last, follow, Labelled, Placed}
+use Rattle.path_rules.proofs.Positions.{last, follow, Labelled, Placed}
 use Rattle.path_rules.proofs.PositionsRight.{leads_more, start_of, leads_sound, leads_complete}
 use Rattle.path_rules.proofs.Trees.{tree}
 use Rattle.path_rules.proofs.Tracks.{Tracks, sizes, follows, linked_at}

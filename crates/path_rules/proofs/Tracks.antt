@@ -17,7 +17,7 @@ use Rattle.path_rules.specs.declared.reading.Part.{Part}
 use Rattle.path_rules.specs.declared.reading.Reading.{Reading}
 use Rattle.path_rules.proofs.Fill.{tabulate_at}
 use Rattle.path_rules.proofs.SetLaws.{has_or, has_only, has_none}
-use Rattle.path_rules.proofs.Positions.{nullable, first, last, follow, Labelled}
+use Rattle.path_rules.proofs.Positions.{first, last, follow, Labelled}
 use Rattle.path_rules.proofs.Trees.{seq_o, alt_o, Frame, Tree, tree}
 use Rattle.path_rules.proofs.PartLaws.{size_o, first_o, last_o, follow_o, PartOf, or_none, seq_of, alt_of, star_of, letter_of_lem, empty_of, none_of, any_of, follow_seq, follow_alt, size_seq, size_alt}
 
