@@ -16,7 +16,7 @@ use Rattle.graph_rows.specs.Values.{formed}
 use Rattle.graph_rows.specs.Way.{Piece, Stage, after_row, through_rows, after_names, enough, through_section, is_empty, through_sections, ordered, at_start, whole, starts_with}
 use Rattle.graph_rows.specs.Tested.{test_names, test_row, testing, form_in, has_form, stage_from, tested}
 use Rattle.graph_rows.specs.Formed.{cells_of}
-use Rattle.graph_rows.proofs.WayLaws.{rows_take, at, rows_off}
+use Rattle.graph_rows.proofs.WayLaws.{rows_take, rows_off}
 use Rattle.graph_rows.proofs.DecodeWay.{taken_all, AdmittedRows, table_cells, sofar_after, AdmittedSections, rows_counted, AdmittedTable}
 use Rattle.graph_rows.proofs.DecodeRows.{rows_limit}
 use Rattle.graph_rows.proofs.DecodePlaces.{row_first}

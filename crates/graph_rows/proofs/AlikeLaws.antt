@@ -5,8 +5,7 @@ use mathlib.Core.List.{List}
 use Rattle.scope_graph.specs.Rows.{Rules, language}
 use Rattle.scope_graph.specs.Graph.{Query}
 use Rattle.scope_graph.specs.Listing.{Accepted}
-use Rattle.graph_rows.specs.Decode.{rules_of, scopes_of, graph_in, opens_in, graph_of, opens_of, queries_of}
-use Rattle.graph_rows.specs.Accepted.{AcceptedTable}
+use Rattle.graph_rows.specs.Decode.{scopes_of, graph_in, opens_in, graph_of, opens_of, queries_of}
 use Rattle.graph_rows.specs.Alike.{OwnRules, AcceptedIn}
 
 pub own_rules : (cells : List ℕ) → OwnRules cells

@@ -18,7 +18,7 @@ use Rattle.scope_graph.specs.Listing.{Pairwise, EdgeBefore, MarkBefore, Accepted
 use Rattle.scope_graph.proofs.Lists.{here, there, and_left, and_right, map_elim}
 use Rattle.scope_graph.proofs.Rows.{language_laws}
 use Rattle.text_field.specs.Bytes.{is_lower}
-use Rattle.graph_rows.specs.Format.{Content, state, scope, mark, count, label, end, plain_kind, field, labels, transitions, accepts, edges, declarations, open_pairs, sections, section_at, has_kinds, has_turns, edge_shape, declaration_shape, query_shape, shapes_of, shape_at, label_section, pair_section, transition_section, accept_section, count_section, edge_section, declaration_section, open_section, query_section, turn_count}
+use Rattle.graph_rows.specs.Format.{Content, state, scope, mark, count, label, end, plain_kind, field, labels, transitions, edges, declarations, open_pairs, sections, section_at, has_kinds, has_turns, edge_shape, declaration_shape, query_shape, shapes_of, shape_at, label_section, pair_section, transition_section, accept_section, count_section, edge_section, declaration_section, open_section, query_section, turn_count}
 use Rattle.graph_rows.specs.Admission.{Row, value, blank, content_in_range, item_in_range, in_range}
 use Rattle.graph_rows.specs.Decode.{rows_in, letters_of, order_pair_of, transition_of, rules_of, name_at, edge_of, declaration_of, open_pair_of, query_of, scopes_of, graph_of, opens_of, queries_of}
 use Rattle.graph_rows.specs.Accepted.{EndListed, TransitionBefore, AcceptedTable}

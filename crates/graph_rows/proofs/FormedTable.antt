@@ -11,7 +11,6 @@ use Rattle.scope_graph.specs.Listing.{Pairwise}
 use Rattle.scope_graph.proofs.Lists.{pairwise_weaken}
 use Rattle.graph_rows.specs.Format.{Sequence, ascending, apart, once, free, section_at, label_section, pair_section, edge_section}
 use Rattle.graph_rows.specs.Admission.{Row, value, begun, key_less}
-use Rattle.graph_rows.specs.Values.{formed}
 use Rattle.graph_rows.specs.Tested.{form_in, refusal_in, tested, table_refusal}
 use Rattle.graph_rows.specs.Decode.{rows_in, letters_of, scopes_of}
 use Rattle.graph_rows.specs.Formed.{cells_from, table_of, scopes_in, InTurn, FormedSection, FormedRows, FormedTable, TableFormed, TestTells}

@@ -2,7 +2,7 @@
 -- the way: 2, 5, 3 and 4 at each row, then 6 (document 01, "Who can cause a refusal"). Reading a
 -- text, writing one and testing a table are three such ways; they differ only in what a row is made
 -- from and what is made of it. Assumes nothing: these are definitions.
-use Rattle.std.specs.Prelude.{ℕ, zero, suc, ◌+◌, List, [], ◌∷◌, ◌++◌, Bool, true, false, not, ltb, eqb}
+use Rattle.std.specs.Prelude.{ℕ, zero, suc, List, [], ◌∷◌, ◌++◌, Bool, true, false, not, ltb, eqb}
 use Rattle.graph_rows.specs.Format.{section_at}
 use Rattle.text_field.specs.Outcome.{Outcome, refused, done, and_then, refuse_if}
 use Rattle.graph_rows.specs.Admission.{Row, Sofar, nothing, begun, taken, admission}
