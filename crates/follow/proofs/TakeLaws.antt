@@ -183,7 +183,7 @@ module _ (b : Bounds) (t : Tally) where
   broken_done d = rw d
 
   pub whole_several : is_broken b t ≡ false → is_done b t ≡ true → t.seen ≡ Several
-  whole_several e d = several_is t.seen (tests.not_false (is_several t.seen) (sym (broken_done d) ∙ e))
+  whole_several e d = several_is t.seen (tests.not-false (is_several t.seen) (sym (broken_done d) ∙ e))
 
 module _ (b : Bounds) (st : State) (row : Taken) where
   -- when all is done, no row changes anything
