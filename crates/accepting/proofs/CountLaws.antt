@@ -107,7 +107,7 @@ module _ (cells : List ℕ) (q : Query (language (rules_of cells))) (f : Found) 
     over_told e = record {
       yes = λ z. absurd (clash {b = false} z refl);
       no = λ _ _ _.
-          let g : b.limit < 0 + length (joined rows) = fits_false b.limit 0 (length (joined rows)) (tests.not_true (fits b.limit 0 (length (joined rows))) (sym over_is ∙ e)) in
+          let g : b.limit < 0 + length (joined rows) = fits_false b.limit 0 (length (joined rows)) (tests.not-true (fits b.limit 0 (length (joined rows))) (sym over_is ∙ e)) in
           let j = joined_length in
           omega arith;
     }
@@ -115,7 +115,7 @@ module _ (cells : List ℕ) (q : Query (language (rules_of cells))) (f : Found) 
     module _ (still : t.1.over ≡ false) where
       room : length (joined rows) ≤ b.limit
       room =
-          let g : 0 + length (joined rows) ≤ b.limit = fits_true b.limit 0 (length (joined rows)) (tests.not_false (fits b.limit 0 (length (joined rows))) (sym over_is ∙ still)) in
+          let g : 0 + length (joined rows) ≤ b.limit = fits_true b.limit 0 (length (joined rows)) (tests.not-false (fits b.limit 0 (length (joined rows))) (sym over_is ∙ still)) in
           omega arith
 
       -- as many as were delivered are counted exactly if there are as many

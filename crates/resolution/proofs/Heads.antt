@@ -176,14 +176,14 @@ module _ (cells block ask : List ℕ) (ready : Ready cells block ask) where
     -- they alone are too long
     pub list_over : st.1.over ≡ true → (refused 9 ≡ answer (done T) (length out)) × (out ≡ leaves (done T) out)
     list_over e =
-        let g : b.limit < 0 + length (joined rows) = fits_false b.limit 0 (length (joined rows)) (tests.not_true (fits b.limit 0 (length (joined rows))) (sym over_is ∙ e)) in
+        let g : b.limit < 0 + length (joined rows) = fits_false b.limit 0 (length (joined rows)) (tests.not-true (fits b.limit 0 (length (joined rows))) (sym over_is ∙ e)) in
         let z = size_is in
         list_short out (omega arith)
 
     module _ (still : st.1.over ≡ false) where
       room : length (joined rows) ≤ length out
       room =
-          let g : 0 + length (joined rows) ≤ b.limit = fits_true b.limit 0 (length (joined rows)) (tests.not_false (fits b.limit 0 (length (joined rows))) (sym over_is ∙ still)) in
+          let g : 0 + length (joined rows) ≤ b.limit = fits_true b.limit 0 (length (joined rows)) (tests.not-false (fits b.limit 0 (length (joined rows))) (sym over_is ∙ still)) in
           omega arith
 
       measured : st.1.bytes ≡ length (joined rows)
