@@ -89,9 +89,9 @@ accepted_exactly text cells read lists = (
       ∙ found_back cells lists all_right w.0 p (all_back cells (no_query cells) no_list 0 (queries_of cells) w.0 p.one_each (λ i h. (right text cells read lists w.0 p i h).1 (w.2 i h))),
 )
 
-pub first_wrong : FirstWrong
+pub first_wrong_lem : FirstWrong
 unfolding query_at list_at
-first_wrong text cells read lists i = (
+first_wrong_lem text cells read lists i = (
   λ e.
       let w = found_forth cells lists (wrong_at i) (sym (text_read text lists cells read) ∙ e) in
       let p = w.1 in
@@ -139,4 +139,4 @@ pub own : OwnAccepted
 own text cells read = (accepted_exactly text cells read (flat_map (listing_text cells) (queries_of cells))).1 (own_printing text cells read)
 
 pub promises : Promises
-promises = record { accepted_exactly = accepted_exactly; first_wrong = first_wrong; refusals = refusals; own = own }
+promises = record { accepted_exactly = accepted_exactly; first_wrong = first_wrong_lem; refusals = refusals; own = own }

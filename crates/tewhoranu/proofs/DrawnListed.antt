@@ -87,7 +87,7 @@ edges_listed letters scopes rows [] = as_others _ (carried rows)
 edges_listed letters scopes rows (e ∷ edges) =
     if_other own_drawn _ 5 _ (omega arith) (omega arith)
     (if_other own_drawn _ 3 _ (omega arith) (omega arith)
-    (if_other own_drawn _ 4 _ (omega arith) (omega arith) (edges_listed letters scopes _ edges)))
+    (if_other own_drawn _ 4 _ (omega arith) (omega arith) (edges_listed letters scopes (inserted (section_at edge_section).key (edge_row letters e) rows) edges)))
 
 pub rows_drawn_listed : (cells : List ℕ) (d : Drawing) → Own (drawn_rows cells d)
 unfolding drawn_rows
