@@ -1,23 +1,21 @@
 -- How many entries a walk counts, and the word under `found`. Assumes nothing.
-use Prim.Native.Nat.{ℕ, suc, ◌+◌, ◌≤◌, ◌<◌}
+use Prim.Native.Nat.{ℕ, ◌+◌, ◌≤◌, ◌<◌}
 use mathlib.Core.Path.{◌≡◌, refl, sym, ap, ◌∙◌}
 use mathlib.Core.Bool.{Bool, true, false, not}
 use mathlib.Core.Logic.{⊎_elim}
-use mathlib.Core.List.{List, [], ◌∷◌, ◌++◌, map}
+use mathlib.Core.List.{List, [], ◌∷◌, ◌++◌}
 use native.Mathlib.Omega.{arith}
 use lib.Dec.{leb}
 use lib.ListN.{length, length-append, length-map}
 use borrow.Author.Tests.{leb-true, leb-false}
 use borrow.Author.Tests as tests
 use Rattle.scope_graph.specs.Graph.{Query}
-use Rattle.scope_graph.specs.Path.{PathRow}
 use Rattle.scope_graph.specs.Rows.{language}
 use Rattle.scope_graph.specs.Computed.{Found, found_none, found_one, found_several, entries}
 use Rattle.scope_graph.proofs.Lists.{Two}
 use Rattle.text_field.proofs.ByteLaws.{clash}
 use Rattle.graph_rows.specs.Decode.{rules_of, graph_of}
 use Rattle.follow.specs.declared.Bounds.{Bounds}
-use Rattle.follow.specs.declared.Tally.{Tally}
 use Rattle.follow.specs.Tally as tally
 use Rattle.follow.specs.Tally.{Taken, State, fits, more, within, take_row, take_rows}
 use Rattle.follow.proofs.TakeLaws.{fits_true, fits_false, more_on, more_off, take_within}
