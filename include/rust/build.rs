@@ -1,5 +1,5 @@
-//! Links the archive that `rt staticlib tewhoranu` writes: TEWHORANU_LIB names its folder where it is not this repository's
-//! target/staticlib. With the feature `source` nothing is linked: portable/make writes the proved source as Rust.
+//! Links the archive that `rt lib` writes in crates/tewhoranu: TEWHORANU_LIB names its folder where it is not this repository's
+//! crates/tewhoranu/out. With the feature `source` nothing is linked: portable/make writes the proved source as Rust.
 
 use std::env;
 use std::path::{Path, PathBuf};
@@ -8,7 +8,7 @@ use std::process::Command;
 fn link(root: &Path) {
     let folder = match env::var_os("TEWHORANU_LIB") {
         Some(folder) => PathBuf::from(folder),
-        None => root.join("target/staticlib"),
+        None => root.join("crates/tewhoranu/out"),
     };
     println!("cargo:rerun-if-env-changed=TEWHORANU_LIB");
     println!("cargo:rerun-if-changed={}", folder.join("libtewhoranu.a").display());
