@@ -17,7 +17,7 @@ import sys
 ROOT = os.path.dirname(os.path.dirname(os.path.abspath(__file__)))
 GENERATED = ("Proof.antt", "Answers.antt", "Invariants.antt")
 # names whose plain respelling is another name already
-APART = {"Found-None": "found_none", "same-end-is": "same_end_is_so", "same-end-self": "same_end_with_self"}
+APART = {"roomA": "room_a", "roomB": "room_b", "Found-None": "found_none", "same-end-is": "same_end_is_so", "same-end-self": "same_end_with_self"}
 TOKEN = re.compile(r"[^\s(){}\[\].,;:\"λ\\@`]+")
 DECLARED = re.compile(r"^\s*(?:(?:abbrev|unfoldable|pub|infixl|infixr|infix|instance|ruleset)\s+)*(?:(?:record|data|class)\s+)?([^\s(){}\[\].,;:\"=]+)(?=[^=]*?:(?!=))")
 USE = re.compile(r"^\s*(?:pub )?(?:ghost )?use ([^\s{]+?)(?:\.\{(.*)\})?;?\s*$")
@@ -64,10 +64,17 @@ def word(name):
 def declared():
     names = collections.defaultdict(set)
     for path in files("crates"):
+        if path.endswith(".rt"):
+            with open(path, encoding="utf-8") as f:
+                for alias in re.findall(r"^ghost use .* as ([a-z]\w*[A-Z]\w*)", f.read(), re.M):
+                    names[alias].add(path)
         if not path.endswith(".antt") or is_generated(path):
             continue
         with open(path, encoding="utf-8") as f:
             for line in f:
+                for alias in re.findall(r" as ([A-Za-z][\w\-']*)", line) if line.lstrip().startswith("use ") else []:
+                    if re.match(r"[a-z]\w*[A-Z]\w*$", alias):
+                        names[alias].add(path)
                 if line.lstrip().startswith(("--", "use ")):
                     continue
                 m = DECLARED.match(line)
@@ -98,6 +105,7 @@ def imported(text):
 
 def table():
     names = declared()
+    names["roomA"], names["roomB"] = {"/specs/"}, {"/specs/"}  # parameters
     found = {n: word(n) for n in names if turns(n)}
     defined = {new for old, new in found.items() if "-" not in old}
     for old, new in found.items():  # a lemma with its function's name

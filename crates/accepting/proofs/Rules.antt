@@ -36,7 +36,7 @@ use Rattle.path_row.specs.Numbering.{label_number, hop_of, hops_of, path_of}
 use Rattle.path_row.proofs.FormLaws.{written_then_read}
 use Rattle.path_row.proofs.Promises.{letters_numbered}
 use Rattle.follow.specs.Text.{shown_step}
-use Rattle.follow.specs.Text.{row_text as listedText}
+use Rattle.follow.specs.Text.{row_text as listed_text}
 use Rattle.resolution.specs.Summary.{same_found}
 use Rattle.resolution.specs.Listing.{entry_text, found_for, entries_text}
 use Rattle.judge.specs.Judge.{as_rules_row}
@@ -157,7 +157,7 @@ module _ (text cells : List ℕ) (read : read_cells text ≡ done cells) where
       omega arith
 
   line_length : (p : PathRow) → length (entry_text cells (rule p)) ≡ length (row_line p)
-  unfolding as_rules_row path_of listedText row_line row_text
+  unfolding as_rules_row path_of listed_text row_line row_text
   line_length p =
       let f : List ℕ = front_text p.mark p.start in
       let x : List ℕ = steps_text (map (shown_step (letters_of cells)) (hops_of (hops_at L g.edges) (letters_of cells) p.start p.steps)) in

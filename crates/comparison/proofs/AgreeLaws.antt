@@ -16,7 +16,7 @@ use Rattle.scope_graph.specs.Path.{HopOf}
 use Rattle.scope_graph.specs.Turns.{Turned}
 use Rattle.scope_graph.specs.Computed.{same_hop, hops_at}
 use Rattle.scope_graph.specs.Agree.{agree_hops}
-use Rattle.scope_graph.specs.Agree.{same_step as sameHopStep}
+use Rattle.scope_graph.specs.Agree.{same_step as same_hop_step}
 use Rattle.scope_graph.proofs.Lists.{Two, not_true, true_false, and_left, and_right, and_both}
 use Rattle.scope_graph.proofs.Agree.{agree_on, agree_off, agree_ended, agree_over, agree_from, agree_apart}
 use Rattle.path_row.specs.declared.form.Step.{Step}
@@ -97,14 +97,14 @@ module _ (r : Rules) (leaving : ℕ → List (HopOf Turned)) (letters : List ℕ
   abbrev hop : ℕ → Step → HopOf Turned
   hop s t = hop_of leaving letters s t
 
-  hop_same : (s : ℕ) (t u : Step) → same_shown t u ≡ true → sameHopStep (language r) (hop s t) (hop s u) ≡ true
-  unfolding sameHopStep same_hop hop_of
+  hop_same : (s : ℕ) (t u : Step) → same_shown t u ≡ true → same_hop_step (language r) (hop s t) (hop s u) ≡ true
+  unfolding same_hop_step same_hop hop_of
   hop_same s t u h =
       let e : t ≡ u = shown_is t u h in
       and_both _ _ (eq-eqb _ _ (ap (λ (z : Step). label_number letters z.label) e)) (eq-eqb _ _ (ap (λ (z : Step). z.scope) e))
 
-  hop_apart : (s : ℕ) (t u : Step) → same_shown t u ≡ false → sameHopStep (language r) (hop s t) (hop s u) ≡ false
-  unfolding sameHopStep same_hop hop_of
+  hop_apart : (s : ℕ) (t u : Step) → same_shown t u ≡ false → same_hop_step (language r) (hop s t) (hop s u) ≡ false
+  unfolding same_hop_step same_hop hop_of
   hop_apart s t u h =
       not_true _ (λ k. true_false
       (shown_same t u (number_tells letters t.label u.label (eqb-true _ _ (and_left _ _ k)))

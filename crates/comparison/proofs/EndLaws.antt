@@ -10,7 +10,7 @@ use native.Mathlib.Numerals.{add-one}
 use borrow.Author.Tests.{eq-eqb, ne_eqb, lt-ltb, le-ltb, ltb-true, ltb-false}
 use lib.Dec.{eqb, ltb}
 use Rattle.scope_graph.specs.Language.{by}
-use Rattle.scope_graph.specs.Turns.{later as laterTurn, later_step}
+use Rattle.scope_graph.specs.Turns.{later as later_turn, later_step}
 use Rattle.scope_graph.specs.Order.{turn_meaning, meaning}
 use Rattle.scope_graph.specs.declared.Turn.{Turn}
 use Rattle.scope_graph.specs.declared.Turn.TheVariants.{None, Of}
@@ -57,16 +57,16 @@ module _ (block : List ℕ) (l : ℕ) where
 
 -- turns, by whether the steps are edge rows
 module _ (t u : Turn) where
-  pub none_first : t ≡ None → false ≡ laterTurn (turn_meaning t) (turn_meaning u)
-  unfolding turn_meaning laterTurn
+  pub none_first : t ≡ None → false ≡ later_turn (turn_meaning t) (turn_meaning u)
+  unfolding turn_meaning later_turn
   none_first e = rw e
 
-  pub none_second : (n : ℕ) → t ≡ Of n → u ≡ None → false ≡ laterTurn (turn_meaning t) (turn_meaning u)
-  unfolding turn_meaning laterTurn
+  pub none_second : (n : ℕ) → t ≡ Of n → u ≡ None → false ≡ later_turn (turn_meaning t) (turn_meaning u)
+  unfolding turn_meaning later_turn
   none_second n e f = rw (e, f)
 
-  pub both_turns : (n m : ℕ) → t ≡ Of n → u ≡ Of m → ltb m n ≡ laterTurn (turn_meaning t) (turn_meaning u)
-  unfolding turn_meaning laterTurn
+  pub both_turns : (n m : ℕ) → t ≡ Of n → u ≡ Of m → ltb m n ≡ later_turn (turn_meaning t) (turn_meaning u)
+  unfolding turn_meaning later_turn
   both_turns n m e f = rw (e, f)
 
 -- two steps, by the order pairs and at one label by their turns
@@ -74,10 +74,10 @@ module _ (block : List ℕ) (l k n m : ℕ) (t u : Turn) (is : n ≡ label_place
   abbrev due_steps : Bool
   due_steps = table_order block (by (record { label = l; turn = turn_meaning t })) (by (record { label = k; turn = turn_meaning u }))
 
-  opened : due_steps ≡ (v || eqb l k && laterTurn (turn_meaning t) (turn_meaning u))
+  opened : due_steps ≡ (v || eqb l k && later_turn (turn_meaning t) (turn_meaning u))
   unfolding table_order end_number later_step
   opened =
-      ap (λ (z : Bool). z || eqb l k && laterTurn (turn_meaning t) (turn_meaning u))
+      ap (λ (z : Bool). z || eqb l k && later_turn (turn_meaning t) (turn_meaning u))
       (sym (g ∙ ap (λ (i : ℕ). pair_flag block i m) is ∙ first_end block l m ∙ ap (pair_flag block (suc l)) it ∙ second_end block k (suc l)))
 
   pub steps_paired : v ≡ true → true ≡ due_steps
@@ -87,7 +87,7 @@ module _ (block : List ℕ) (l k n m : ℕ) (t u : Turn) (is : n ≡ label_place
     pub steps_apart : (l ≡ k → ⊥) → false ≡ due_steps
     steps_apart z = sym (opened ∙ rw (e, ne_eqb l k z))
 
-    pub steps_later : l ≡ k → (w : Bool) → w ≡ laterTurn (turn_meaning t) (turn_meaning u) → w ≡ due_steps
+    pub steps_later : l ≡ k → (w : Bool) → w ≡ later_turn (turn_meaning t) (turn_meaning u) → w ≡ due_steps
     steps_later z w f = sym (opened ∙ rw (e, eq-eqb l k z, f))
 
 -- the test, by what the two ends are

@@ -17,7 +17,7 @@ use Rattle.scope_graph.specs.declared.Turn.TheVariants.{None, Of}
 use Rattle.scope_graph.specs.declared.End.{End as CodeEnd}
 use Rattle.scope_graph.specs.declared.End.TheVariants.{Stop, Label}
 use Rattle.block.specs.Block.{first_edge, edge_cell, turn_of, block_hops}
-use Rattle.block.specs.Block.{hop_of as edgeHop}
+use Rattle.block.specs.Block.{hop_of as edge_hop}
 use Rattle.block.proofs.BlockLaws.{block_hops_past}
 use Rattle.block.proofs.EdgeLaws.{EdgeTo}
 use Rattle.search.specs.Tables.{table_order}
@@ -41,7 +41,7 @@ module _ (block : List ℕ) (s label to : ℕ) where
     turn_none h = sym (e.none_is (omega arith))
 
     pub turn_edge : p < end → (x n : ℕ) → x ≡ edge_cell block p → n ≡ turn_of x → turn_meaning (Of n) ≡ turn_by (block_hops block s) label to
-    unfolding turn_meaning edgeHop
+    unfolding turn_meaning edge_hop
     turn_edge h x n f g = rw (g, f) (ap (λ (k : HopOf Turned). k.step.turn) (e.is (omega arith)))
 
 -- how steps go on from step i

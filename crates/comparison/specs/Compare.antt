@@ -64,16 +64,16 @@ told_of cells s t ts us = told cells (record { mark = 0; start = s; steps = ts }
 -- With the graph table in hand (01, "Paths", where it tells the refusals of two rows): 8 for the
 -- first row, 8 for the second, and 9 where the steps of one outnumber the records lent for it.
 unfoldable pub compare_rows : List ℕ → List ℕ → List ℕ → ℕ → ℕ → Outcome Told
-compare_rows cells a b roomA roomB =
+compare_rows cells a b room_a room_b =
     and_then (row_here a) (λ p.
     and_then (row_here b) (λ q.
-    refuse_if (ltb roomA (length p.steps)) 9
-    (refuse_if (ltb roomB (length q.steps)) 9
+    refuse_if (ltb room_a (length p.steps)) 9
+    (refuse_if (ltb room_b (length q.steps)) 9
     (done (told cells p q)))))
 
 -- The whole call (01, "Who can cause a refusal"): before these, the file's refusals, 1 to 6.
 unfoldable pub compare_answer : List ℕ → List ℕ → List ℕ → ℕ → ℕ → Outcome Told
-compare_answer text a b roomA roomB = and_then (read_cells text) (λ cells. compare_rows cells a b roomA roomB)
+compare_answer text a b room_a room_b = and_then (read_cells text) (λ cells. compare_rows cells a b room_a room_b)
 
 -- What a comparison with this outcome hands out: the answer, and for each row's table the value that
 -- holds its steps, none of them after a refusal.

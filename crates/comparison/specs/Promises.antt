@@ -28,8 +28,8 @@ which_in (done t) = done t.which
 -- for a text that is read, and two texts that are path rows whose steps fit into the records lent
 -- for them
 abbrev pub CompareIs : Type 0
-CompareIs = (text cells a b : List ℕ) (roomA roomB : ℕ) (p q : PathRow) → read_cells text ≡ done cells → row_here a ≡ done p → row_here b ≡ done q
-    → length p.steps ≤ roomA → length q.steps ≤ roomB → SaysWhich cells p q (which_in (compare_answer text a b roomA roomB))
+CompareIs = (text cells a b : List ℕ) (room_a room_b : ℕ) (p q : PathRow) → read_cells text ≡ done cells → row_here a ≡ done p → row_here b ≡ done q
+    → length p.steps ≤ room_a → length q.steps ≤ room_b → SaysWhich cells p q (which_in (compare_answer text a b room_a room_b))
 
 -- is it the same step, by the letter and the scope that the row shows?
 abbrev pub same_shown : Step → Step → Bool
@@ -51,5 +51,5 @@ pub record SaysHowFar (cells : List ℕ) (p q : PathRow) (n : ℕ) : Type 0 wher
   pub apart : ¬ (p.start ≡ q.start) → n ≡ 0
 
 abbrev pub AgreeIs : Type 0
-AgreeIs = (text cells a b : List ℕ) (roomA roomB : ℕ) (p q : PathRow) → read_cells text ≡ done cells → row_here a ≡ done p → row_here b ≡ done q
-    → length p.steps ≤ roomA → length q.steps ≤ roomB → (t : Told) → compare_answer text a b roomA roomB ≡ done t → SaysHowFar cells p q t.steps
+AgreeIs = (text cells a b : List ℕ) (room_a room_b : ℕ) (p q : PathRow) → read_cells text ≡ done cells → row_here a ≡ done p → row_here b ≡ done q
+    → length p.steps ≤ room_a → length q.steps ≤ room_b → (t : Told) → compare_answer text a b room_a room_b ≡ done t → SaysHowFar cells p q t.steps

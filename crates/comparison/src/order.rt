@@ -1,8 +1,8 @@
 // The preference test: of two ends, by the board's order and by their turns.
 ghost use Rattle.std.specs.Prelude.{◌≡◌};
 ghost use Rattle.scope_graph.specs.Language.{by};
-ghost use Rattle.scope_graph.specs.Order.{turn_meaning, meaning as endMeaning};
-ghost use Rattle.scope_graph.specs.Turns.{later as laterTurn};
+ghost use Rattle.scope_graph.specs.Order.{turn_meaning, meaning as end_meaning};
+ghost use Rattle.scope_graph.specs.Turns.{later as later_turn};
 ghost use Rattle.block.specs.Layout.{IsBlock};
 ghost use Rattle.search.specs.Tables.{table_order};
 ghost use Rattle.comparison.specs.Steps.{label_place};
@@ -29,7 +29,7 @@ fn label_end(l: u64) -> u64
 
 // Is the first turn the higher one? Where a step is no edge row nothing is decided.
 fn later(t: Turn, u: Turn) -> bool
-    ensures answer { result ≡ laterTurn (turn_meaning t) (turn_meaning u) }
+    ensures answer { result ≡ later_turn (turn_meaning t) (turn_meaning u) }
 {
     match t {
         Turn::None => false,
@@ -41,6 +41,7 @@ fn later(t: Turn, u: Turn) -> bool
 }
 
 // Is a step by label l preferred to one by label k? Turns are compared at one label only.
+#[tactic(auto, using(crate::proofs::EndLaws::steps_apart))]
 fn step_preferred(block: &[u64], l: u64, t: Turn, k: u64, u: Turn) -> bool
     requires block { IsBlock block.now }
     ensures answer { result ≡ table_order block.now
@@ -59,7 +60,7 @@ fn step_preferred(block: &[u64], l: u64, t: Turn, k: u64, u: Turn) -> bool
 // each language form goes").
 pub fn preferred(block: &[u64], p: Pair) -> bool
     requires block { IsBlock block.now }
-    ensures answer { result ≡ table_order block.now (endMeaning p.less) (endMeaning p.more) }
+    ensures answer { result ≡ table_order block.now (end_meaning p.less) (end_meaning p.more) }
 {
     let less = p.less;
     let more = p.more;

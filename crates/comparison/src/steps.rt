@@ -1,6 +1,6 @@
 // The steps of one row held against those of another.
 ghost use Rattle.std.specs.Prelude.{◌≡◌, drop};
-ghost use Rattle.scope_graph.specs.Order.{meaning as endMeaning};
+ghost use Rattle.scope_graph.specs.Order.{meaning as end_meaning};
 ghost use Rattle.block.specs.Layout.{IsBlock};
 ghost use Rattle.path_row.specs.Form.{steps_taken};
 ghost use Rattle.comparison.specs.Steps.{end_first, steps_preferred};
@@ -15,7 +15,7 @@ use scope_graph::{End, Pair};
 // next one and its turn.
 fn end_at(block: &[u64], scope: u64, steps: Steps, i: usize) -> End
     requires block { IsBlock block.now }
-    ensures answer { endMeaning result ≡ end_first block.now scope (drop i (steps_taken steps)) }
+    ensures answer { end_meaning result ≡ end_first block.now scope (drop i (steps_taken steps)) }
 {
     if steps.count <= i {
         return End::Stop;

@@ -15,7 +15,7 @@ use Rattle.text_field.proofs.NumberLaws.{length_below}
 use Rattle.block.specs.Layout.{LETTER}
 use Rattle.block.specs.Block.{scope_of, label_of, turn_of, hop_of, letter_cell}
 use Rattle.path_row.specs.Form.{front_text, step_text, steps_text}
-use Rattle.path_row.specs.Form.{row_text as pathRowText}
+use Rattle.path_row.specs.Form.{row_text as path_row_text}
 use Rattle.follow.specs.Text.{letter_of, hops_text, row_text}
 use Rattle.follow.specs.declared.Path.{Path}
 use Rattle.follow.specs.Walk.{path_hops, letter_bytes}
@@ -122,7 +122,7 @@ module _ (letters : List ℕ) where
   -- a row, in its three parts
   pub row_parts : (mark start : ℕ) (hops : List (HopOf Turned))
       → row_text letters mark start hops ≡ (front_text mark start ++ hops_text letters hops) ++ (10 ∷ [])
-  unfolding row_text pathRowText hops_text
+  unfolding row_text path_row_text hops_text
   row_parts mark start hops = refl
 
   hops_size_lem : (hs : List (HopOf Turned)) → length (hops_text letters hs) ≡ hops_size hs

@@ -11,7 +11,7 @@ use Rattle.graph_table.specs.declared.sections.Form.{Form}
 use Rattle.graph_table.specs.declared.sections.Form.TheVariants.{Old, Kinds}
 use Rattle.path_row.specs.declared.form.Step.{Step}
 use Rattle.path_row.specs.Form.{PathRow, steps_text}
-use Rattle.path_row.specs.Form.{row_text as pathRowText}
+use Rattle.path_row.specs.Form.{row_text as path_row_text}
 
 -- the names line above a query's values, by the file's form: `start seek found awaits`, and for a
 -- file with kinds `start kind seek found awaits` (02, K8)
@@ -55,7 +55,7 @@ module _ (letters : List ℕ) where
 
   -- a listing's row: a path row and a line feed
   unfoldable pub row_text : ℕ → ℕ → List (HopOf Turned) → List ℕ
-  row_text mark start hops = pathRowText (shown_row mark start hops) ++ (10 ∷ [])
+  row_text mark start hops = path_row_text (shown_row mark start hops) ++ (10 ∷ [])
 
   -- an open pair's end: `$` or the letter
   unfoldable pub end_text : End ℕ → ℕ

@@ -25,7 +25,7 @@ use Rattle.text_field.proofs.NumberLaws.{length_below}
 use Rattle.text_field.proofs.BufferLaws.{puts_then}
 use Rattle.text_field.proofs.AnswerLaws.{answer_refused}
 use Rattle.printing.specs.Printed.{refused_line, in_place}
-use Rattle.printing.specs.Parts.{answered as answeredIn}
+use Rattle.printing.specs.Parts.{answered as answered_in}
 use Rattle.printing.proofs.Laws.{refused_short, in_place_lem, done_fits, Stands, stands}
 use Rattle.comparison.specs.Compare.{Comparison, first, second, neither, Told, as_told, compare_answer}
 use Rattle.judge.specs.Judge.{judge_answer}
@@ -70,7 +70,7 @@ place_fits (done text) small = by (ltb reply_room (length text)) refl
 
 -- what the library answered and wrote where a reply's room was lent, or the line of its refusal
 module _ (o : Outcome (List ℕ)) (a : Answer) (vs : List Val) (good : Is (row the_type) a vs) (lent mid left : List ℕ) (size : ℕ) where
-  pub answer_replied : length lent ≡ reply_room → answer_of a ≡ answer o (length lent) → mid ≡ leaves o lent → ◌≡◌ {A = Buf} (left, size) (answeredIn a mid) → Replied lent left size (in_place reply_room o)
+  pub answer_replied : length lent ≡ reply_room → answer_of a ≡ answer o (length lent) → mid ≡ leaves o lent → ◌≡◌ {A = Buf} (left, size) (answered_in a mid) → Replied lent left size (in_place reply_room o)
   answer_replied room e l put =
       record {
         written = in_place_lem a lent mid (left, size) put o e l ∙ ap (λ (n : ℕ). puts (lent, 0) (in_place n o)) room;

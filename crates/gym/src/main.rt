@@ -18,7 +18,7 @@ mod words;
 ghost use Rattle.std.specs.Prelude.{◌≡◌, length};
 ghost use Rattle.io.specs.Counts.{IsPrefixLen};
 ghost use Rattle.gym.specs.Said.{spoken, answered, said};
-ghost use Rattle.gym.specs.Handed.{handed, reply_meaning, descriptor as descriptorOf};
+ghost use Rattle.gym.specs.Handed.{handed, reply_meaning, descriptor as descriptor_of};
 
 use printing::{INPUT, print_for};
 use replies::{ROOM, Stream, put_reply};
@@ -31,7 +31,7 @@ const WORD: usize = 257;
 
 // The descriptor of a stream.
 fn descriptor(on: Stream) -> i32
-    ensures answer { result ≡ descriptorOf on }
+    ensures answer { result ≡ descriptor_of on }
 {
     match on {
         Stream::Out => 1,

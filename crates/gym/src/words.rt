@@ -1,6 +1,6 @@
 // What the words of a command ask for.
 ghost use Rattle.std.specs.Prelude.{◌≡◌, List, ℕ};
-ghost use Rattle.gym.specs.Words.{Asked, alone as aloneAsked, with_one, with_two, by_query, judge_asked, count_asked, readers_asked, later_words, last_words, same_bytes, asked_of, asked};
+ghost use Rattle.gym.specs.Words.{Asked, alone as alone_asked, with_one, with_two, by_query, judge_asked, count_asked, readers_asked, later_words, last_words, same_bytes, asked_of, asked};
 ghost use Rattle.gym.specs.Handed.{arguments, handed, queried, meaning};
 
 use text_field::{NumberRead, read_number};
@@ -58,7 +58,7 @@ fn is_same(a: &[u8], b: &[u8]) -> bool
 
 // A word without arguments, given so many.
 fn alone(count: usize, c: Command) -> Command
-    ensures answer { (a b : List ℕ) → meaning result a b ≡ aloneAsked (meaning c a b) (arguments count a b) }
+    ensures answer { (a b : List ℕ) → meaning result a b ≡ alone_asked (meaning c a b) (arguments count a b) }
 {
     if count != 0 {
         return Command::One(Reply::Usage);

@@ -66,7 +66,7 @@ pub no_nine : (room count : ℕ) → count ≤ room → room_fault room count �
 unfolding room_fault
 no_nine room count h = rw (le-ltb room count h, room_fault)
 
--- the tests of firstFault's code
+-- the tests of first_fault's code
 pub later_told : (sooner later : ℕ) → sooner ≡ 0 → later ≡ first_fault sooner later
 unfolding first_fault
 later_told zero later h = refl

@@ -34,7 +34,7 @@ use Rattle.path_row.proofs.FormLaws.{written_then_read}
 use Rattle.path_row.proofs.NumberingLaws.{number_within}
 use Rattle.path_row.proofs.TurnLaws.{turn_is}
 use Rattle.follow.specs.Text.{letter_of, shown_step, shown_row}
-use Rattle.follow.specs.Text.{row_text as listedText}
+use Rattle.follow.specs.Text.{row_text as listed_text}
 use Rattle.board.specs.Queries.{query_at}
 use Rattle.board.proofs.Queries.{get_d_in}
 use Rattle.board.proofs.Capitals.{capitals}
@@ -159,7 +159,7 @@ module _ (text cells : List ℕ) (read : read_cells text ≡ done cells) where
         (subst (Entry L g (query_at cells i)) (sym rules_row_is) entry)
 
 pub listed_visible : ListedVisible
-unfolding listedText
+unfolding listed_text
 listed_visible text cells read i inside r entry = (
   row_text (shown_row (letters_of cells) r.mark r.path.start r.path.hops),
   refl,

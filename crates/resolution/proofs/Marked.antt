@@ -26,7 +26,7 @@ use Rattle.graph_rows.specs.Tested.{form_in}
 use Rattle.graph_rows.specs.Decode.{kept_if, rows_among, rows_in, letters_of, order_pair_of, transition_of, rules_of, name_at, edge_of, declaration_of, open_pair_of, query_of, scopes_of, graph_of, opens_of, queries_of}
 use Rattle.graph_file.proofs.Promises.{read_accepted}
 use Rattle.path_row.specs.Form.{front_text, step_text, steps_text}
-use Rattle.path_row.specs.Form.{row_text as pathRowText}
+use Rattle.path_row.specs.Form.{row_text as path_row_text}
 use Rattle.follow.specs.Text.{found_text, letter_of, row_text, end_text}
 use Rattle.resolution.specs.Listing.{awaits_text, shown_text, found_for, listing_text}
 use Rattle.board.specs.Queries.{query_at}
@@ -40,7 +40,7 @@ use Rattle.board.proofs.Example.{reads, example_cells, example_read}
 -- what a query's answers and their text compute with: each trial names it alone on its `unfolding`
 -- line
 unfoldable pub answers : Unit {0}
-unfolding flat_map same_turn same_turned later later_step above_one above same_end same_name any_of preferred_by next_by keep first_of any_below same_declaration found_of hops_at marks_at declares_any behind hop_on nodes_from leads_on usable same_hop same_hops preferred_to nodes reached_nodes cut rows_at entries found is_reached standing judged open_end followed_at awaits end_of kept_if rows_among rows_in letters_of order_pair_of transition_of rules_of name_at edge_of declaration_of open_pair_of query_of scopes_of graph_of opens_of queries_of query_at packed pack_high pack_low shown_text awaits_text found_text letter_of front_text step_text steps_text pathRowText row_text end_text digits_of number_text bytes_of before_zero name_text has_kinds form_in table_form
+unfolding flat_map same_turn same_turned later later_step above_one above same_end same_name any_of preferred_by next_by keep first_of any_below same_declaration found_of hops_at marks_at declares_any behind hop_on nodes_from leads_on usable same_hop same_hops preferred_to nodes reached_nodes cut rows_at entries found is_reached standing judged open_end followed_at awaits end_of kept_if rows_among rows_in letters_of order_pair_of transition_of rules_of name_at edge_of declaration_of open_pair_of query_of scopes_of graph_of opens_of queries_of query_at packed pack_high pack_low shown_text awaits_text found_text letter_of front_text step_text steps_text path_row_text row_text end_text digits_of number_text bytes_of before_zero name_text has_kinds form_in table_form
 answers = tt
 
 module _ (text cells : List ℕ) (e : read_cells text ≡ done cells) (i : ℕ) (h : i < length (queries_of cells)) where

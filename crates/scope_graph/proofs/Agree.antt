@@ -15,7 +15,7 @@ use Rattle.scope_graph.specs.Graph.{Graph, InRange, Query, OpenPair}
 use Rattle.scope_graph.specs.Path.{Hop, Path, PathRow, MoreSpecific, Reached, Shadowed, MarkDeclared, Entry}
 use Rattle.scope_graph.specs.Turns.{Turned}
 use Rattle.scope_graph.specs.Rows.{Rules}
-use Rattle.scope_graph.specs.Rows.{language as languageOf}
+use Rattle.scope_graph.specs.Rows.{language as language_of}
 use Rattle.scope_graph.specs.Computed.{Standing, is_visible, is_shadowed, is_unreached, Node, keep, same_hop, preferred_to, reached_nodes, judged}
 use Rattle.scope_graph.specs.Listing.{Accepted}
 use Rattle.scope_graph.specs.Agree.{most, Judgement, as_visible, as_shadowed, as_unreached, with_steps, same_step, agree_hops, agree, ShadowedWith, caught, judgement, OneStep, PathsAgree, CaughtIs, AgreePromises}

@@ -5,7 +5,7 @@ use Rattle.scope_graph.specs.Language.{◌∈◌, stop, Language}
 use Rattle.scope_graph.specs.Graph.{Graph, Query, OpenPair}
 use Rattle.scope_graph.specs.Path.{Hop, Path, PathRow, MoreSpecific, Reached, Shadowed, MarkDeclared, Entry}
 use Rattle.scope_graph.specs.Rows.{Rules}
-use Rattle.scope_graph.specs.Rows.{language as languageOf}
+use Rattle.scope_graph.specs.Rows.{language as language_of}
 use Rattle.scope_graph.specs.Computed.{Standing, is_visible, is_shadowed, is_unreached, keep, same_hop, preferred_to, reached_nodes, judged}
 use Rattle.scope_graph.specs.Listing.{Accepted}
 
@@ -88,6 +88,6 @@ module _ (L : Language) where
 
 -- all of it, for every language of a file and every accepted graph and query
 pub record AgreePromises : Type 1 where
-  pub language : (r : Rules) → OneStep (languageOf r)
+  pub language : (r : Rules) → OneStep (language_of r)
   pub paths : (L : Language) → PathsAgree L
   pub query : (L : Language) (g : Graph L) (opens : List (OpenPair L)) (q : Query L) → Accepted L g opens q → OneStep L → CaughtIs L g q

@@ -7,7 +7,7 @@ use Rattle.scope_graph.specs.Graph.{Graph, Query, OpenPair}
 use Rattle.scope_graph.specs.Path.{Path, PathRow, row_declaration, MoreSpecific, Reached, Visible, Shadowed, Unreached, MarkDeclared, Entry}
 use Rattle.scope_graph.specs.Completion.{Decisive, Settled, Awaits}
 use Rattle.scope_graph.specs.Rows.{Rules, RulesPass}
-use Rattle.scope_graph.specs.Rows.{language as languageOf}
+use Rattle.scope_graph.specs.Rows.{language as language_of}
 use Rattle.scope_graph.specs.Followed.{Preferred, FollowedAt}
 use Rattle.scope_graph.specs.Computed.{is_visible, is_shadowed, is_unreached, more_specific, standing, judged, entries, found, followed_at, awaits}
 use Rattle.scope_graph.specs.Listing.{Pairwise, RowBefore, Accepted, FoundIs}
@@ -15,7 +15,7 @@ use Rattle.scope_graph.specs.Ends.{found_among, ends_at, several_marks}
 
 -- rules that refusals 3 and 6 let pass give a language with the laws
 abbrev pub LanguageLaws : Type 0
-LanguageLaws = (r : Rules) → RulesPass r → Laws (languageOf r)
+LanguageLaws = (r : Rules) → RulesPass r → Laws (language_of r)
 
 module _ (L : Language) where
   -- *more specific* is a strict order, its form by recursion on the hops is the plain reading, and

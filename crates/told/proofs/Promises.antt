@@ -26,7 +26,7 @@ use Rattle.graph_table.specs.Sections.{table_form}
 use Rattle.path_row.specs.Form.{most_scope, number_up_to}
 use Rattle.path_row.proofs.FormLaws.{empty_is}
 use Rattle.follow.specs.Text.{head_line, rows_line, found_text, shown_row}
-use Rattle.follow.specs.Text.{row_text as listedText}
+use Rattle.follow.specs.Text.{row_text as listed_text}
 use Rattle.resolution.specs.Listing.{awaits_text, entry_text, shown_text}
 use Rattle.told.specs.Delivered.{Delivered, named_text, row_line, delivered_text, is_end, is_delivered, delivered_texts, Printed}
 use Rattle.told.specs.Apart.{after, or_else, word_here, found_here, end_by, pair_by, dash_here, awaits_here, first_row, rows_in, query_columns, listing_here, told_from, told_of}
@@ -173,7 +173,7 @@ module _ (cells : List ℕ) where
 -- our own listings
 lines_are : (cells : List ℕ) (rows : List (PathRow (language (rules_of cells))))
     → flat_map (entry_text cells) rows ≡ flat_map row_line (map (λ (r : PathRow (language (rules_of cells))). shown_row (letters_of cells) r.mark r.path.start r.path.hops) rows)
-unfolding flat_map listedText row_line
+unfolding flat_map listed_text row_line
 lines_are cells [] = refl
 lines_are cells (r ∷ rows) = ap (λ (l : List ℕ). entry_text cells r ++ l) (lines_are cells rows)
 
