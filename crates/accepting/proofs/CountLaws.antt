@@ -1,23 +1,21 @@
 -- How many entries a walk counts, and the word under `found`. Assumes nothing.
-use Prim.Native.Nat.{ℕ, suc, ◌+◌, ◌≤◌, ◌<◌}
+use Prim.Native.Nat.{ℕ, ◌+◌, ◌≤◌, ◌<◌}
 use mathlib.Core.Path.{◌≡◌, refl, sym, ap, ◌∙◌}
 use mathlib.Core.Bool.{Bool, true, false, not}
 use mathlib.Core.Logic.{⊎_elim}
-use mathlib.Core.List.{List, [], ◌∷◌, ◌++◌, map}
+use mathlib.Core.List.{List, [], ◌∷◌, ◌++◌}
 use native.Mathlib.Omega.{arith}
 use lib.Dec.{leb}
 use lib.ListN.{length, length-append, length-map}
 use borrow.Author.Tests.{leb-true, leb-false}
 use borrow.Author.Tests as tests
 use Rattle.scope_graph.specs.Graph.{Query}
-use Rattle.scope_graph.specs.Path.{PathRow}
 use Rattle.scope_graph.specs.Rows.{language}
 use Rattle.scope_graph.specs.Computed.{Found, found_none, found_one, found_several, entries}
 use Rattle.scope_graph.proofs.Lists.{Two}
 use Rattle.text_field.proofs.ByteLaws.{clash}
 use Rattle.graph_rows.specs.Decode.{rules_of, graph_of}
 use Rattle.follow.specs.declared.Bounds.{Bounds}
-use Rattle.follow.specs.declared.Tally.{Tally}
 use Rattle.follow.specs.Tally as tally
 use Rattle.follow.specs.Tally.{Taken, State, fits, more, within, take_row, take_rows}
 use Rattle.follow.proofs.TakeLaws.{fits_true, fits_false, more_on, more_off, take_within}
@@ -107,7 +105,7 @@ module _ (cells : List ℕ) (q : Query (language (rules_of cells))) (f : Found) 
     over_told e = record {
       yes = λ z. absurd (clash {b = false} z refl);
       no = λ _ _ _.
-          let g : b.limit < 0 + length (joined rows) = fits_false b.limit 0 (length (joined rows)) (tests.not_true (fits b.limit 0 (length (joined rows))) (sym over_is ∙ e)) in
+          let g : b.limit < 0 + length (joined rows) = fits_false b.limit 0 (length (joined rows)) (tests.not-true (fits b.limit 0 (length (joined rows))) (sym over_is ∙ e)) in
           let j = joined_length in
           omega arith;
     }
@@ -115,7 +113,7 @@ module _ (cells : List ℕ) (q : Query (language (rules_of cells))) (f : Found) 
     module _ (still : t.1.over ≡ false) where
       room : length (joined rows) ≤ b.limit
       room =
-          let g : 0 + length (joined rows) ≤ b.limit = fits_true b.limit 0 (length (joined rows)) (tests.not_false (fits b.limit 0 (length (joined rows))) (sym over_is ∙ still)) in
+          let g : 0 + length (joined rows) ≤ b.limit = fits_true b.limit 0 (length (joined rows)) (tests.not-false (fits b.limit 0 (length (joined rows))) (sym over_is ∙ still)) in
           omega arith
 
       -- as many as were delivered are counted exactly if there are as many

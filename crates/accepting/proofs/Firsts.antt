@@ -10,7 +10,7 @@ use Rattle.scope_graph.specs.Rows.{language}
 use Rattle.graph_rows.specs.Decode.{rules_of}
 use Rattle.told.specs.Delivered.{Delivered}
 use Rattle.accepting.specs.Tests.{is_right}
-use Rattle.accepting.specs.Verdict.{Finding, all_right, wrong_at, first_wrong}
+use Rattle.accepting.specs.Verdict.{all_right, wrong_at, first_wrong}
 
 module _ (cells : List ℕ) (x : Query (language (rules_of cells))) (y : Delivered) where
   abbrev Q : Type 0

@@ -1,8 +1,8 @@
 -- One listing held against its query, and all of them in turn. Assumes nothing.
-use Prim.Native.Nat.{ℕ, suc, ◌+◌, ◌-◌, ◌*◌, ◌≤◌, ◌<◌}
-use mathlib.Core.Path.{◌≡◌, refl, sym, ap, ◌∙◌, subst}
-use mathlib.Core.Bool.{Bool, true, false, not, ◌&&◌}
-use mathlib.Core.List.{List, [], ◌∷◌, ◌++◌, flat_map}
+use Prim.Native.Nat.{ℕ, ◌+◌, ◌*◌, ◌≤◌, ◌<◌}
+use mathlib.Core.Path.{◌≡◌, refl, sym, ap, ◌∙◌}
+use mathlib.Core.Bool.{Bool, true, false, ◌&&◌}
+use mathlib.Core.List.{List, [], ◌∷◌, flat_map}
 use native.Mathlib.Numerals.{add-one}
 use native.Mathlib.Omega.{arith}
 use lib.Dec.{eqb}
@@ -10,17 +10,16 @@ use lib.ListN.{length, drop, length-append, drop_of_length-le}
 use borrow.Author.Tests.{eq-eqb, eqb-true}
 use Rattle.scope_graph.specs.Graph.{Query}
 use Rattle.scope_graph.specs.Rows.{language}
-use Rattle.scope_graph.specs.Computed.{Found, entries}
+use Rattle.scope_graph.specs.Computed.{entries}
 use Rattle.text_field.specs.Number.{number_text}
 use Rattle.text_field.specs.Outcome.{Outcome, refused, done, and_then}
 use Rattle.text_field.proofs.ByteLaws.{both, clash}
-use Rattle.text_field.proofs.NumberLaws.{length_some}
 use Rattle.text_field.proofs.OutcomeLaws.{done_same, not_done, Went, went}
 use Rattle.graph_rows.specs.Decode.{rules_of, graph_of, queries_of}
-use Rattle.board.specs.Queries.{query_at, query_on, Asked}
+use Rattle.board.specs.Queries.{query_at, Asked}
 use Rattle.path_row.specs.Form.{PathRow, front_text, row_text, steps_text}
 use Rattle.resolution.specs.Summary.{same_found}
-use Rattle.resolution.specs.Listing.{found_for, entries_text}
+use Rattle.resolution.specs.Listing.{found_for}
 use Rattle.told.specs.Delivered.{Delivered, row_line, are_rows}
 use Rattle.told.specs.Apart.{rows_in, told_from, told_of}
 use Rattle.told.specs.Steps.{RowsSpan, is_done}
@@ -29,7 +28,7 @@ use Rattle.told.proofs.ListingLaws.{queries_from}
 use Rattle.scope_graph.specs.Own.{all_of}
 use Rattle.accepting.specs.Tests.{none_twice, row_visible, may_await, is_right}
 use Rattle.accepting.specs.Steps.{CountTold}
-use Rattle.accepting.specs.Verdict.{Finding, all_right, wrong_at, first_wrong, accept_of}
+use Rattle.accepting.specs.Verdict.{all_right, wrong_at, first_wrong, accept_of}
 use Rattle.accepting.proofs.CountLaws.{found_same, found_self}
 use Rattle.accepting.proofs.Rules.{right_long}
 

@@ -1,16 +1,16 @@
 -- What may stand under `awaits`: an end by its byte, an open pair among the open rows. Assumes
 -- nothing.
 use Prim.Native.Nat.{ℕ, zero, suc, ◌+◌, ◌-◌, ◌≤◌, ◌<◌}
-use mathlib.Core.Path.{◌≡◌, refl, sym, ap, ◌∙◌, subst}
+use mathlib.Core.Path.{◌≡◌, refl, sym, ap, ◌∙◌}
 use mathlib.Core.Bool.{Bool, true, false, ◌&&◌}
-use mathlib.Core.Option.{Option, some, none}
+use mathlib.Core.Option.{some}
 use mathlib.Core.List.{List, [], ◌∷◌, map}
 use native.Mathlib.Numerals.{add-one}
 use native.Mathlib.Omega.{arith}
 use lib.Dec.{eqb}
 use lib.ListN.{length, get_or, drop}
 use borrow.Author.Tests.{eq-eqb, ne_eqb, eqb-true, eqb-false}
-use Rattle.scope_graph.specs.Language.{◌∈◌, End, stop, by, Language}
+use Rattle.scope_graph.specs.Language.{End, by, Language}
 use Rattle.scope_graph.specs.Graph.{Query, OpenPair}
 use Rattle.scope_graph.specs.Rows.{language, any_of, same_end}
 use Rattle.scope_graph.specs.Order.{end_of}
@@ -32,8 +32,7 @@ use Rattle.comparison.proofs.LetterLaws.{letters_same}
 use Rattle.resolution.specs.declared.text.Awaits.{Awaits}
 use Rattle.resolution.specs.declared.text.Awaits.TheVariants.{Settled, Pair}
 use Rattle.resolution.specs.Asked.{Ready, query_in, followed_by, awaits_meaning}
-use Rattle.resolution.proofs.Answers.{pair_is, Small, open_small}
-use Rattle.told.specs.Delivered.{NamedPair}
+use Rattle.resolution.proofs.Answers.{pair_is, open_small}
 use Rattle.accepting.specs.Tests.{end_named, pair_named, is_open, is_settled, may_await}
 use Rattle.accepting.specs.Steps.{has_open}
 

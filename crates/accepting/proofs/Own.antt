@@ -1,15 +1,15 @@
 -- What our own program prints for the queries of a file is right. Assumes nothing.
-use Prim.Native.Nat.{ℕ, zero, suc, ◌≤◌, ◌<◌}
+use Prim.Native.Nat.{ℕ, zero, suc, ◌<◌}
 use mathlib.Core.Path.{◌≡◌, refl, sym, ap, ◌∙◌, subst}
-use mathlib.Core.Bool.{Bool, true, false, ◌&&◌}
+use mathlib.Core.Bool.{true}
 use mathlib.Core.Logic.{⊎_elim}
 use mathlib.Core.Option.{Option, some, none}
 use mathlib.Core.List.Memᴰ
 use mathlib.Core.List.{List, [], ◌∷◌, ◌++◌, map, flat_map}
 use native.Mathlib.Omega.{arith}
 use lib.Dec.{eqb, leb}
-use lib.ListN.{length, get_or, length-map, get_or-map}
-use borrow.Author.Tests.{le-leb, eq-eqb, ne_eqb}
+use lib.ListN.{length, get_or, length-map}
+use borrow.Author.Tests.{le-leb, ne_eqb}
 use Rattle.scope_graph.specs.Language.{◌∈◌, End, stop, by, Language}
 use Rattle.scope_graph.specs.Graph.{Graph, Query, OpenPair}
 use Rattle.scope_graph.specs.Path.{Entry}
@@ -18,7 +18,7 @@ use Rattle.scope_graph.specs.Rows.{language}
 use Rattle.scope_graph.specs.Completion.{PairBefore}
 use Rattle.scope_graph.specs.Computed.{found, entries, followed_at, awaits}
 use Rattle.scope_graph.specs.Listing.{Accepted}
-use Rattle.scope_graph.specs.TakenIn.{Told, RightlyTold, TakenPromises}
+use Rattle.scope_graph.specs.TakenIn.{Told, RightlyTold}
 use Rattle.scope_graph.proofs.Lists.{here, there, and_both, or_right, map_elim, first_of_some}
 use Rattle.scope_graph.proofs.TakenIn.{taken_in}
 use Rattle.text_field.specs.Bytes.{is_capital}
@@ -26,17 +26,16 @@ use Rattle.text_field.specs.Outcome.{done}
 use Rattle.text_field.proofs.ByteLaws.{within_bounds}
 use Rattle.graph_file.specs.File.{read_cells}
 use Rattle.graph_rows.specs.Accepted.{AcceptedTable, EndListed}
-use Rattle.graph_rows.specs.Decode.{rules_of, graph_of, opens_of, queries_of, letters_of, scopes_of}
+use Rattle.graph_rows.specs.Decode.{rules_of, graph_of, opens_of, queries_of, letters_of}
 use Rattle.graph_table.specs.Sections.{table_form}
 use Rattle.board.specs.Queries.{query_at}
 use Rattle.board.proofs.Queries.{get_d_in, accepted}
 use Rattle.path_row.specs.Form.{PathRow, most_scope, is_row}
-use Rattle.path_row.specs.Numbering.{label_number}
 use Rattle.follow.specs.Text.{letter_of, end_text, shown_row}
 use Rattle.resolution.specs.Listing.{found_for, listing_text}
 use Rattle.judge.specs.Judge.{as_rules_row}
 use Rattle.judge.proofs.Listed.{numbered, capital, is_row_lem, rules_row_is}
-use Rattle.told.specs.Delivered.{NamedPair, Delivered, delivered_text, is_end, is_named, are_rows, is_delivered, delivered_texts, Printed}
+use Rattle.told.specs.Delivered.{Delivered, is_end, is_named, are_rows, is_delivered, delivered_texts, Printed}
 use Rattle.told.specs.Apart.{first_row, listing_here}
 use Rattle.told.specs.Promises.{shown_named, shown}
 use Rattle.told.proofs.Printing.{listing_back}

@@ -4,26 +4,24 @@ use mathlib.Core.Path.{◌≡◌, refl, sym, ap, ◌∙◌, subst}
 use mathlib.Core.Bool.{Bool, true, false}
 use mathlib.Core.Logic.{◌↔◌}
 use mathlib.Core.Option.{none}
-use mathlib.Core.List.{List, [], ◌∷◌, flat_map}
+use mathlib.Core.List.{List, [], flat_map}
 use native.Mathlib.Omega.{arith}
-use lib.ListN.{length, get_or}
-use Rattle.scope_graph.specs.Language.{◌∈◌}
+use lib.ListN.{length}
 use Rattle.scope_graph.specs.Graph.{Query}
 use Rattle.scope_graph.specs.Rows.{language}
 use Rattle.scope_graph.specs.Computed.{found_none}
-use Rattle.scope_graph.specs.TakenIn.{RightlyTold}
 use Rattle.text_field.specs.Outcome.{Outcome, refused, done, and_then}
 use Rattle.text_field.proofs.ByteLaws.{both, clash}
 use Rattle.text_field.proofs.OutcomeLaws.{done_same, not_done, went}
 use Rattle.graph_file.specs.File.{read_cells}
-use Rattle.graph_rows.specs.Decode.{rules_of, graph_of, opens_of, queries_of, scopes_of}
+use Rattle.graph_rows.specs.Decode.{rules_of, queries_of, scopes_of}
 use Rattle.board.specs.Queries.{query_at}
 use Rattle.board.proofs.Queries.{get_d_in, accepted}
 use Rattle.resolution.specs.Listing.{listing_text}
 use Rattle.told.specs.Delivered.{Delivered, is_named, are_rows, is_delivered, Printed}
 use Rattle.told.specs.Apart.{told_of}
 use Rattle.told.proofs.Promises.{taken_apart, no_printing}
-use Rattle.accepting.specs.Tests.{told_in, is_right}
+use Rattle.accepting.specs.Tests.{is_right}
 use Rattle.accepting.specs.Verdict.{Finding, all_right, wrong_at, first_wrong, accept_of, accept_for}
 use Rattle.accepting.specs.Promises.{list_at, RightList, AcceptedExactly, FirstWrong, AcceptRefused, OwnAccepted, Promises}
 use Rattle.accepting.proofs.VerdictLaws.{text_read}
@@ -89,9 +87,9 @@ accepted_exactly text cells read lists = (
       ∙ found_back cells lists all_right w.0 p (all_back cells (no_query cells) no_list 0 (queries_of cells) w.0 p.one_each (λ i h. (right text cells read lists w.0 p i h).1 (w.2 i h))),
 )
 
-pub first_wrong : FirstWrong
+pub first_wrong_lem : FirstWrong
 unfolding query_at list_at
-first_wrong text cells read lists i = (
+first_wrong_lem text cells read lists i = (
   λ e.
       let w = found_forth cells lists (wrong_at i) (sym (text_read text lists cells read) ∙ e) in
       let p = w.1 in
@@ -139,4 +137,4 @@ pub own : OwnAccepted
 own text cells read = (accepted_exactly text cells read (flat_map (listing_text cells) (queries_of cells))).1 (own_printing text cells read)
 
 pub promises : Promises
-promises = record { accepted_exactly = accepted_exactly; first_wrong = first_wrong; refusals = refusals; own = own }
+promises = record { accepted_exactly = accepted_exactly; first_wrong = first_wrong_lem; refusals = refusals; own = own }

@@ -1,17 +1,15 @@
 -- Rows that are the same, by their bytes. Assumes nothing.
 use Prim.Native.Nat.{ℕ, ◌+◌, ◌-◌, ◌≤◌, ◌<◌}
 use mathlib.Core.Path.{◌≡◌, refl, sym, ap, ◌∙◌}
-use mathlib.Core.Bool.{Bool, true, false, not, ◌&&◌}
+use mathlib.Core.Bool.{Bool, true, false, ◌&&◌}
 use mathlib.Core.List.{List, [], ◌∷◌}
 use native.Mathlib.Omega.{arith}
 use lib.Dec.{eqb}
 use lib.ListN.{length, get_or, take, drop}
 use borrow.Author.Tests.{eq-eqb, ne_eqb, eqb-true}
-use Rattle.scope_graph.specs.Rows.{any_of}
-use Rattle.text_field.specs.Outcome.{done}
 use Rattle.text_field.proofs.ByteLaws.{both}
 use Rattle.text_field.proofs.Steps.{drop_next, drop_end}
-use Rattle.path_row.specs.Form.{PathRow, row_here, row_text}
+use Rattle.path_row.specs.Form.{row_text}
 use Rattle.path_row.proofs.FormLaws.{read_then_written}
 use Rattle.told.specs.Apart.{rows_in}
 use Rattle.told.specs.Steps.{RowStands}

@@ -1,11 +1,11 @@
 -- A test of every row of a listing, as code goes from row to row. Assumes nothing.
-use Prim.Native.Nat.{ℕ, ◌-◌, ◌≤◌}
-use mathlib.Core.Path.{◌≡◌, refl, sym, ap, ◌∙◌}
-use mathlib.Core.Bool.{Bool, true, false, not, ◌&&◌}
-use mathlib.Core.Option.{some, none}
+use Prim.Native.Nat.{ℕ, ◌≤◌}
+use mathlib.Core.Path.{◌≡◌, sym, ap, ◌∙◌}
+use mathlib.Core.Bool.{Bool, true, false}
+use mathlib.Core.Option.{none}
 use mathlib.Core.List.{List, [], ◌∷◌}
-use lib.ListN.{length, take, drop}
-use Rattle.scope_graph.specs.Rows.{language, any_of}
+use lib.ListN.{length, drop}
+use Rattle.scope_graph.specs.Rows.{any_of}
 use Rattle.text_field.specs.Outcome.{Outcome, refused, done}
 use Rattle.text_field.proofs.Steps.{drop_end}
 use Rattle.scope_graph.specs.Agree.{Judgement}

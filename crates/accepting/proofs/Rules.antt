@@ -1,5 +1,5 @@
 -- The tests of a listing decide what the rules call right. Assumes nothing.
-use Prim.Native.Nat.{ℕ, suc, ◌+◌, ◌≤◌, ◌<◌}
+use Prim.Native.Nat.{ℕ, ◌≤◌, ◌<◌}
 use mathlib.Core.Path.{◌≡◌, refl, sym, ap, ◌∙◌, subst}
 use mathlib.Core.Bool.{Bool, true, false, not, ◌&&◌}
 use mathlib.Core.Logic.{◌↔◌, ⊎_elim}
@@ -15,8 +15,8 @@ use Rattle.scope_graph.specs.Graph.{Graph, Query, OpenPair}
 use Rattle.scope_graph.specs.Path.{HopOf, Entry}
 use Rattle.scope_graph.specs.Path.{PathRow as RulesRow}
 use Rattle.scope_graph.specs.Turns.{Turned}
-use Rattle.scope_graph.specs.Rows.{language, any_of, same_end}
-use Rattle.scope_graph.specs.Computed.{hops_at, entries, found, followed_at, awaits}
+use Rattle.scope_graph.specs.Rows.{language, same_end}
+use Rattle.scope_graph.specs.Computed.{hops_at, entries, followed_at, awaits}
 use Rattle.scope_graph.specs.Agree.{Judgement, as_visible, as_shadowed, as_unreached, judgement, CaughtIs}
 use Rattle.scope_graph.specs.Listing.{Accepted}
 use Rattle.scope_graph.specs.TakenIn.{NoneTwice, RightlyTold, AwaitPasses, TakenPromises}
@@ -33,7 +33,6 @@ use Rattle.board.proofs.Queries.{accepted}
 use Rattle.path_row.specs.declared.form.Step.{Step}
 use Rattle.path_row.specs.Form.{PathRow, row_here, front_text, step_text, steps_text, row_text, is_row}
 use Rattle.path_row.specs.Numbering.{label_number, hop_of, hops_of, path_of}
-use Rattle.path_row.specs.Promises.{Numbers}
 use Rattle.path_row.proofs.FormLaws.{written_then_read}
 use Rattle.path_row.proofs.Promises.{letters_numbered}
 use Rattle.follow.specs.Text.{shown_step}
@@ -43,7 +42,7 @@ use Rattle.resolution.specs.Listing.{entry_text, found_for, entries_text}
 use Rattle.judge.specs.Judge.{as_rules_row}
 use Rattle.told.specs.Delivered.{NamedPair, Delivered, row_line, are_rows}
 use Rattle.scope_graph.specs.Own.{all_of}
-use Rattle.accepting.specs.Tests.{same_bytes, is_among, none_twice, is_visible, end_named, pair_named, await_named, told_in, is_open, is_settled, row_visible, may_await, is_right}
+use Rattle.accepting.specs.Tests.{same_bytes, is_among, none_twice, is_visible, pair_named, await_named, told_in, is_open, is_settled, row_visible, may_await, is_right}
 use Rattle.accepting.proofs.RepeatLaws.{same_is, same_self}
 use Rattle.accepting.proofs.CountLaws.{found_same, found_self}
 use Rattle.accepting.proofs.Weights.{sum_by, once_sum}

@@ -1,9 +1,8 @@
 -- What is proved of taking listings in (02, K3), over a text. These are the statements; their proofs
 -- are in proofs/Promises. Assumes nothing: these are definitions.
-use Rattle.std.specs.Prelude.{ℕ, ◌<◌, ◌≡◌, true, ◌↔◌, ◌⊎◌, length, get_or}
+use Rattle.std.specs.Prelude.{ℕ, ◌<◌, ◌≡◌, ◌↔◌, length, get_or}
 use Rattle.std.proofs.Math.Option.{none}
-use mathlib.Core.List.{List, [], ◌∷◌, flat_map}
-use Rattle.scope_graph.specs.Graph.{Query}
+use mathlib.Core.List.{List, [], flat_map}
 use Rattle.scope_graph.specs.Rows.{language}
 use Rattle.scope_graph.specs.Computed.{found_none}
 use Rattle.scope_graph.specs.TakenIn.{RightlyTold}
@@ -13,7 +12,7 @@ use Rattle.graph_rows.specs.Decode.{rules_of, graph_of, opens_of, queries_of}
 use Rattle.board.specs.Queries.{query_at}
 use Rattle.resolution.specs.Listing.{listing_text}
 use Rattle.told.specs.Delivered.{Delivered, Printed}
-use Rattle.accepting.specs.Tests.{told_in, is_right}
+use Rattle.accepting.specs.Tests.{told_in}
 use Rattle.accepting.specs.Verdict.{all_right, wrong_at, accept_for}
 
 -- the listing in place i

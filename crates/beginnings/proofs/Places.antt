@@ -1,24 +1,23 @@
 -- The places that the search finds over the block of a table that was read are the beginnings of
 -- the rules. Assumes nothing.
 use Prim.Native.Nat.{ℕ, ◌≤◌, ◌<◌}
-use mathlib.Core.Path.{◌≡◌, refl, sym, ap, ◌∙◌}
+use mathlib.Core.Path.{◌≡◌, sym, ap, ◌∙◌}
 use mathlib.Core.Bool.{Bool, true, false, not, ◌&&◌}
 use mathlib.Core.List.{List}
 use native.Mathlib.Omega.{arith}
 use borrow.Author.Tests.{lt-ltb}
 use lib.Dec.{ltb}
 use lib.ListN.{length}
-use Rattle.scope_graph.specs.Language.{◌∈◌, End, Language, Laws}
+use Rattle.scope_graph.specs.Language.{End, Language, Laws}
 use Rattle.scope_graph.specs.Graph.{Graph, InRange, Query}
-use Rattle.scope_graph.specs.Path.{HopOf}
 use Rattle.scope_graph.specs.Rows.{language}
 use Rattle.scope_graph.specs.Turns.{Turned, label_end}
-use Rattle.scope_graph.specs.Computed.{NodeOf, keep, leads_on, nodes, cut}
+use Rattle.scope_graph.specs.Computed.{NodeOf, leads_on, nodes, cut}
 use Rattle.scope_graph.proofs.Nodes.{hops_at_elim}
 use Rattle.graph_rows.specs.Decode.{rules_of, graph_of, scopes_of}
 use Rattle.graph_rows.specs.Accepted.{AcceptedTable}
 use Rattle.block.specs.Sets.{has_state}
-use Rattle.block.specs.Block.{scopes_cell, block_hops}
+use Rattle.block.specs.Block.{scopes_cell}
 use Rattle.block.specs.Ask.{ask_start, ask_goal}
 use Rattle.block.proofs.BlockLaws.{pair_no_second}
 use Rattle.search.specs.Board.{Board, board_of, without, hits_from}

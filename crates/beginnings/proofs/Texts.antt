@@ -1,14 +1,13 @@
 -- The count over a text: it is right for each query of a text that is read, and refused as the text
 -- is. Assumes nothing.
 use Prim.Native.Nat.{ℕ, ◌≤◌, ◌<◌}
-use mathlib.Core.Path.{◌≡◌, refl, sym, ap, ◌∙◌}
-use mathlib.Core.Bool.{Bool, true, false}
+use mathlib.Core.Path.{◌≡◌, refl, sym, ap}
 use mathlib.Core.Logic.{⊎_elim}
 use mathlib.Core.Option.{Option}
 use mathlib.Core.List.{List, [], ◌∷◌, map}
 use native.Mathlib.Omega.{arith}
 use borrow.Author.Tests.{lt-ltb, le-ltb, lt-leb, le-leb, ltb-true, ltb-false}
-use lib.Dec.{leb, ltb}
+use lib.Dec.{ltb}
 use lib.ListN.{length, length-map}
 use Rattle.scope_graph.specs.Language.{◌∈◌, Language}
 use Rattle.scope_graph.specs.Graph.{Graph, InRange, Query}
@@ -19,10 +18,9 @@ use Rattle.scope_graph.specs.Computed.{Node}
 use Rattle.scope_graph.specs.Listing.{Pairwise, Accepted}
 use Rattle.scope_graph.proofs.Lists.{Two, pairwise_weaken, map_pairwise}
 use Rattle.scope_graph.proofs.Rows.{next_by_row}
-use Rattle.text_field.specs.Outcome.{refused, done, and_then, refuse_if}
+use Rattle.text_field.specs.Outcome.{done, and_then, refuse_if}
 use Rattle.graph_file.specs.File.{read_cells}
-use Rattle.graph_rows.specs.Decode.{rules_of, graph_of, opens_of, queries_of, scopes_of}
-use Rattle.graph_rows.specs.Accepted.{AcceptedTable}
+use Rattle.graph_rows.specs.Decode.{rules_of, graph_of, opens_of, queries_of}
 use Rattle.graph_file.proofs.Promises.{read_accepted}
 use Rattle.board.specs.Queries.{query_at}
 use Rattle.board.proofs.Queries.{get_d_in}

@@ -1,7 +1,6 @@
 -- The edge rows of an admitted table stand by ascending scope, and so do the declarations: the key
 -- of each begins with its scope. Assumes nothing.
 use Prim.Native.Nat.{ℕ, ◌≤◌}
-use mathlib.Core.Path.{refl}
 use mathlib.Core.Logic.{⊎_elim}
 use mathlib.Core.List.{List, [], ◌∷◌}
 use native.Mathlib.Omega.{arith}

@@ -1,12 +1,12 @@
 -- The pass that finds the scopes that declare a name. Assumes nothing.
 use Prim.Native.Nat.{ℕ, ◌+◌, ◌-◌, ◌≤◌, ◌<◌}
 use mathlib.Core.Path.{◌≡◌, sym, ap, ◌∙◌}
-use mathlib.Core.Bool.{Bool, true, false, ◌&&◌, ◌||◌}
+use mathlib.Core.Bool.{Bool, true, false, ◌||◌}
 use mathlib.Core.List.{List, map}
 use native.Mathlib.Omega.{arith}
 use lib.Bits.{bit_or}
 use lib.Dec.{eqb}
-use lib.ListN.{length, get_or, drop}
+use lib.ListN.{length, drop}
 use Rattle.scope_graph.specs.Rows.{PackedName, same_name, any_of}
 use Rattle.block.specs.Sets.{has_scope}
 use Rattle.block.proofs.SetLaws.{scopes_none, scopes_or}

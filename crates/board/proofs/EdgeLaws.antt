@@ -20,7 +20,7 @@ use Rattle.graph_table.proofs.Laws.{rows_earlier}
 use Rattle.graph_table.proofs.Promises.{next_is}
 use Rattle.graph_table.proofs.Tests.{below_or}
 use Rattle.block.specs.Layout.{FIRST, EDGE, SIZE}
-use Rattle.block.specs.Block.{first_edge, edge_cell, scope_of, label_of, turn_of, hop_of, packed_edge, hops_from, hops_on, block_hops}
+use Rattle.block.specs.Block.{first_edge, edge_cell, scope_of, label_of, turn_of, hop_of, packed_edge, hops_from, hops_on}
 use Rattle.block.proofs.BlockLaws.{block_hops_in}
 use Rattle.board.specs.Cells.{puts, Only}
 use Rattle.board.specs.Edges.{turn_number, compact, narrow, cells_for, below, placed, ScopePut, EdgesPut}

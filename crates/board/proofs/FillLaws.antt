@@ -1,24 +1,24 @@
 -- The block as it is filled, table after table: each table's cells are written once, and what is
 -- written later stands elsewhere. Assumes nothing.
-use Prim.Native.Nat.{ℕ, zero, suc, ◌+◌, ◌-◌, ◌*◌, ◌/◌, ◌%◌, ◌≤◌, ◌<◌}
-use mathlib.Core.Path.{◌≡◌, refl, sym, ap, subst, ◌∙◌, fun_ext}
-use mathlib.Core.List.{List, [], ◌∷◌, map}
+use Prim.Native.Nat.{ℕ, suc, ◌+◌, ◌*◌, ◌/◌, ◌%◌, ◌≤◌, ◌<◌}
+use mathlib.Core.Path.{◌≡◌, sym, ap, subst, ◌∙◌, fun_ext}
+use mathlib.Core.List.{List, map}
 use mathlib.Core.Logic.{⊎_elim}
 use native.Mathlib.Omega.{arith}
 use lib.ListN.{length, get_or, set, length-set}
 use lib.Seq.{get_or-set_same, get_or-set_other}
 use Rattle.scope_graph.specs.Rows.{next_by}
 use Rattle.graph_rows.specs.Format.{label_section, transition_section, accept_section, count_section, pair_section, edge_section, declaration_section}
-use Rattle.graph_rows.specs.Admission.{Row, value, blank}
+use Rattle.graph_rows.specs.Admission.{value, blank}
 use Rattle.graph_rows.specs.Decode.{transition_of}
 use Rattle.block.specs.Sets.{has_bit, has_state}
-use Rattle.block.specs.Layout.{DELTA, BETTER, ACCEPT, SCOPES, USABLE, LETTER, START, FIRST, EDGE, DECL, STATES, TURN, HINT, SIZE, IsBlock}
+use Rattle.block.specs.Layout.{DELTA, BETTER, ACCEPT, SCOPES, USABLE, LETTER, START, FIRST, EDGE, DECL, STATES, TURN, SIZE}
 use Rattle.block.specs.Block.{next_cell, states_cell, turn_cell, turn_of, accept_set, usable_set, letter_cell, scopes_cell, first_edge, edge_cell, block_hops, first_declaration}
 use Rattle.block.proofs.BlockLaws.{get_d_any, next_in_lem, next_no_state, next_no_label, block_hops_in}
 use Rattle.graph_table.specs.Sections.{start_of, part_of}
 use Rattle.board.specs.Tables.{tabulate, state_cell, transition_cell, transition_cells, accepted, letter_of, BetterIs, hopeful_set, usable_states}
 use Rattle.board.specs.Cells.{puts, HintsOnly}
-use Rattle.board.specs.Edges.{placed, EdgesPut}
+use Rattle.board.specs.Edges.{EdgesPut}
 use Rattle.board.specs.Marks.{declared_cell}
 use Rattle.board.specs.Made.{section_rows, delta_of, Starts, RulesPut, GraphPut, Made}
 use Rattle.graph_table.proofs.Tests.{below_or}

@@ -4,7 +4,7 @@ use Prim.Native.Nat.{ℕ, zero, suc, ◌+◌, ◌-◌, ◌*◌, ◌/◌, ◌%◌
 use mathlib.Core.Path.{◌≡◌, refl, sym, ap, ◌∙◌}
 use mathlib.Core.Bool.{Bool, true, false, ◌&&◌, ◌||◌}
 use mathlib.Core.Option.{some}
-use mathlib.Core.List.{List, [], ◌∷◌, map}
+use mathlib.Core.List.{List, map}
 use mathlib.Core.Logic.{◌⊎◌, inl, inr, ⊎_elim}
 use native.Mathlib.Omega.{arith}
 use native.Mathlib.Numerals.{add-one}
@@ -26,7 +26,7 @@ use Rattle.block.specs.Sets.{has_bit, has_state}
 use Rattle.block.proofs.SetLaws.{bits_or, bits_none, bits_one, one_shifted, states_none, states_or, states_one}
 use Rattle.graph_table.specs.Sections.{rows_of}
 use Rattle.graph_table.specs.Values.{row_end}
-use Rattle.board.specs.Tables.{tabulate, state_cell, transition_cell, transition_cells, transition_place, accepted, end_place, BetterIs}
+use Rattle.board.specs.Tables.{state_cell, transition_cell, transition_cells, transition_place, accepted, end_place, BetterIs}
 use Rattle.graph_table.proofs.Tests.{below_or, and_first, and_second, and_rest, and_true, or_false, or_then, flip}
 use Rattle.board.proofs.Fill.{tabulate_is}
 use Rattle.graph_table.proofs.Parts.{rows_next, rows_none}

@@ -10,7 +10,7 @@ use native.Mathlib.Nat.{pow-suc, one-mul, zero-mul, add_comm, mul_assoc, add-mul
 use lib.Dec.{eqb}
 use lib.Pow.{pow_pos, pow-add, pow_mono, shl_exact, high}
 use Rattle.block.specs.Sets.{has_bit, has_state}
-use Rattle.block.proofs.SetLaws.{state_in, state_past}
+use Rattle.block.proofs.SetLaws.{state_in}
 use Rattle.board.specs.Tables.{bit_if, states_below}
 use Rattle.board.proofs.Fill.{below_suc}
 

@@ -18,7 +18,7 @@ use Rattle.scope_graph.proofs.Lists.{true_false}
 use Rattle.scope_graph.proofs.Promises.{promises}
 use Rattle.path_row.specs.Form.{PathRow, row_here}
 use Rattle.path_row.specs.Numbering.{path_in}
-use Rattle.comparison.specs.Compare.{first, second, neither, Told, as_told, which_of, row_before, comparison, agreement, told, compare_rows, compare_answer}
+use Rattle.comparison.specs.Compare.{first, second, neither, Told, which_of, row_before, comparison, agreement, told, compare_rows, compare_answer}
 use Rattle.comparison.specs.Promises.{SaysWhich, which_in, CompareIs, SaysHowFar, AgreeIs}
 use Rattle.comparison.proofs.AgreeLaws.{agreement_apart, agreement_same, turns_same}
 

@@ -28,7 +28,7 @@ use Rattle.path_row.proofs.TurnLaws.{same_hop_lem}
 use Rattle.path_row.proofs.RowReads.{RowIs}
 use Rattle.comparison.specs.declared.rows.Compared.{Compared}
 use Rattle.comparison.specs.declared.rows.Compared.TheVariants.{First, Second, Neither}
-use Rattle.comparison.specs.Compare.{Comparison, first, second, neither, Told, as_told, which_of, meaning, row_before, comparison, agreement, told, told_of, compare_rows}
+use Rattle.comparison.specs.Compare.{neither, Told, as_told, which_of, meaning, row_before, comparison, told, told_of, compare_rows}
 use Rattle.comparison.specs.Promises.{agree_steps}
 use Rattle.comparison.specs.Steps.{step_at, same_step, steps_preferred, steps_compared}
 use Rattle.comparison.specs.Letters.{block_letters}

@@ -1,11 +1,11 @@
 -- What is made of a text by changing its table's form. Assumes nothing.
-use Prim.Native.Nat.{ℕ, zero, suc, ◌+◌, ◌≤◌, ◌<◌}
+use Prim.Native.Nat.{ℕ, zero, suc, ◌≤◌, ◌<◌}
 use mathlib.Core.Path.{◌≡◌, refl, sym, ap, ◌∙◌}
 use mathlib.Core.Bool.{Bool, true, false}
 use mathlib.Core.List.{List, [], ◌∷◌}
 use native.Mathlib.Omega.{arith}
-use lib.ListN.{length, take, drop}
-use Rattle.text_field.specs.Outcome.{Outcome, refused, done, and_then, refuse_if}
+use lib.ListN.{length, take}
+use Rattle.text_field.specs.Outcome.{Outcome, refused, done, refuse_if}
 use Rattle.text_field.specs.Answer.{answer, leaves}
 use Rattle.text_field.proofs.AnswerLaws.{answer_refused, leaves_refused}
 use Rattle.graph_file.specs.File.{read_cells, write_text}

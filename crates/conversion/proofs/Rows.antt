@@ -9,7 +9,7 @@ use lib.Dec.{eqb}
 use lib.ListN.{length, get_or, drop, length-drop}
 use lib.Seq.{drop-drop, get_or-drop}
 use Rattle.graph_rows.specs.Format.{plain_kind, edge_section, declaration_section, query_section}
-use Rattle.graph_rows.specs.Admission.{Row, value, row_of}
+use Rattle.graph_rows.specs.Admission.{Row, row_of}
 use Rattle.graph_rows.specs.Way.{starts_with}
 use Rattle.graph_rows.specs.Order.{some_row}
 use Rattle.graph_rows.specs.Decode.{kept_if, rows_among, rows_in}

@@ -1,6 +1,6 @@
 -- What is promised of a file in the other form (02, K9 and K12). These are the statements; their
 -- values are in proofs/Promises.antt. Assumes nothing.
-use Rattle.std.specs.Prelude.{ℕ, ◌≤◌, ◌<◌, ◌≡◌, ◌⊎◌, ◌↔◌, true, false, List, length}
+use Rattle.std.specs.Prelude.{ℕ, ◌<◌, ◌≡◌, ◌⊎◌, ◌↔◌, true, List, length}
 use Rattle.std.proofs.Math.Option.{some}
 use Rattle.scope_graph.specs.Language.{◌∈◌}
 use Rattle.scope_graph.specs.Graph.{Edge, Declaration, Query}

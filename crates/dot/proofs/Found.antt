@@ -1,14 +1,12 @@
 -- What the code finds in a table that was read is what the graph has. Assumes nothing.
-use Prim.Native.Nat.{ℕ, suc, ◌+◌, ◌-◌, ◌*◌, ◌%◌, ◌≤◌, ◌<◌}
+use Prim.Native.Nat.{ℕ, ◌+◌, ◌-◌, ◌*◌, ◌%◌, ◌≤◌, ◌<◌}
 use mathlib.Core.Path.{◌≡◌, refl, sym, ap, ◌∙◌}
 use mathlib.Core.Bool.{Bool, true, false, not, ◌||◌}
-use mathlib.Core.Logic.{⊎_elim}
 use mathlib.Core.List.{List, [], ◌∷◌, ◌++◌, map, flat_map}
 use native.Mathlib.Omega.{arith}
-use native.Mathlib.Numerals.{add-one}
 use borrow.Author.Tests.{eq-eqb, ne_eqb}
 use lib.Dec.{eqb}
-use lib.ListN.{length, get_or, take, drop, length-map, get_or-map}
+use lib.ListN.{length, get_or, drop, length-map, get_or-map}
 use Rattle.scope_graph.specs.Language.{◌∈◌}
 use Rattle.scope_graph.specs.Graph.{Edge, InRange}
 use Rattle.scope_graph.specs.Rows.{language}
@@ -16,7 +14,7 @@ use Rattle.scope_graph.specs.Readers.{numbers_below}
 use Rattle.scope_graph.proofs.Lists.{here, there, map_intro, map_elim}
 use Rattle.scope_graph.proofs.Readers.{numbers_elim}
 use Rattle.text_field.specs.Buffer.{Buf, puts}
-use Rattle.graph_rows.specs.Format.{label_section, count_section, edge_section}
+use Rattle.graph_rows.specs.Format.{label_section, edge_section}
 use Rattle.graph_rows.specs.Admission.{Row, value, row_of, blank}
 use Rattle.graph_rows.specs.Order.{some_row}
 use Rattle.graph_rows.specs.Decode.{rows_in, letters_of, rules_of, scopes_of, edge_of, graph_of}
@@ -27,10 +25,8 @@ use Rattle.graph_file.specs.File.{WasRead}
 use Rattle.graph_file.proofs.InverseField.{capital_byte}
 use Rattle.graph_table.specs.declared.rows.EdgeRow.{EdgeRow}
 use Rattle.graph_table.specs.Values.{edge_row}
-use Rattle.graph_table.specs.Sections.{leading, first_row, start_of, part_of, rows_of}
-use Rattle.graph_table.proofs.Leading.{start_first, start_next, start_within}
+use Rattle.graph_table.specs.Sections.{part_of, rows_of}
 use Rattle.graph_table.proofs.Parts.{rows_count, rows_next, rows_none, row_at, value_cell}
-use Rattle.graph_table.proofs.Tests.{below_or}
 use Rattle.board.proofs.Capitals.{capitals}
 use Rattle.board.proofs.Queries.{get_d_in, accepted, sound, rows_are}
 use Rattle.dot_text.specs.Grammar.{DrawnEdge}

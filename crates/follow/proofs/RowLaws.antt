@@ -33,14 +33,6 @@ map_append : {A B : Type 0} (f : A → B) (xs ys : List A) → map f (xs ++ ys) 
 map_append f [] ys = refl
 map_append {A} {B} f (x ∷ xs) ys = ap (λ (z : List B). f x ∷ z) (map_append f xs ys)
 
--- how many cells a path has, from what is known of an array in a struct
-pub cells_size : (l : List ℕ) (n : ℕ) → length (map {A = ℕ} {B = ℕ} (λ v. v) l) ≡ n → length l ≡ n
-cells_size l n h = sym (same l) ∙ h
-  where
-    same : (k : List ℕ) → length (map {A = ℕ} {B = ℕ} (λ v. v) k) ≡ length k
-    same [] = refl
-    same (x ∷ k) = ap suc (same k)
-
 -- the first hops of a path's cells
 unfoldable pub first_hops : List ℕ → ℕ → List (HopOf Turned)
 first_hops hops i = map hop_of (take i hops)

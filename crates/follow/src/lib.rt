@@ -69,7 +69,7 @@ pub struct Tally {
 }
 
 // The path that the walk stands behind: of each hop the edge's cell.
-#[derive(Drop)]
+#[derive(Clone, Copy)]
 pub struct Path {
     pub hops: [u16; 64],
     pub depth: usize,

@@ -6,7 +6,7 @@ use mathlib.Core.List.{List, [], ◌∷◌}
 use native.Mathlib.Omega.{arith}
 use borrow.Author.Tests.{eq-eqb, ne_eqb}
 use lib.Dec.{eqb}
-use lib.ListN.{length, get_or, drop, length-drop}
+use lib.ListN.{length, drop, length-drop}
 use lib.Seq.{drop-drop, get_or-drop}
 use Rattle.graph_rows.specs.Format.{edge_section}
 use Rattle.graph_rows.specs.Admission.{Row, value, row_of, same_source, same_edge, repeats}

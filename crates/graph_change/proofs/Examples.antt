@@ -4,7 +4,7 @@ use Prim.Native.Nat.{ℕ}
 use mathlib.Core.Path.{◌≡◌, refl}
 use mathlib.Core.List.{List, [], ◌∷◌, ◌++◌}
 use mathlib.Core.Bool.{true, false}
-use Rattle.graph_rows.specs.Format.{labels, pairs, transitions, accepts, scope_count, edges, declarations, open_pairs, queries, sections, section_at, edge_section, open_section}
+use Rattle.graph_rows.specs.Format.{edges, open_pairs, sections, section_at, edge_section, open_section}
 use Rattle.graph_rows.specs.Admission.{Row, row_of, key_less, same_source, same_edge, repeats}
 use Rattle.graph_rows.specs.Way.{starts_with}
 use Rattle.graph_rows.specs.Decode.{kept_if, rows_among, rows_in}

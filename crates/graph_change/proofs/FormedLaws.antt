@@ -1,13 +1,13 @@
 -- Changes of formed tables. Assumes nothing.
 use Prim.Native.Nat.{ℕ, zero, suc, ◌<◌}
 use mathlib.Core.Path.{◌≡◌, refl, sym, ap, subst, ◌∙◌}
-use mathlib.Core.List.{List, ◌++◌}
+use mathlib.Core.List.{List}
 use mathlib.Core.Bool.{false}
 use native.Mathlib.Omega.{arith}
 use borrow.Author.Tests.{eq-eqb, ne_eqb}
 use lib.ListN.{length}
 use Rattle.graph_rows.specs.Format.{Sequence, ascending, apart, once, free, labels, pairs, transitions, accepts, scope_count, edges, declarations, open_pairs, queries, sections, section_at, shape_at, label_section, pair_section, count_section, edge_section}
-use Rattle.graph_rows.specs.Admission.{Row, key_less}
+use Rattle.graph_rows.specs.Admission.{Row}
 use Rattle.graph_rows.specs.Order.{order_fault}
 use Rattle.graph_rows.specs.Tested.{form_in}
 use Rattle.graph_rows.specs.Decode.{rows_in}
@@ -18,7 +18,7 @@ use Rattle.graph_rows.proofs.FormedChanges.{section_replaced, row_added, rows_ke
 use Rattle.graph_change.specs.Place.{place_in}
 use Rattle.graph_change.specs.Changed.{inserted, removed, with_row, without_row, with_rows}
 use Rattle.graph_change.specs.Promises.{Ascending, NoneLike, Found, FiveValues, ChangedAt, scopes_at, Ascends, JoinTold, FormedPut, FormedTaken, FormedReplaced, FormedFound}
-use Rattle.graph_change.proofs.RowLaws.{Parted, parted, place_later, removed_kept, other_key}
+use Rattle.graph_change.proofs.RowLaws.{parted, place_later, removed_kept, other_key}
 use Rattle.graph_change.proofs.TableLaws.{row_put, row_taken, rows_put, place_found}
 
 replaced_own : (k : ℕ) (new : List Row) (rows : ℕ → List Row) → replaced k new rows k ≡ new

@@ -4,7 +4,7 @@ use Prim.Native.Nat.{ℕ}
 use mathlib.Core.Path.{◌≡◌, refl, sym, ap, ◌∙◌}
 use mathlib.Core.Bool.{Bool, true, false, not}
 use mathlib.Core.List.{List, ◌∷◌}
-use lib.ListN.{length, drop}
+use lib.ListN.{length}
 use Rattle.scope_graph.proofs.Lists.{true_false}
 use Rattle.graph_rows.specs.Format.{section_at}
 use Rattle.graph_rows.specs.Admission.{Row, row_of, key_less}

@@ -5,10 +5,10 @@ use mathlib.Core.Path.{◌≡◌, refl, sym, ap, subst, ◌∙◌}
 use mathlib.Core.List.Memᴰ
 use mathlib.Core.List.{List, [], ◌∷◌, ◌++◌, append_assoc}
 use mathlib.Core.Bool.{Bool, true, false, ◌&&◌}
-use mathlib.Core.Logic.{◌⊎◌, inl, inr, ⊎_elim}
+use mathlib.Core.Logic.{inl, inr, ⊎_elim}
 use native.Mathlib.Omega.{arith}
 use lib.Dec.{ltb, leb}
-use lib.ListN.{length, get_or, take, drop, length-append}
+use lib.ListN.{length, get_or, drop, length-append}
 use lib.Seq.{take_at, drop_at}
 use borrow.Author.Tests.{eq-eqb, ne_eqb, lt-ltb, le-ltb, le-leb}
 use Rattle.scope_graph.specs.Language.{◌∈◌}
@@ -18,14 +18,14 @@ use Rattle.graph_rows.specs.Admission.{Row, row_of, key_less}
 use Rattle.graph_rows.specs.Formed.{cells_of, cells_from, table_of, replaced}
 use Rattle.graph_rows.proofs.DecodePlaces.{row_first}
 use Rattle.graph_rows.specs.Way.{starts_with}
-use Rattle.graph_table.specs.Sections.{leading, start_of}
+use Rattle.graph_table.specs.Sections.{start_of}
 use Rattle.graph_change.specs.declared.place.Place.TheVariants.{There, Free}
 use Rattle.graph_change.specs.Cells.{spliced}
 use Rattle.graph_change.specs.Place.{same_key, is_before, leading_rows, place_for, has_key, placed, place_in}
 use Rattle.graph_change.specs.Changed.{inserted, removed, with_row, without_at, without_row, with_rows}
 use Rattle.graph_change.specs.Promises.{Ascending, NoneLike, Found, FiveValues, RowPut, RowTaken, RowsPut, PlaceFound}
 use Rattle.graph_change.proofs.Leading.{stop_row, pass_rows, leading_is}
-use Rattle.graph_change.proofs.SectionLaws.{Five, cells_append, sections_add, sections_same, First, Front, front_rows, front_from, front_stops, pass_sections}
+use Rattle.graph_change.proofs.SectionLaws.{Five, cells_append, sections_add, sections_same, Front, front_rows, front_from, front_stops, pass_sections}
 use Rattle.graph_change.proofs.Keys.{less_not_same, after_not_same, otherwise, less_then}
 use Rattle.graph_change.proofs.RowLaws.{Stops, without, without_same, without_other, Parted, parted, ascending_below}
 

@@ -6,28 +6,27 @@ use mathlib.Core.List.{List, [], ◌∷◌, ◌++◌}
 use mathlib.Core.Bool.{Bool, true, false, not}
 use native.Mathlib.Nat.{suc-mul}
 use native.Mathlib.Omega.{arith}
-use lib.Dec.{eqb, ltb}
+use lib.Dec.{eqb}
 use lib.ListN.{length, drop, length-append}
-use borrow.Author.Tests.{eqb-true, ltb-false, not-false}
+use borrow.Author.Tests.{eqb-true}
 use Rattle.text_field.specs.Bytes.{within, is_digit, is_capital, is_lower}
 use Rattle.text_field.specs.Number.{number_here, number_meaning}
 use Rattle.text_field.proofs.ByteLaws.{clash, within_bounds, within_below, digit_bounds}
 use Rattle.text_field.proofs.NumberLaws.{first_off}
 use Rattle.graph_rows.specs.Format.{Content, state, scope, mark, count, letter, label, end, name, kind, plain, turn, Item, byte, field, section_at, shape_at}
-use Rattle.text_field.specs.Outcome.{done, and_then, refuse_if}
+use Rattle.text_field.specs.Outcome.{done, and_then}
 use Rattle.graph_rows.specs.Admission.{Row, row_of, blank, Sofar, in_range, place}
 use Rattle.graph_file.specs.Line.{Reading, number_taken, byte_taken, end_taken, first, read_field, read_item, place_of, read_items, line_text}
 use Rattle.graph_rows.specs.Values.{formed}
 use Rattle.graph_rows.specs.Way.{Piece, starts_with}
 use Rattle.graph_file.specs.File.{read_names, row_follows, read_row, reading, write_names, write_row, writing}
 use Rattle.graph_rows.specs.Tested.{test_row}
-use Rattle.text_field.proofs.OutcomeLaws.{done_same, not_done, went, passed}
+use Rattle.text_field.proofs.OutcomeLaws.{done_same, not_done, went}
 use Rattle.graph_file.proofs.InverseTable.{starts_field, starts_row, starts_names, longest, room, section_fine}
 use Rattle.graph_file.proofs.InverseField.{end_label}
 use Rattle.graph_file.proofs.InverseLine.{byte_found, line_again}
 use Rattle.graph_file.proofs.InverseNames.{names_again}
 use Rattle.graph_file.proofs.InverseSofar.{Sound, Admitted, line_width}
-use Rattle.graph_rows.proofs.DecodeWay.{split_six}
 use Rattle.graph_file.proofs.InverseWays.{RowBack, Mirror}
 use lib.Seq.{sets}
 use Rattle.graph_rows.proofs.RowLaws.{row_of_five}

@@ -11,7 +11,7 @@ use lib.Seq.{take_all, drop-drop}
 use Rattle.graph_file.specs.declared.line.Line.{Line}
 use Rattle.graph_rows.specs.declared.rows.Counts.{Counts}
 use Rattle.graph_file.specs.declared.reader.Part.{Part}
-use Rattle.graph_rows.specs.Format.{Item, byte, old_form, labels, pairs, section_at, shape_at}
+use Rattle.graph_rows.specs.Format.{Item, byte, old_form, section_at, shape_at}
 use Rattle.text_field.specs.Outcome.{refused, done, and_then, refuse_if}
 use Rattle.graph_rows.specs.Admission.{blank, nothing, begun}
 use Rattle.graph_file.specs.Line.{read_items}

@@ -18,7 +18,7 @@ use Rattle.text_field.specs.Outcome.{done}
 use Rattle.graph_rows.specs.Admission.{Row, value, row_of, blank, begun, taken}
 use Rattle.graph_file.specs.Line.{line_text, item_text, field_text}
 use Rattle.graph_rows.specs.Values.{formed, item_formed, field_formed}
-use Rattle.graph_rows.specs.Way.{Piece, Stage, after_row, one_row, through_rows, after_names, through_section, through_sections, at_start, whole}
+use Rattle.graph_rows.specs.Way.{Piece, Stage, after_row, one_row, through_rows, after_names, through_section, through_sections, at_start}
 use Rattle.graph_file.specs.File.{reading, writing, write_names, form_of, read_stage, made_of, read_cells}
 use Rattle.graph_rows.specs.Tested.{form_in}
 use Rattle.graph_file.specs.Sought.{shown_kind}

@@ -1,7 +1,7 @@
 -- Laws of the rows of a scope, from a cell on, for any rows. Assumes nothing.
 use mathlib.Core.Path.{◌≡◌, refl, sym, ap, subst, ◌∙◌}
 use mathlib.Core.Logic.{◌⊎◌, inl, inr}
-use mathlib.Core.Bool.{Bool, true, false}
+use mathlib.Core.Bool.{true, false}
 use mathlib.Core.List.{List, [], ◌∷◌}
 use Prim.Native.Nat.{ℕ, zero, suc, ◌+◌, ◌*◌, ◌≤◌, ◌<◌}
 use native.Mathlib.Omega.{arith}
@@ -13,7 +13,7 @@ use lib.Seq.{drop-cons}
 use Rattle.scope_graph.specs.Path.{HopOf}
 use Rattle.scope_graph.specs.Turns.{Turned}
 use Rattle.scope_graph.proofs.Lists.{Two}
-use Rattle.graph_table.specs.Rows.{hop_at, if_own, by_scope, row_hops, all_hops, RowsAscend, place_from, next_row}
+use Rattle.graph_table.specs.Rows.{hop_at, if_own, by_scope, row_hops, place_from, next_row}
 use Rattle.graph_table.specs.Promises.{NextRow}
 
 -- one row, by the scope that it leaves

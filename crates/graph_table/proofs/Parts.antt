@@ -4,18 +4,14 @@ use mathlib.Core.Path.{◌≡◌, refl, ap, ◌∙◌}
 use mathlib.Core.Bool.{Bool, true, false, ◌&&◌}
 use mathlib.Core.Option.{some, none}
 use mathlib.Core.List.{List, [], ◌∷◌, map}
-use mathlib.Core.Logic.{◌⊎◌, inl, inr, ⊎_elim}
+use mathlib.Core.Logic.{⊎_elim}
 use native.Mathlib.Omega.{arith}
-use lib.Dec.{eqb, ltb}
-use native.Mathlib.Nat.{add-zero}
-use lib.ListN.{length, get_or, drop, length-drop, get_or-eq_default}
-use lib.Seq.{drop-drop, get_or-drop}
-use borrow.Author.Tests.{lt-ltb, le-ltb, ltb-true, ltb-false}
-use native.Mathlib.Numerals.{add-one}
-use Rattle.scope_graph.specs.Rows.{PackedName, any_of, Transition, next_by}
-use Rattle.scope_graph.proofs.Lists.{Two}
+use lib.Dec.{eqb}
+use lib.ListN.{length, get_or, drop, length-drop}
+use lib.Seq.{drop-drop}
+use Rattle.scope_graph.specs.Rows.{any_of, Transition, next_by}
 use Rattle.graph_rows.specs.Admission.{Row, value, row_of, blank}
-use Rattle.graph_rows.proofs.RowLaws.{row_cells, row_none}
+use Rattle.graph_rows.proofs.RowLaws.{row_cells}
 use Rattle.graph_table.specs.Sections.{rows_of}
 use Rattle.graph_table.proofs.Tests.{below_or}
 

@@ -10,12 +10,12 @@ use borrow.Author.Tests.{ltb-true, ltb-false}
 use lib.Dec.{ltb}
 use lib.ListN.{length, get_or, drop}
 use Rattle.scope_graph.specs.Path.{HopOf}
-use Rattle.scope_graph.specs.Turns.{Turned, label_end}
+use Rattle.scope_graph.specs.Turns.{Turned}
 use Rattle.scope_graph.specs.Order.{end_of, meaning}
 use Rattle.scope_graph.proofs.Lists.{Two}
 use Rattle.graph_table.specs.Rows.{hop_to, if_own, by_scope, row_hops, all_hops, RowsAscend, next_row}
 use Rattle.graph_table.specs.Values.{row_end}
-use Rattle.graph_table.specs.Promises.{NextRow, NextIs, NextOne, NoneLater, AboveLater, WithoutLater, AscendingAll, RowEndIs}
+use Rattle.graph_table.specs.Promises.{NextRow, NextIs, NextOne, AboveLater, WithoutLater, AscendingAll, RowEndIs}
 use Rattle.graph_table.proofs.Laws.{if_own_lem, if_other, by_later, by_own, by_earlier, compare, next_from}
 
 -- a row up to scope s, before what both find alike

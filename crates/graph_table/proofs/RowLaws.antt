@@ -1,14 +1,13 @@
 -- Laws of reading a row: does one stand there, which name has it? Assumes nothing.
-use mathlib.Core.Path.{◌≡◌, refl, sym, ap, ◌∙◌}
-use mathlib.Core.Bool.{Bool, true, false, and-false}
+use mathlib.Core.Path.{◌≡◌, refl, sym, ap}
+use mathlib.Core.Bool.{true, false, and-false}
 use mathlib.Core.List.{List, [], ◌∷◌}
-use Prim.Native.Nat.{ℕ, zero, suc, ◌+◌, ◌≤◌, ◌<◌}
+use Prim.Native.Nat.{ℕ, suc, ◌≤◌, ◌<◌}
 use native.Mathlib.Omega.{arith}
-use borrow.Author.Tests.{ltb-true, ltb-false, eq-eqb, ne_eqb}
-use lib.Dec.{eqb, ltb}
+use borrow.Author.Tests.{eq-eqb, ne_eqb}
+use lib.Dec.{eqb}
 use lib.ListN.{length, get_or, drop, set, drop_of_length-le, get_or-eq_default}
-use lib.Seq.{drop-cons, get_or-drop}
-use Rattle.text_field.proofs.ByteLaws.{clash}
+use lib.Seq.{drop-cons}
 use Rattle.graph_rows.specs.Format.{has_kinds}
 use Rattle.graph_rows.specs.Admission.{Row, value, row_of}
 use Rattle.graph_rows.specs.Tested.{form_in}

@@ -3,7 +3,7 @@
 -- them go by one label to one scope they are one hop. Assumes nothing.
 use Prim.Native.Nat.{ℕ, zero, suc, ◌≤◌, ◌<◌}
 use mathlib.Core.Path.{◌≡◌, refl, sym, ap, ◌∙◌, subst, fun_ext}
-use mathlib.Core.Bool.{Bool, true, false, ◌&&◌, ◌||◌, or-false}
+use mathlib.Core.Bool.{Bool, true, false, ◌||◌, or-false}
 use mathlib.Core.Option.{Option, some, none}
 use mathlib.Core.Logic.{◌⊎◌, inl, inr, ⊎_elim}
 use mathlib.Core.List.Memᴰ
@@ -17,7 +17,7 @@ use Rattle.scope_graph.specs.Path.{Hop, Path}
 use Rattle.scope_graph.specs.Rows.{any_of}
 use Rattle.scope_graph.specs.Computed.{keep, Node, hops_at, behind, hop_on, nodes_from, same_hop, same_hops, preferred_to, nodes, reached_nodes, is_reached}
 use Rattle.scope_graph.specs.Agree.{most, agree_hops, same_step, caught, OneStep}
-use Rattle.scope_graph.proofs.Lists.{Two, true_false, and_right, here, there, any_of_elim, any_of_none, keep_intro, keep_elim, map_intro, map_elim, flat_map_intro}
+use Rattle.scope_graph.proofs.Lists.{Two, true_false, and_right, there, any_of_elim, any_of_none, keep_intro, keep_elim, map_intro, map_elim, flat_map_intro}
 use Rattle.scope_graph.proofs.Nodes.{hops_at_elim}
 use Rattle.scope_graph.proofs.Reached.{same_hop_lem, same_hops_lem}
 use Rattle.scope_graph.proofs.Agree.{most_least, most_in, agree_on, agree_off, agree_ended, agree_over, step_whole}

@@ -1,5 +1,5 @@
 -- A row has 63 steps at the most, so it is shadowed with no more. Assumes nothing.
-use mathlib.Core.Path.{◌≡◌, refl, sym, ap, ◌∙◌}
+use mathlib.Core.Path.{◌≡◌, refl, ap}
 use mathlib.Core.List.{List, [], ◌∷◌}
 use Prim.Native.Nat.{ℕ, suc, ◌≤◌}
 use native.Mathlib.Omega.{arith}
@@ -9,7 +9,7 @@ use Rattle.scope_graph.specs.Rows.{language}
 use Rattle.scope_graph.specs.Path.{HopOf}
 use Rattle.scope_graph.specs.Turns.{Turned}
 use Rattle.scope_graph.specs.Computed.{judged}
-use Rattle.scope_graph.specs.Agree.{Judgement, as_shadowed, with_steps, caught, judgement}
+use Rattle.scope_graph.specs.Agree.{Judgement, as_shadowed, caught, judgement}
 use Rattle.scope_graph.proofs.Agree.{is_shadowed_with, caught_within}
 use Rattle.text_field.specs.Outcome.{Outcome, refused, done, and_then, refuse_if}
 use Rattle.graph_file.specs.File.{read_cells}

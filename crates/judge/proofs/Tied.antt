@@ -2,7 +2,7 @@
 -- was read. Assumes nothing.
 use mathlib.Core.Path.{◌≡◌, refl, sym, ap, ◌∙◌, fun_ext, subst}
 use mathlib.Core.Bool.{Bool, true, false, ◌&&◌}
-use mathlib.Core.Option.{Option, some, none}
+use mathlib.Core.Option.{Option, some}
 use mathlib.Core.List.{List, [], ◌∷◌, map}
 use Prim.Native.Nat.{ℕ, ◌<◌}
 use native.Mathlib.Omega.{arith}
@@ -16,7 +16,7 @@ use Rattle.scope_graph.specs.Turns.{Turned}
 use Rattle.scope_graph.specs.Path.{PathRow as RulesRow}
 use Rattle.scope_graph.specs.Rows.{PackedName, Rules, any_of, same_name, language}
 use Rattle.scope_graph.specs.Computed.{Standing, is_visible, is_shadowed, is_unreached, keep, hops_at, marks_at, is_reached, standing, judged}
-use Rattle.scope_graph.specs.Agree.{Judgement, as_visible, as_shadowed, as_unreached, with_steps, caught, judgement}
+use Rattle.scope_graph.specs.Agree.{Judgement, as_shadowed, with_steps, caught, judgement}
 use Rattle.scope_graph.proofs.Lists.{and_left, and_both}
 use Rattle.scope_graph.proofs.Agree.{agree_promises}
 use Rattle.graph_rows.specs.Format.{count_section, declaration_section}

@@ -13,16 +13,15 @@ use Rattle.text_field.specs.Bytes.{is_capital}
 use Rattle.text_field.specs.declared.NumberRead.{NumberRead}
 use Rattle.text_field.specs.declared.NumberRead.TheVariants.{Number, NoNumber}
 use Rattle.text_field.specs.Number.{number_placed, number_here, number_meaning}
-use Rattle.text_field.specs.Outcome.{Outcome, refused, done, and_then, refuse_if}
+use Rattle.text_field.specs.Outcome.{refused, done, and_then, refuse_if}
 use Rattle.graph_rows.specs.Way.{starts_with, is_empty}
 use Rattle.path_row.specs.declared.form.HeadRead.{HeadRead}
 use Rattle.path_row.specs.declared.form.HeadRead.TheVariants.{Head, NoHead}
-use Rattle.path_row.specs.declared.form.RowRead.{RowRead}
 use Rattle.path_row.specs.declared.form.RowRead.TheVariants.{Row, NoRow}
 use Rattle.path_row.specs.declared.form.StepRead.{StepRead}
 use Rattle.path_row.specs.declared.form.StepRead.TheVariants.{Taken, NoStep}
 use Rattle.path_row.specs.Form.{most_mark, most_scope, most_steps, at_most, number_up_to, step_by, step_here, steps_of, after_steps, steps_width, step_placed, StepFound, step_meaning, step_from, front, head_meaning, start_by, mark_by, head_here, row_by, row_here, row_meaning, row_in_large}
-use Rattle.path_row.proofs.FormLaws.{most_in, most_past, UpTo, up_found, step_on, step_off, head_on, head_off, steps_on, steps_off, after_on, after_off, width_on, width_off}
+use Rattle.path_row.proofs.FormLaws.{most_in, most_past, up_found, step_on, step_off, head_on, head_off, steps_on, steps_off, after_on, after_off, width_on, width_off}
 
 -- a number read at a place is held to its limit
 module _ (at most : ℕ) where

@@ -2,13 +2,13 @@
 -- Assumes nothing.
 use Prim.Native.Nat.{ℕ, ◌≤◌, ◌<◌}
 use mathlib.Core.Path.{◌≡◌, ap, ◌∙◌}
-use mathlib.Core.Bool.{Bool, true}
+use mathlib.Core.Bool.{Bool}
 use mathlib.Core.List.{List}
 use native.Mathlib.Omega.{arith}
 use borrow.Author.Tests.{leb-true}
 use lib.Dec.{leb}
 use Rattle.scope_graph.specs.Language.{Language, Laws}
-use Rattle.scope_graph.specs.Graph.{Graph, InRange, Query}
+use Rattle.scope_graph.specs.Graph.{InRange, Query}
 use Rattle.scope_graph.specs.Rows.{language}
 use Rattle.scope_graph.specs.Listing.{Accepted}
 use Rattle.scope_graph.specs.Ends.{ends_at}
@@ -19,8 +19,6 @@ use Rattle.graph_rows.specs.Decode.{rules_of, scopes_of, graph_of, opens_of}
 use Rattle.graph_file.specs.File.{WasRead}
 use Rattle.graph_rows.specs.Accepted.{AcceptedTable}
 use Rattle.graph_table.specs.declared.rows.DeclarationRow.{DeclarationRow}
-use Rattle.graph_table.specs.declared.rows.QueryRow.{QueryRow}
-use Rattle.graph_table.specs.Values.{packed}
 use Rattle.board.specs.Queries.{query_on, Asked}
 use Rattle.board.proofs.Queries.{accepted}
 use Rattle.block.specs.Block.{scopes_cell}

@@ -1,15 +1,11 @@
 -- The values of specs/Promises. Assumes nothing.
-use Prim.Native.Nat.{ℕ, ◌≤◌, ◌<◌}
+use Prim.Native.Nat.{ℕ, ◌<◌}
 use mathlib.Core.Path.{◌≡◌, refl, sym, ap, ◌∙◌}
 use mathlib.Core.Bool.{Bool, true, false}
-use mathlib.Core.Logic.{◌↔◌, ⊎_elim}
 use mathlib.Core.List.{List, [], ◌∷◌}
 use native.Mathlib.Omega.{arith}
-use lib.Dec.{leb}
 use lib.ListN.{length}
 use borrow.Author.Tests.{leb-true, le-leb}
-use Rattle.scope_graph.specs.Language.{◌∈◌}
-use Rattle.scope_graph.specs.Graph.{Declaration}
 use Rattle.scope_graph.specs.Path.{Distinct}
 use Rattle.scope_graph.specs.Rows.{language}
 use Rattle.scope_graph.specs.Listing.{Pairwise}
@@ -20,7 +16,7 @@ use Rattle.text_field.proofs.OutcomeLaws.{not_done}
 use Rattle.graph_file.specs.File.{read_cells, WasRead}
 use Rattle.graph_rows.specs.Decode.{rules_of, graph_of}
 use Rattle.readers.specs.Readers.{declaration_at, readers_of, readers_for}
-use Rattle.readers.specs.Promises.{ReadersAre, ReadersListed, ReadersRefused, Promises}
+use Rattle.readers.specs.Promises.{ReadersListed, ReadersRefused, Promises}
 use Rattle.readers.proofs.Places.{place_stands}
 use Rattle.readers.proofs.Asked.{table_laws, table_range}
 use Rattle.readers.proofs.Answers.{lines_fit, place_is}

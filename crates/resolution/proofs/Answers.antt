@@ -2,15 +2,14 @@
 -- open pair that is followed. Assumes nothing.
 use Prim.Native.Nat.{ℕ, zero, suc, ◌≤◌, ◌<◌}
 use mathlib.Core.Path.{◌≡◌, refl, sym, ap, ◌∙◌}
-use mathlib.Core.Bool.{Bool, true, false, ◌&&◌}
-use mathlib.Core.Option.{Option, some, none}
+use mathlib.Core.Bool.{Bool, true, false}
+use mathlib.Core.Option.{Option, some}
 use mathlib.Core.List.{List, [], ◌∷◌, map}
 use native.Mathlib.Omega.{arith}
 use borrow.Author.Tests.{lt-ltb}
 use lib.ListN.{length}
-use Rattle.scope_graph.specs.Language.{◌∈◌, End, stop, by, Language}
+use Rattle.scope_graph.specs.Language.{◌∈◌, Language}
 use Rattle.scope_graph.specs.Graph.{Query, OpenPair}
-use Rattle.scope_graph.specs.Path.{PathRow}
 use Rattle.scope_graph.specs.Rows.{language}
 use Rattle.scope_graph.specs.Order.{end_of}
 use Rattle.scope_graph.specs.Computed.{entries, first_of, followed_at, awaits}
@@ -19,9 +18,7 @@ use Rattle.graph_rows.specs.Format.{open_section}
 use Rattle.graph_rows.specs.Admission.{Row, value}
 use Rattle.graph_rows.specs.Decode.{rows_in, rules_of, scopes_of, graph_of, open_pair_of, opens_of}
 use Rattle.graph_rows.specs.Accepted.{EndListed}
-use Rattle.block.specs.Block.{usable_set}
 use Rattle.graph_table.specs.Sections.{part_of, rows_of}
-use Rattle.follow.specs.Walk.{followed_in}
 use Rattle.follow.proofs.TallyLaws.{joined}
 use Rattle.resolution.specs.declared.text.Awaits.{Awaits}
 use Rattle.resolution.specs.declared.text.Awaits.TheVariants.{Settled, Pair}

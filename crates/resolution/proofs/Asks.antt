@@ -3,23 +3,23 @@
 use Prim.Native.Nat.{ℕ, ◌+◌, ◌≤◌, ◌<◌}
 use mathlib.Core.Path.{◌≡◌, refl, sym, ap, ◌∙◌, fun_ext}
 use mathlib.Core.Bool.{Bool, true, false, not, ◌&&◌}
-use mathlib.Core.Logic.{◌⊎◌, inl, inr, ⊎_elim}
+use mathlib.Core.Logic.{⊎_elim}
 use mathlib.Core.List.{List}
 use native.Mathlib.Omega.{arith}
-use borrow.Author.Tests.{ltb-true, ltb-false, lt-ltb}
+use borrow.Author.Tests.{ltb-true, ltb-false}
 use lib.Dec.{eqb, ltb}
 use lib.ListN.{length, get_or, set, length-set}
 use lib.Seq.{get_or-set_same, get_or-set_other}
 use Rattle.scope_graph.specs.Graph.{Query}
 use Rattle.scope_graph.specs.Rows.{PackedName, language}
-use Rattle.graph_rows.specs.Decode.{rules_of, scopes_of}
-use Rattle.block.specs.Sets.{has_scope, has_state, places_of}
+use Rattle.graph_rows.specs.Decode.{rules_of}
+use Rattle.block.specs.Sets.{has_scope, has_state}
 use Rattle.block.specs.Block.{accept_set}
-use Rattle.block.specs.Ask.{FROM, KIND, HIGH, LOW, GOAL, IsAsk, ask_start, ask_name, ask_goal}
+use Rattle.block.specs.Ask.{FROM, KIND, HIGH, LOW, GOAL, ask_start, ask_name, ask_goal}
 use Rattle.block.proofs.SetLaws.{scopes_all, scope_past}
-use Rattle.search.specs.Live.{Closed, any_way}
+use Rattle.search.specs.Live.{any_way}
 use Rattle.search.specs.Board.{without}
-use Rattle.search.specs.Tables.{place_flag, table_board}
+use Rattle.search.specs.Tables.{place_flag}
 use Rattle.search.specs.Conditions.{free_at, LiveAt, WorthAt}
 use Rattle.graph_table.specs.declared.rows.QueryRow.{QueryRow}
 use Rattle.graph_table.specs.Values.{packed}

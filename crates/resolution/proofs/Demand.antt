@@ -1,27 +1,23 @@
 -- Demand 3 over the text: the value of specs/Demand. Assumes nothing.
-use Prim.Native.Nat.{ℕ, zero, suc, ◌+◌, ◌≤◌, ◌<◌}
-use mathlib.Core.Path.{◌≡◌, refl, sym, ap, ◌∙◌, subst}
-use mathlib.Core.Bool.{Bool, true, false}
+use Prim.Native.Nat.{ℕ, ◌<◌}
+use mathlib.Core.Path.{◌≡◌, refl, sym, ap, subst}
 use mathlib.Core.Logic.{◌↔◌}
 use mathlib.Core.Option.{Option, some, none}
 use mathlib.Core.List.{List, [], ◌∷◌, ◌++◌}
 use native.Mathlib.Omega.{arith}
-use lib.Dec.{leb, ltb}
-use lib.ListN.{length, get_or, drop, length-append}
+use lib.ListN.{length, length-append}
 use borrow.Author.Tests.{lt-ltb, le-ltb, lt-leb}
-use Rattle.scope_graph.specs.Language.{◌∈◌, Language}
-use Rattle.scope_graph.specs.Graph.{Graph, Query, OpenPair}
+use Rattle.scope_graph.specs.Language.{Language}
+use Rattle.scope_graph.specs.Graph.{Query, OpenPair}
 use Rattle.scope_graph.specs.Path.{PathRow}
 use Rattle.scope_graph.specs.Rows.{language}
 use Rattle.scope_graph.specs.Computed.{entries, awaits}
-use Rattle.scope_graph.specs.Completion.{Settled}
 use Rattle.scope_graph.specs.Listing.{Pairwise, RowBefore}
 use Rattle.scope_graph.specs.Promises.{QueryPromises}
 use Rattle.scope_graph.proofs.Promises.{promises}
-use Rattle.scope_graph.proofs.Lists.{here, there}
 use Rattle.text_field.specs.Number.{number_text}
 use Rattle.text_field.proofs.NumberLaws.{length_some}
-use Rattle.text_field.specs.Outcome.{Outcome, refused, done, and_then, refuse_if}
+use Rattle.text_field.specs.Outcome.{done, and_then, refuse_if}
 use Rattle.graph_file.specs.File.{read_cells}
 use Rattle.text_field.specs.Answer.{answer, written, leaves}
 use Rattle.graph_rows.specs.Decode.{rules_of, graph_of, opens_of, queries_of, letters_of, scopes_of}

@@ -1,15 +1,15 @@
 -- `found` by the scopes where visible paths of a query end, as the code looks for them. Assumes
 -- nothing.
 use Prim.Native.Nat.{ℕ, ◌+◌, ◌≤◌, ◌<◌}
-use mathlib.Core.Path.{◌≡◌, refl, sym, ap, ◌∙◌}
+use mathlib.Core.Path.{◌≡◌, sym, ap, ◌∙◌}
 use mathlib.Core.Bool.{Bool, true, false}
 use mathlib.Core.Logic.{inl, inr, ⊎_elim}
-use mathlib.Core.List.{List, [], ◌∷◌}
+use mathlib.Core.List.{List, []}
 use native.Mathlib.Omega.{arith}
 use lib.Dec.{eqb}
 use borrow.Author.Tests.{eqb-true, eqb-false}
-use Rattle.scope_graph.specs.Language.{stop, Language, Laws}
-use Rattle.scope_graph.specs.Graph.{Graph, InRange, Query}
+use Rattle.scope_graph.specs.Language.{Language}
+use Rattle.scope_graph.specs.Graph.{Graph, Query}
 use Rattle.scope_graph.specs.Rows.{PackedName, language}
 use Rattle.scope_graph.specs.Order.{end_of}
 use Rattle.scope_graph.specs.Computed.{Found, found_none, found_one, found_several, declares_any}
@@ -19,7 +19,7 @@ use Rattle.scope_graph.proofs.Lists.{Two, true_false}
 use Rattle.scope_graph.proofs.Among.{Among}
 use Rattle.scope_graph.proofs.Ends.{declared_ends, undeclared_ends, found_among_lem}
 use Rattle.graph_rows.specs.Format.{declaration_section}
-use Rattle.graph_rows.specs.Decode.{rules_of, graph_of, opens_of, scopes_of}
+use Rattle.graph_rows.specs.Decode.{rules_of, graph_of, opens_of}
 use Rattle.graph_rows.specs.Accepted.{AcceptedTable}
 use Rattle.block.specs.Sets.{has_scope}
 use Rattle.block.specs.Block.{usable_set}

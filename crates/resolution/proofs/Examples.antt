@@ -7,7 +7,7 @@ use mathlib.Core.List.{List, [], ◌∷◌}
 use Rattle.text_field.specs.Outcome.{done, and_then, refuse_if}
 use Rattle.graph_file.specs.File.{read_cells}
 use Rattle.board.proofs.Example.{reads}
-use Rattle.resolution.specs.Listing.{found_for, entries_text, listing_text, listing_of, listing_for}
+use Rattle.resolution.specs.Listing.{found_for, entries_text, listing_text, listing_of}
 use Rattle.resolution.proofs.Marked.{answers}
 
 -- `label`, `less more`, `state label next`, `accept` with `0`, `scopes` with `1`, `from label to`,

@@ -1,8 +1,8 @@
 -- What a table that was read gives: it is accepted, and its board is the rules' own. Assumes
 -- nothing.
-use Prim.Native.Nat.{ℕ, zero, suc, ◌+◌, ◌%◌, ◌^◌, ◌≤◌, ◌<◌}
-use mathlib.Core.Path.{◌≡◌, refl, sym, ap, ◌∙◌}
-use mathlib.Core.Bool.{Bool, true, false, ◌&&◌}
+use Prim.Native.Nat.{ℕ, zero, suc, ◌%◌, ◌^◌, ◌≤◌, ◌<◌}
+use mathlib.Core.Path.{◌≡◌, sym, ap, ◌∙◌}
+use mathlib.Core.Bool.{true, false, ◌&&◌}
 use mathlib.Core.Logic.{⊎_elim}
 use mathlib.Core.List.{List, [], ◌∷◌}
 use native.Mathlib.Omega.{arith}
@@ -23,19 +23,14 @@ use Rattle.graph_rows.specs.Format.{label_section, count_section, declaration_se
 use Rattle.graph_rows.specs.Admission.{Row, value, blank}
 use Rattle.graph_rows.specs.Decode.{rows_in, letters_of, rules_of, scopes_of, graph_of}
 use Rattle.graph_file.specs.File.{WasRead}
-use Rattle.graph_rows.specs.Accepted.{AcceptedTable}
-use Rattle.graph_file.proofs.Promises.{read_accepted}
-use Rattle.block.specs.Layout.{LETTER, IsBlock}
+use Rattle.block.specs.Layout.{LETTER}
 use Rattle.block.specs.Sets.{places_of}
 use Rattle.block.specs.Block.{letter_cell, scopes_cell, usable_set, block_hops, declared_part}
 use Rattle.search.specs.Board.{board_of}
 use Rattle.search.specs.Tables.{table_board, table_order}
-use Rattle.graph_table.specs.Sections.{part_of, rows_of}
+use Rattle.graph_table.specs.Sections.{part_of}
 use Rattle.board.specs.Marks.{DeclaringIs, marks_in}
 use Rattle.board.specs.Made.{Made}
-use Rattle.board.specs.Promises.{Sound}
-use Rattle.board.proofs.SectionLaws.{rows_in_part}
-use Rattle.board.proofs.Accepted.{read_sound}
 use Rattle.board.proofs.Board.{letters_are, scopes_are, board_is, order_is, open_is, open_last}
 use Rattle.board.proofs.Declared.{declared_is}
 use Rattle.follow.specs.Walk.{letter_bytes}

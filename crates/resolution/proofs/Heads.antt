@@ -1,7 +1,7 @@
 -- A listing is its head and its rows; how it is refused and written. Assumes nothing.
 use Prim.Native.Nat.{ℕ, zero, suc, ◌+◌, ◌-◌, ◌^◌, ◌≤◌, ◌<◌}
 use mathlib.Core.Path.{◌≡◌, refl, sym, ap, ◌∙◌}
-use mathlib.Core.Bool.{Bool, true, false, not}
+use mathlib.Core.Bool.{true, false, not}
 use mathlib.Core.Option.{Option, some, none}
 use mathlib.Core.List.{List, [], ◌∷◌, ◌++◌, append_assoc}
 use native.Mathlib.Omega.{arith}
@@ -9,7 +9,7 @@ use borrow.Author.Tests.{le-leb, lt-leb}
 use borrow.Author.Tests as tests
 use lib.ListN.{length, take, drop, length-append}
 use lib.Seq.{take_at}
-use Rattle.scope_graph.specs.Language.{◌∈◌, Language}
+use Rattle.scope_graph.specs.Language.{Language}
 use Rattle.scope_graph.specs.Graph.{Query, OpenPair}
 use Rattle.scope_graph.specs.Rows.{PackedName, language}
 use Rattle.scope_graph.specs.Order.{end_of}
@@ -22,7 +22,7 @@ use Rattle.text_field.specs.Outcome.{Outcome, refused, done, and_then, refuse_if
 use Rattle.text_field.specs.Answer.{answer, leaves}
 use Rattle.text_field.proofs.NumberLaws.{length_below}
 use Rattle.text_field.proofs.CellLaws.{name_length}
-use Rattle.text_field.proofs.BufferLaws.{puts_then, puts_fits, puts_append, puts_length}
+use Rattle.text_field.proofs.BufferLaws.{puts_fits, puts_append, puts_length}
 use Rattle.graph_rows.specs.Decode.{rules_of, graph_of, letters_of, opens_of, queries_of}
 use Rattle.graph_file.specs.File.{WasRead}
 use Rattle.block.specs.Ask.{ask_start, ask_name}
@@ -37,7 +37,7 @@ use Rattle.follow.specs.Text.{head_line, seek_columns, rows_line, found_text, le
 use Rattle.follow.specs.Tally as tally
 use Rattle.follow.specs.Tally.{Taken, State, fits, take_rows}
 use Rattle.follow.specs.Walk.{letter_bytes}
-use Rattle.follow.proofs.TakeLaws.{fits_yes, fits_no, fits_true, fits_false}
+use Rattle.follow.proofs.TakeLaws.{fits_true, fits_false}
 use Rattle.follow.proofs.TallyLaws.{joined, rows_text, tallied}
 use Rattle.resolution.specs.declared.text.Found as told
 use Rattle.resolution.specs.declared.text.Awaits.{Awaits}
@@ -176,14 +176,14 @@ module _ (cells block ask : List ℕ) (ready : Ready cells block ask) where
     -- they alone are too long
     pub list_over : st.1.over ≡ true → (refused 9 ≡ answer (done T) (length out)) × (out ≡ leaves (done T) out)
     list_over e =
-        let g : b.limit < 0 + length (joined rows) = fits_false b.limit 0 (length (joined rows)) (tests.not_true (fits b.limit 0 (length (joined rows))) (sym over_is ∙ e)) in
+        let g : b.limit < 0 + length (joined rows) = fits_false b.limit 0 (length (joined rows)) (tests.not-true (fits b.limit 0 (length (joined rows))) (sym over_is ∙ e)) in
         let z = size_is in
         list_short out (omega arith)
 
     module _ (still : st.1.over ≡ false) where
       room : length (joined rows) ≤ length out
       room =
-          let g : 0 + length (joined rows) ≤ b.limit = fits_true b.limit 0 (length (joined rows)) (tests.not_false (fits b.limit 0 (length (joined rows))) (sym over_is ∙ still)) in
+          let g : 0 + length (joined rows) ≤ b.limit = fits_true b.limit 0 (length (joined rows)) (tests.not-false (fits b.limit 0 (length (joined rows))) (sym over_is ∙ still)) in
           omega arith
 
       measured : st.1.bytes ≡ length (joined rows)

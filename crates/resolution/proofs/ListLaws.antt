@@ -1,8 +1,7 @@
 -- Laws of lists. Assumes nothing.
-use Prim.Native.Nat.{ℕ, suc}
+use Prim.Native.Nat.{ℕ}
 use mathlib.Core.Path.{◌≡◌, refl, sym, ap, ◌∙◌}
 use mathlib.Core.List.{List, [], ◌∷◌, ◌++◌, map, flat_map, append_assoc}
-use lib.ListN.{length}
 use Rattle.follow.specs.Tally.{Taken}
 use Rattle.follow.proofs.TallyLaws.{joined}
 

@@ -2,7 +2,6 @@
 -- passes to the rules by what is proved of them. Assumes nothing.
 use Prim.Native.Nat.{ℕ, ◌<◌}
 use mathlib.Core.Path.{◌≡◌, refl, sym, ap, ◌∙◌, subst}
-use mathlib.Core.Bool.{true, false}
 use mathlib.Core.Option.{Option, some, none}
 use mathlib.Core.List.{List, [], ◌∷◌, map, flat_map}
 use native.Mathlib.Omega.{arith}
@@ -13,7 +12,7 @@ use Rattle.scope_graph.specs.Path.{PathRow}
 use Rattle.scope_graph.specs.Rows.{same_end, same_name, any_of, preferred_by, next_by, language}
 use Rattle.scope_graph.specs.Turns.{same_turn, same_turned, later, later_step, above_one, above}
 use Rattle.scope_graph.specs.Order.{end_of}
-use Rattle.scope_graph.specs.Computed.{keep, first_of, any_below, Found, found_one, found_several, same_declaration, found_of, is_visible, is_shadowed, is_unreached, hops_at, marks_at, declares_any, behind, hop_on, nodes_from, leads_on, usable, same_hop, same_hops, preferred_to, nodes, reached_nodes, cut, rows_at, entries, found, is_reached, standing, judged, open_end, followed_at, awaits}
+use Rattle.scope_graph.specs.Computed.{keep, first_of, any_below, Found, found_one, found_several, same_declaration, found_of, hops_at, marks_at, declares_any, behind, hop_on, nodes_from, leads_on, usable, same_hop, same_hops, preferred_to, nodes, reached_nodes, cut, rows_at, entries, found, is_reached, standing, judged, open_end, followed_at, awaits}
 use Rattle.scope_graph.specs.Listing.{Pairwise, RowBefore, FoundIs}
 use Rattle.scope_graph.specs.Completion.{Settled, Awaits}
 use Rattle.scope_graph.specs.Promises.{QueryPromises}
@@ -25,7 +24,6 @@ use Rattle.graph_rows.specs.Format.{has_kinds}
 use Rattle.graph_file.specs.File.{read_cells}
 use Rattle.graph_rows.specs.Tested.{form_in}
 use Rattle.graph_rows.specs.Decode.{kept_if, rows_among, rows_in, letters_of, order_pair_of, transition_of, rules_of, name_at, edge_of, declaration_of, open_pair_of, query_of, scopes_of, graph_of, opens_of, queries_of}
-use Rattle.graph_rows.specs.Accepted.{AcceptedTable}
 use Rattle.graph_file.proofs.Promises.{read_accepted}
 use Rattle.path_row.specs.Form.{front_text, step_text, steps_text}
 use Rattle.path_row.specs.Form.{row_text as pathRowText}

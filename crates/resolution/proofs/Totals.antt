@@ -13,7 +13,7 @@ use Rattle.graph_file.specs.File.{read_cells}
 use Rattle.graph_rows.specs.Decode.{rules_of, graph_of, opens_of, queries_of}
 use Rattle.graph_file.proofs.Promises.{read_accepted}
 use Rattle.resolution.specs.Listing.{found_for, summary_of, summary_for}
-use Rattle.resolution.specs.Totals.{FoundsAre, SummaryIs, SummaryRight}
+use Rattle.resolution.specs.Totals.{FoundsAre, SummaryRight}
 
 module _ (cells : List ℕ) where
   abbrev L : Language

@@ -1,20 +1,20 @@
 -- What the walk takes for a query of a table that was read: the rows of its entries. And the places
 -- that it finds for an open pair show it followed. Assumes nothing.
-use Prim.Native.Nat.{ℕ, zero, suc, ◌^◌, ◌≤◌, ◌<◌}
+use Prim.Native.Nat.{ℕ, zero, suc, ◌^◌, ◌<◌}
 use mathlib.Core.Path.{◌≡◌, refl, sym, ap, ◌∙◌}
-use mathlib.Core.Bool.{Bool, true, false, not, ◌&&◌}
-use mathlib.Core.List.{List, [], ◌∷◌, ◌++◌, map, flat_map}
+use mathlib.Core.Bool.{Bool, true, false, ◌&&◌}
+use mathlib.Core.List.{List, [], ◌∷◌, map, flat_map}
 use native.Mathlib.Omega.{arith}
 use borrow.Author.Tests.{le-leb, lt-ltb}
 use lib.Dec.{eqb, leb, ltb}
-use lib.ListN.{length, get_or}
-use Rattle.scope_graph.specs.Language.{◌∈◌, End, stop, by, Language, Laws}
-use Rattle.scope_graph.specs.Graph.{Declaration, Graph, InRange, Query, OpenPair}
+use lib.ListN.{get_or}
+use Rattle.scope_graph.specs.Language.{◌∈◌, End, stop, Language, Laws}
+use Rattle.scope_graph.specs.Graph.{Declaration, Graph, InRange, Query}
 use Rattle.scope_graph.specs.Path.{HopOf, PathRow, last_from, row_declaration}
 use Rattle.scope_graph.specs.Rows.{PackedName, Rules, any_of, same_name, language}
 use Rattle.scope_graph.specs.Order.{end_of}
 use Rattle.scope_graph.specs.Turns.{Turned}
-use Rattle.scope_graph.specs.Computed.{NodeOf, keep, marks_at, usable, open_end, nodes, cut, rows_at, entries, followed_at}
+use Rattle.scope_graph.specs.Computed.{NodeOf, keep, marks_at, open_end, nodes, rows_at, followed_at}
 use Rattle.scope_graph.proofs.Lists.{keep_elim, and_left}
 use Rattle.scope_graph.proofs.Nodes.{nodes_sound}
 use Rattle.graph_rows.specs.Admission.{Row}
@@ -22,7 +22,7 @@ use Rattle.graph_rows.specs.Format.{declaration_section}
 use Rattle.graph_rows.specs.Decode.{rows_in, letters_of, rules_of, name_at, declaration_of, graph_of, scopes_of}
 use Rattle.graph_rows.specs.Accepted.{AcceptedTable}
 use Rattle.block.specs.Sets.{places_of}
-use Rattle.block.specs.Block.{accept_set, usable_set, scopes_cell, declared_part}
+use Rattle.block.specs.Block.{accept_set, usable_set, scopes_cell}
 use Rattle.block.specs.Ask.{ask_start, ask_name, ask_goal}
 use Rattle.block.proofs.SetLaws.{scope_below, places_scope}
 use Rattle.search.specs.Board.{Board, board_of, without, hits_from}
@@ -31,7 +31,7 @@ use Rattle.search.specs.Conditions.{free_at}
 use Rattle.search.proofs.Rules.{hits_kept, entries_are_hits, followed_is_hit}
 use Rattle.search.proofs.RulesLists.{flat_map_same}
 use Rattle.search.proofs.LaterLaws.{hits_open}
-use Rattle.graph_table.specs.Sections.{part_of, rows_of}
+use Rattle.graph_table.specs.Sections.{part_of}
 use Rattle.graph_table.specs.Values.{row_declared, declares}
 use Rattle.board.specs.Marks.{declared_here, marks_of, marks_in}
 use Rattle.follow.specs.declared.Task.TheVariants.{Entries}

@@ -1,6 +1,6 @@
 -- The text of a gym file whose path rules are those of an expression (02, K6). Assumes nothing:
 -- these are definitions.
-use Rattle.std.specs.Prelude.{ℕ, zero, suc, ◌/◌, ◌%◌, Bool, true, false, not, ◌&&◌, List, [], ◌∷◌, ◌++◌, eqb, ltb, length, get_or}
+use Rattle.std.specs.Prelude.{ℕ, zero, suc, ◌/◌, ◌%◌, Bool, not, ◌&&◌, List, [], ◌∷◌, ◌++◌, eqb, ltb, length, get_or}
 use Rattle.text_field.specs.Outcome.{Outcome, and_then, refuse_if}
 use Rattle.graph_rows.specs.Format.{label_section, transition_section, accept_section, state_count}
 use Rattle.graph_rows.specs.Admission.{Row}

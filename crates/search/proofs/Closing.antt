@@ -13,7 +13,7 @@ use lib.Bits.{bit_and, bit_or, bit_xor, and_mask}
 use lib.Dec.{ltb}
 use lib.ListN.{get_or, replicate}
 use lib.Pow.{shl_exact}
-use Rattle.scope_graph.specs.Language.{◌∈◌, by}
+use Rattle.scope_graph.specs.Language.{◌∈◌}
 use Rattle.scope_graph.specs.Path.{HopOf}
 use Rattle.scope_graph.specs.Turns.{Turned}
 use Rattle.scope_graph.proofs.Lists.{Two, and_right}

@@ -17,7 +17,6 @@ use Rattle.scope_graph.specs.Language.{End, stop, by}
 use Rattle.scope_graph.specs.Order.{end_of}
 use Rattle.scope_graph.specs.Path.{HopOf}
 use Rattle.scope_graph.specs.Turns.{Turned, later, label_end, later_step}
-use Rattle.scope_graph.specs.Rows.{any_of}
 use Rattle.scope_graph.proofs.Lists.{Two, and_left, and_right, and_both, or_cases, or_left, or_right, not_true, true_false, any_of_intro, any_of_elim}
 use Rattle.block.specs.Layout.{BETTER}
 use Rattle.block.specs.Sets.{has_bit, has_scope, has_label, places_of}

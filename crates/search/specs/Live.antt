@@ -2,8 +2,8 @@
 -- asked for and each place of a free scope from which a step leads to a place it holds; then
 -- nothing lies behind a place that it lacks, so the search need not enter there. Any closed table
 -- will do. Assumes nothing: these are definitions.
-use Rattle.std.specs.Prelude.{ℕ, ◌≡◌, Bool, true, false, not, ◌&&◌}
-use Rattle.std.proofs.Math.Option.{Option, some}
+use Rattle.std.specs.Prelude.{ℕ, ◌≡◌, Bool, true, not, ◌&&◌}
+use Rattle.std.proofs.Math.Option.{some}
 use Rattle.scope_graph.specs.Language.{◌∈◌, End, stop, by}
 use Rattle.scope_graph.specs.Path.{HopOf}
 use Rattle.search.specs.Board.{Board}

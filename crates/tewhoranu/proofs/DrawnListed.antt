@@ -81,14 +81,14 @@ drawn_listed text =
     (λ p. as_others _ (carried _))
 
 -- its scopes, and its edges one by one
-edges_listed : (letters : List ℕ) (scopes : ℕ) (rows : List Row) (edges : List DrawnEdge) → Own (rows_with letters scopes rows edges)
+edges_listed : (letters : List ℕ) (scopes : ℕ) (edges : List DrawnEdge) (rows : List Row) → Own (rows_with letters scopes rows edges)
 unfolding rows_with
-edges_listed letters scopes rows [] = as_others _ (carried rows)
-edges_listed letters scopes rows (e ∷ edges) =
+edges_listed letters scopes [] rows = as_others _ (carried rows)
+edges_listed letters scopes (e ∷ edges) rows =
     if_other own_drawn _ 5 _ (omega arith) (omega arith)
     (if_other own_drawn _ 3 _ (omega arith) (omega arith)
-    (if_other own_drawn _ 4 _ (omega arith) (omega arith) (edges_listed letters scopes _ edges)))
+    (if_other own_drawn _ 4 _ (omega arith) (omega arith) (edges_listed letters scopes edges _)))
 
 pub rows_drawn_listed : (cells : List ℕ) (d : Drawing) → Own (drawn_rows cells d)
 unfolding drawn_rows
-rows_drawn_listed cells d = if_own_lem own_drawn _ 19 _ (there here) (edges_listed _ _ [] d.edges)
+rows_drawn_listed cells d = if_own_lem own_drawn _ 19 _ (there here) (edges_listed _ _ d.edges [])

@@ -5,7 +5,7 @@ use mathlib.Core.Path.{◌≡◌, refl, sym, ap, subst, ◌∙◌}
 use mathlib.Core.Logic.{⊎_elim}
 use mathlib.Core.List.Memᴰ
 use mathlib.Core.List.{List, [], ◌∷◌, map}
-use mathlib.Core.Bool.{Bool, true, false, not}
+use mathlib.Core.Bool.{Bool, true, false}
 use native.Mathlib.Omega.{arith}
 use borrow.Author.Tests.{lt-ltb, le-ltb}
 use lib.Dec.{eqb, ltb, leb}
@@ -24,17 +24,15 @@ use Rattle.text_field.specs.Number.{number_here, number_placed, number_meaning}
 use Rattle.text_field.specs.Name.{name_here, name_meaning}
 use Rattle.graph_rows.specs.Format.{Item, byte, field, state, scope, mark, count, letter, label, end, name, kind, plain, turn, section_at, shape_at, old_form}
 use Rattle.text_field.specs.Outcome.{Outcome, refused, done, and_then, refuse_if}
-use Rattle.graph_rows.specs.Admission.{Row, Sofar, blank, row_of, unless, in_range, follows, admission, place}
-use Rattle.graph_file.specs.Line.{Reading, number_taken, name_taken, byte_taken, end_taken, read_field, read_item, place_of, read_items, line_text}
-use Rattle.graph_rows.specs.Way.{starts_with, Piece, Way, Stage, if_admitted, after_row, one_row, through_rows, after_names, enough, through_section, is_empty, through_sections, ordered, at_start, whole}
-use Rattle.graph_rows.specs.Values.{formed}
-use Rattle.graph_rows.specs.Order.{order_fault}
+use Rattle.graph_rows.specs.Admission.{Row, Sofar, blank, unless, admission, place}
+use Rattle.graph_file.specs.Line.{Reading, number_taken, name_taken, byte_taken, end_taken, read_field, read_item, place_of, read_items}
+use Rattle.graph_rows.specs.Way.{starts_with, Way, Stage, if_admitted, after_row, one_row, through_rows, after_names, enough, through_section, through_sections, ordered, at_start, whole}
 use Rattle.graph_file.specs.File.{read_names, read_row, reading, form_of, read_stage, made_of, read_cells, write_names, write_row, writing, write_text}
 use Rattle.graph_rows.specs.Tested.{test_row, has_form, form_in}
 use Rattle.text_field.specs.Answer.{answer}
 use Rattle.graph_rows.specs.Decode.{rules_of, graph_of}
 use Rattle.graph_rows.specs.Formed.{in_form}
-use Rattle.path_row.specs.Form.{PathRow, most_mark, most_scope, number_up_to, Front, start_by, space_by, mark_by, head_here, row_by, row_here}
+use Rattle.path_row.specs.Form.{most_mark, most_scope, number_up_to, Front, start_by, space_by, mark_by, head_here, row_by, row_here}
 use Rattle.comparison.specs.Compare.{Told, compare_rows, compare_answer}
 use Rattle.comparison.proofs.FewSteps.{compare_few}
 use Rattle.resolution.specs.Listing.{listing_of, listing_for, summary_for}

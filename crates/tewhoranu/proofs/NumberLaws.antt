@@ -1,16 +1,16 @@
 -- Laws of the numbers. Assumes nothing.
-use Prim.Native.Nat.{ℕ, ◌+◌, ◌-◌, ◌≤◌, ◌<◌, ◌*◌, ◌^◌}
-use mathlib.Core.Path.{◌≡◌, refl, sym, ap, subst, ◌∙◌}
+use Prim.Native.Nat.{ℕ, ◌+◌, ◌-◌, ◌≤◌, ◌<◌}
+use mathlib.Core.Path.{◌≡◌, refl, sym, ap, ◌∙◌}
 use mathlib.Core.List.{List}
 use mathlib.Core.Bool.{Bool, true, false}
 use native.Mathlib.Omega.{arith}
 use borrow.Author.Tests.{ltb-false, eq-eqb, ne_eqb}
-use lib.Dec.{eqb, ltb}
+use lib.Dec.{ltb}
 use lib.ListN.{length}
 use Rattle.graph_file.specs.declared.sought.NamePlace.{NamePlace}
 use Rattle.text_field.specs.Outcome.{Outcome, refused, done, and_then, refuse_if}
 use Rattle.text_field.specs.Answer.{answer}
-use Rattle.graph_file.specs.NameSought.{from_sought, name_front, name_sought, place_from, place_sought}
+use Rattle.graph_file.specs.NameSought.{name_sought, place_from, place_sought}
 use Rattle.tewhoranu.specs.Numbers.{amount_number, Sized, place_left}
 
 -- what was written fits its room, and a room its 63 bits

@@ -1,7 +1,7 @@
 -- That the number of an answer tells it: every refusal is one of document 01's numbers, or one
 -- that document 02 gives the call; these are below 64, so no other answer has the same one. The
 -- value is in proofs/Listed.antt. Assumes nothing: these are statements.
-use Rattle.std.specs.Prelude.{ℕ, ◌≤◌, ◌-◌, ◌/◌, ◌%◌, ◌≡◌, List, [], ◌∷◌, Bool, true, false, ltb}
+use Rattle.std.specs.Prelude.{ℕ, ◌≤◌, ◌-◌, ◌/◌, ◌%◌, ◌≡◌, List, [], ◌∷◌, true, false, ltb}
 use Rattle.scope_graph.specs.Language.{◌∈◌}
 use Rattle.text_field.specs.Outcome.{Outcome, refused, done}
 use Rattle.graph_file.specs.File.{read_cells, write_text}

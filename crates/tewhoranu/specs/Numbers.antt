@@ -1,6 +1,6 @@
 -- The number that a C or Rust host gets for each answer: below 64 it is a refusal, by its own
 -- number; any other answer has 64 or more. Assumes nothing: these are definitions.
-use Rattle.std.specs.Prelude.{ℕ, ◌+◌, ◌*◌, ◌%◌, ◌<◌, List, Bool, true, false, eqb, length}
+use Rattle.std.specs.Prelude.{ℕ, ◌+◌, ◌*◌, ◌%◌, ◌<◌, List, true, false, eqb, length}
 use Rattle.scope_graph.specs.Agree.{Judgement, as_visible, as_shadowed, as_unreached}
 use Rattle.text_field.specs.Outcome.{Outcome, refused, done}
 use Rattle.graph_file.specs.NameSought.{name_sought, place_sought}

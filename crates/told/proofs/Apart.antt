@@ -1,12 +1,11 @@
 -- What was taken apart is the printing of what was taken. Assumes nothing.
-use Prim.Native.Nat.{ℕ, zero, suc, ◌+◌, ◌≤◌}
+use Prim.Native.Nat.{ℕ, zero, suc, ◌≤◌}
 use mathlib.Core.Path.{◌≡◌, refl, sym, ap, ◌∙◌}
-use mathlib.Core.Bool.{Bool, true, false, not, ◌&&◌}
+use mathlib.Core.Bool.{Bool, true, false}
 use mathlib.Core.Option.{Option, some, none}
 use mathlib.Core.List.{List, [], ◌∷◌, ◌++◌, flat_map, append_assoc}
-use native.Mathlib.Omega.{arith}
 use lib.Dec.{leb}
-use lib.ListN.{length, take, drop}
+use lib.ListN.{length, drop}
 use borrow.Author.Tests.{le-leb}
 use Rattle.scope_graph.specs.Rows.{PackedName}
 use Rattle.scope_graph.specs.Computed.{Found, found_none, found_one, found_several}
@@ -14,18 +13,18 @@ use Rattle.scope_graph.proofs.Lists.{and_both}
 use Rattle.text_field.specs.declared.NumberRead.{NumberRead}
 use Rattle.text_field.specs.declared.NumberRead.TheVariants.{Number, NoNumber}
 use Rattle.text_field.specs.Number.{number_text, number_here}
-use Rattle.text_field.specs.Outcome.{Outcome, refused, done, and_then, refuse_if}
+use Rattle.text_field.specs.Outcome.{Outcome, refused, done}
 use Rattle.text_field.proofs.NumberLaws.{number_found}
-use Rattle.text_field.proofs.OutcomeLaws.{done_same, not_done, Went, went}
+use Rattle.text_field.proofs.OutcomeLaws.{done_same, not_done, went}
 use Rattle.graph_table.specs.declared.sections.Form.{Form}
 use Rattle.path_row.specs.Form.{PathRow, most_scope, number_up_to, is_row}
 use Rattle.path_row.proofs.FormLaws.{up_found}
-use Rattle.follow.specs.Text.{head_line, seek_columns, rows_line, found_text}
+use Rattle.follow.specs.Text.{head_line, rows_line, found_text}
 use Rattle.told.specs.Delivered.{NamedPair, Delivered, named_text, row_line, delivered_text, is_end, is_named, are_rows, is_delivered}
 use Rattle.told.specs.Apart.{Read, after, or_else, word_here, found_here, end_by, pair_by, dash_here, awaits_here, first_row, rows_from, rows_in, query_columns, listing_here}
 use Rattle.told.proofs.FixedBytes.{after_is}
 use Rattle.told.proofs.PairLaws.{end_on, end_off}
-use Rattle.told.proofs.RowLaws.{FirstIs, first_is, from_none, from_some}
+use Rattle.told.proofs.RowLaws.{first_is, from_none, from_some}
 
 -- a pair that was gained
 pair_same : {A B : Type 0} (a c : A) (b d : B) → ◌≡◌ {A = A × B} (a, b) (c, d) → (a ≡ c) × (b ≡ d)

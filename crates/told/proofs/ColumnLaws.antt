@@ -3,7 +3,7 @@ use Prim.Native.Nat.{ℕ, ◌^◌, ◌≤◌, ◌<◌}
 use mathlib.Core.Path.{◌≡◌, refl, sym, ap, ◌∙◌}
 use mathlib.Core.List.{List, [], ◌∷◌, ◌++◌}
 use native.Mathlib.Omega.{arith}
-use lib.ListN.{length, take, length-append, replicate, length-replicate}
+use lib.ListN.{length, take, length-append}
 use Rattle.scope_graph.specs.Rows.{PackedName}
 use Rattle.text_field.specs.Number.{number_text}
 use Rattle.text_field.specs.Buffer.{Buf, put, puts}

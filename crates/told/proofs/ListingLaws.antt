@@ -1,7 +1,7 @@
 -- One listing taken apart, step by step, and the listings of all queries. Assumes nothing.
-use Prim.Native.Nat.{ℕ, suc, ◌+◌, ◌≤◌, ◌<◌}
+use Prim.Native.Nat.{ℕ, ◌+◌, ◌≤◌, ◌<◌}
 use mathlib.Core.Path.{◌≡◌, refl, sym, ap, ◌∙◌, subst}
-use mathlib.Core.Bool.{Bool, true, false, not}
+use mathlib.Core.Bool.{not}
 use mathlib.Core.Option.{Option}
 use mathlib.Core.List.{List, [], ◌∷◌}
 use native.Mathlib.Numerals.{add-one}
@@ -31,7 +31,7 @@ use Rattle.told.specs.declared.pairs.AwaitsRead.TheVariants.{Read as AwaitsIs, N
 use Rattle.resolution.specs.declared.text.Found as code
 use Rattle.resolution.specs.Asked.{found_meaning}
 use Rattle.told.specs.Delivered.{NamedPair, Delivered}
-use Rattle.told.specs.Apart.{Read, after, found_here, awaits_here, rows_in, query_columns, listing_here, told_from, told_of}
+use Rattle.told.specs.Apart.{after, found_here, awaits_here, rows_in, query_columns, listing_here, told_from}
 use Rattle.told.specs.Steps.{word_meaning, named_meaning, awaits_meaning, listing_at, listing_meaning, RowsSpan, ListingSpan, is_done}
 
 -- what the answers of its readers tell

@@ -1,8 +1,8 @@
 -- What stands under `awaits`. Assumes nothing.
 use Prim.Native.Nat.{ℕ, ◌+◌, ◌≤◌, ◌<◌}
 use mathlib.Core.Path.{◌≡◌, refl, sym, ap, ◌∙◌}
-use mathlib.Core.Bool.{Bool, true, false}
-use mathlib.Core.Option.{Option, some, none}
+use mathlib.Core.Bool.{true, false}
+use mathlib.Core.Option.{some, none}
 use mathlib.Core.List.{List, [], ◌∷◌}
 use native.Mathlib.Omega.{arith}
 use lib.ListN.{length, get_or, drop}
@@ -10,12 +10,12 @@ use lib.Seq.{drop-drop}
 use Rattle.text_field.specs.declared.NumberRead.{NumberRead}
 use Rattle.text_field.specs.declared.NumberRead.TheVariants.{Number, NoNumber}
 use Rattle.text_field.specs.Number.{number_here, number_placed}
-use Rattle.text_field.specs.Outcome.{Outcome, refused, done, and_then}
+use Rattle.text_field.specs.Outcome.{refused, done, and_then}
 use Rattle.text_field.proofs.Steps.{drop_next, drop_end}
-use Rattle.path_row.specs.Form.{most_scope, at_most, number_up_to}
+use Rattle.path_row.specs.Form.{most_scope, number_up_to}
 use Rattle.path_row.proofs.Steps.{up_none, up_past, up_in}
-use Rattle.told.specs.Delivered.{NamedPair, is_end}
-use Rattle.told.specs.Apart.{Read, after, end_by, pair_by, dash_here}
+use Rattle.told.specs.Delivered.{is_end}
+use Rattle.told.specs.Apart.{after, end_by, pair_by, dash_here}
 
 -- the end at a place
 module _ (v x : ℕ) (rest : List ℕ) where

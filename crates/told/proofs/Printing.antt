@@ -1,35 +1,34 @@
 -- A printing is taken apart as what it is the printing of. Assumes nothing.
-use Prim.Native.Nat.{ℕ, zero, suc, ◌+◌, ◌/◌, ◌%◌, ◌≤◌, ◌<◌}
+use Prim.Native.Nat.{ℕ, zero, suc, ◌+◌, ◌/◌, ◌%◌, ◌≤◌}
 use mathlib.Core.Path.{◌≡◌, refl, sym, ap, ◌∙◌}
-use mathlib.Core.Bool.{Bool, true, false, not, ◌&&◌, ◌||◌}
-use mathlib.Core.Logic.{⊎_elim}
+use mathlib.Core.Bool.{Bool, true, false, not, ◌&&◌}
 use mathlib.Core.Option.{Option, some, none}
 use mathlib.Core.List.{List, [], ◌∷◌, ◌++◌, flat_map, append_assoc}
 use native.Mathlib.Omega.{arith}
 use lib.Dec.{eqb, leb, ltb}
 use lib.ListN.{length, get_or, take, drop}
 use lib.Seq.{take_at, drop_at, drop-append-add}
-use borrow.Author.Tests.{ne_eqb, eqb-true, leb-true}
+use borrow.Author.Tests.{ne_eqb, leb-true}
 use Rattle.scope_graph.specs.Rows.{PackedName}
 use Rattle.scope_graph.specs.Computed.{Found, found_none, found_one, found_several}
 use Rattle.text_field.specs.Bytes.{within, is_digit, is_capital}
 use Rattle.text_field.specs.declared.NumberRead.{NumberRead}
-use Rattle.text_field.specs.declared.NumberRead.TheVariants.{Number, NoNumber}
-use Rattle.text_field.specs.declared.lines.LineRead.TheVariants.{Line, NoLine}
+use Rattle.text_field.specs.declared.NumberRead.TheVariants.{Number}
+use Rattle.text_field.specs.declared.lines.LineRead.TheVariants.{Line}
 use Rattle.text_field.specs.Lines.{line_here, no_lf}
 use Rattle.text_field.specs.Number.{digits_of, number_text, number_here}
-use Rattle.text_field.specs.Outcome.{Outcome, refused, done, and_then}
-use Rattle.text_field.proofs.ByteLaws.{both, clash, within_bounds, digit_bounds, digit_in}
+use Rattle.text_field.specs.Outcome.{refused, done, and_then}
+use Rattle.text_field.proofs.ByteLaws.{both, clash, within_bounds, digit_bounds}
 use Rattle.text_field.proofs.NumberLaws.{number_back, first_off}
 use Rattle.text_field.proofs.LineLaws.{line_whole, bare_cons}
 use Rattle.graph_table.specs.declared.sections.Form.{Form}
 use Rattle.graph_table.specs.declared.sections.Form.TheVariants.{Old, Kinds}
 use Rattle.path_row.specs.declared.form.Step.{Step}
-use Rattle.path_row.specs.Form.{PathRow, most_mark, most_scope, most_steps, at_most, number_up_to, row_here, front_text, step_text, steps_text, row_text, are_steps, is_row}
+use Rattle.path_row.specs.Form.{PathRow, most_mark, most_scope, most_steps, at_most, number_up_to, front_text, step_text, steps_text, row_text, are_steps, is_row}
 use Rattle.path_row.proofs.FormLaws.{most_in, written_then_read}
 use Rattle.follow.specs.Text.{head_line, rows_line, found_text}
 use Rattle.told.specs.Delivered.{NamedPair, Delivered, named_text, row_line, delivered_text, is_end, is_named, are_rows, is_delivered}
-use Rattle.told.specs.Apart.{Read, after, or_else, word_here, found_here, end_by, pair_by, dash_here, awaits_here, row_by, row_of_line, first_row, rows_in, query_columns, listing_here}
+use Rattle.told.specs.Apart.{after, or_else, word_here, found_here, end_by, pair_by, dash_here, awaits_here, row_by, row_of_line, first_row, rows_in, query_columns, listing_here}
 use Rattle.told.proofs.FixedBytes.{after_append, after_other}
 use Rattle.told.proofs.WordLaws.{else_later}
 use Rattle.told.proofs.PairLaws.{end_on, dash_none}

@@ -25,11 +25,11 @@ use Rattle.graph_table.specs.declared.sections.Form.{Form}
 use Rattle.graph_table.specs.Sections.{table_form}
 use Rattle.path_row.specs.Form.{most_scope, number_up_to}
 use Rattle.path_row.proofs.FormLaws.{empty_is}
-use Rattle.follow.specs.Text.{head_line, rows_line, found_text, end_text, shown_row}
+use Rattle.follow.specs.Text.{head_line, rows_line, found_text, shown_row}
 use Rattle.follow.specs.Text.{row_text as listedText}
 use Rattle.resolution.specs.Listing.{awaits_text, entry_text, shown_text}
-use Rattle.told.specs.Delivered.{NamedPair, Delivered, named_text, row_line, delivered_text, is_end, is_delivered, delivered_texts, Printed}
-use Rattle.told.specs.Apart.{Read, after, or_else, word_here, found_here, end_by, pair_by, dash_here, awaits_here, first_row, rows_in, query_columns, listing_here, told_from, told_of}
+use Rattle.told.specs.Delivered.{Delivered, named_text, row_line, delivered_text, is_end, is_delivered, delivered_texts, Printed}
+use Rattle.told.specs.Apart.{after, or_else, word_here, found_here, end_by, pair_by, dash_here, awaits_here, first_row, rows_in, query_columns, listing_here, told_from, told_of}
 use Rattle.told.specs.Promises.{TakenApart, Alone, NoPrinting, shown_named, shown, OwnForm, Promises}
 use Rattle.told.proofs.FixedBytes.{after_ten}
 use Rattle.told.proofs.PairLaws.{end_on, end_off}

@@ -1,15 +1,11 @@
 -- The word under `found`. Assumes nothing.
 use Prim.Native.Nat.{ℕ}
-use mathlib.Core.Path.{◌≡◌, refl, sym, ap, ◌∙◌}
-use mathlib.Core.List.{List, [], ◌∷◌, ◌++◌}
-use native.Mathlib.Omega.{arith}
-use lib.ListN.{drop}
-use Rattle.scope_graph.specs.Computed.{Found, found_none, found_one, found_several}
+use mathlib.Core.Path.{◌≡◌}
+use mathlib.Core.List.{List}
+use Rattle.scope_graph.specs.Computed.{Found}
 use Rattle.text_field.specs.Outcome.{Outcome, refused, done, and_then}
-use Rattle.text_field.proofs.OutcomeLaws.{went}
 use Rattle.follow.specs.Text.{found_text}
-use Rattle.told.specs.Apart.{Read, after, or_else, word_here, found_here}
-use Rattle.told.proofs.FixedBytes.{after_append, after_is, after_ten}
+use Rattle.told.specs.Apart.{after, or_else, word_here}
 
 -- the first of two readings
 module _ {A : Type 0} (o p : Outcome A) where

@@ -1,7 +1,7 @@
 -- The text of listings taken apart (02, K3): for each query in its turn the lines above the rows, and
 -- then the rows as far as they go. What is not of the printed form is refused by 10. That this is
 -- the printed form and no other says Promises. Assumes nothing: these are definitions.
-use Rattle.std.specs.Prelude.{ℕ, zero, suc, Bool, true, false, not, List, [], ◌∷◌, ◌++◌, eqb, length, take, drop}
+use Rattle.std.specs.Prelude.{ℕ, zero, suc, true, false, not, List, [], ◌∷◌, ◌++◌, eqb, length, take, drop}
 use Rattle.std.proofs.Math.Option.{Option, some, none}
 use Rattle.scope_graph.specs.Graph.{Query}
 use Rattle.scope_graph.specs.Rows.{PackedName, language}

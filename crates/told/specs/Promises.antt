@@ -1,13 +1,12 @@
 -- What is proved of taking listings apart (02, K3). These are the statements; their proofs are in
 -- proofs/Promises. Assumes nothing: these are definitions.
-use Rattle.std.specs.Prelude.{ℕ, ◌≡◌, ◌↔◌, ◌⊎◌, List, map}
+use Rattle.std.specs.Prelude.{ℕ, ◌≡◌, ◌↔◌, List, map}
 use Rattle.std.proofs.Math.Option.{Option, some, none}
 use Rattle.scope_graph.specs.Graph.{Query, OpenPair}
 use Rattle.scope_graph.specs.Path.{PathRow}
 use Rattle.scope_graph.specs.Rows.{language}
 use Rattle.scope_graph.specs.Computed.{Found}
 use Rattle.text_field.specs.Outcome.{refused, done}
-use Rattle.graph_file.specs.File.{WasRead}
 use Rattle.graph_rows.specs.Decode.{rules_of, letters_of}
 use Rattle.graph_table.specs.Sections.{table_form}
 use Rattle.follow.specs.Text.{end_text, shown_row}

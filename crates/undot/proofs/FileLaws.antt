@@ -14,7 +14,7 @@ use Rattle.text_field.specs.Answer.{answer, leaves, answer_of}
 use Rattle.text_field.proofs.AnswerLaws.{answer_refused, leaves_refused}
 use Rattle.text_field.proofs.OutcomeLaws.{done_same, not_done}
 use Rattle.graph_rows.specs.Format.{edge_section, table_cells}
-use Rattle.graph_rows.specs.Admission.{Row, value}
+use Rattle.graph_rows.specs.Admission.{Row}
 use Rattle.graph_rows.specs.Decode.{rows_in, letters_of, rules_of, scopes_of}
 use Rattle.graph_rows.specs.Formed.{FormedTable}
 use Rattle.graph_file.specs.File.{WasRead, write_text}

@@ -11,7 +11,7 @@ use lib.ListN.{length}
 use borrow.Author.Tests.{ltb-true, lt-ltb, le-leb, eqb-false, eq-eqb}
 use Rattle.scope_graph.specs.Language.{◌∈◌}
 use Rattle.scope_graph.proofs.Lists.{Two, and_left, and_right, true_false}
-use Rattle.graph_rows.specs.Format.{letter, label, values_of, every_item, section_at, shape_at, shapes_of, edge_shape, has_turns, edges, sections, label_section, edge_section}
+use Rattle.graph_rows.specs.Format.{values_of, every_item, section_at, shape_at, shapes_of, edge_shape, has_turns, edges, sections, label_section, edge_section}
 use Rattle.graph_rows.specs.Admission.{Row, value, place, listed, repeats, same_source, same_edge, in_range, item_in_range, content_in_range}
 use Rattle.graph_rows.specs.Values.{formed, item_formed, field_formed, spares_place, idle_zero, idle_zeros}
 use Rattle.graph_rows.specs.Tested.{form_in}

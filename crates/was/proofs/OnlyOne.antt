@@ -1,7 +1,7 @@
 -- Only one list is the breadth-first one: a list that ByMeetings describes names at each place the
 -- scope that is met next. Assumes nothing.
 use Prim.Native.Nat.{ℕ, ◌<◌}
-use mathlib.Core.Path.{◌≡◌, refl, sym, ap, ◌∙◌, subst}
+use mathlib.Core.Path.{◌≡◌, sym, ap, ◌∙◌, subst}
 use mathlib.Core.Bool.{Bool, true, false, not}
 use mathlib.Core.Option.{some, none}
 use mathlib.Core.Logic.{⊎_elim, ◌↔◌}

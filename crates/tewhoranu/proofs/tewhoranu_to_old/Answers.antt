@@ -1,0 +1,12 @@
+use mathlib.Core.Path.{sym, ap, subst, ◌∙◌}
+use native.Mathlib.Omega.{arith}
+use lib.ListN.{length}
+use Rattle.tewhoranu.specs.Numbers.{written, Sized}
+use Rattle.tewhoranu.proofs.NumberLaws.{answer_sized}
+use Rattle.tewhoranu.proofs.tewhoranu_to_old.Goals as goal
+
+pub written_number-requires : goal.written_number-requires
+written_number-requires c = record { sized = subst Sized (sym c.to_old.ensures.answer) (answer_sized _ (length c.args.out.now) (omega (arith, c.well_formed.1.0.1))) }
+
+pub returns : goal.returns
+returns c = record { answer = c.written_number.ensures.answer ∙ ap written c.to_old.ensures.answer; memory = c.to_old.ensures.memory }
