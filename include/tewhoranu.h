@@ -31,7 +31,7 @@
  * labels with many reached paths. docs/BENCHMARKS.md names such files and what they take. A host
  * that reads files of strangers lets a process of its own make the call, and ends it after a while.
  *
- * The archive is libtewhoranu.a (`rt staticlib tewhoranu`), for x86-64 Linux. Its global symbols are
+ * The archive is libtewhoranu.a (`rt lib` in crates/tewhoranu), for x86-64 Linux. Its global symbols are
  * the functions declared here, and none that is not called tewhoranu_...
  *
  * The contracts are proved: see crates/tewhoranu/src and docs/PROMISES.md. Nothing checks these

@@ -1,8 +1,9 @@
 """A file of Rattle, read item by item and put out as Rust.
 
-Contracts and `ghost` lines are left out; all else stays as it stands, comments too. Three things change: a path that
-begins at a crate begins at that crate's module, types get the traits that Rattle's have by themselves, and a comment
-directly above an item becomes its documentation. Whatever is not understood is an error with file and line.
+Contracts, `ghost` lines and the attributes that speak to the prover are left out; all else stays as it stands, comments
+too. Three things change: a path that begins at a crate begins at that crate's module, types get the traits by which Rust
+compares and shows them beside those that they derive, and a comment directly above an item becomes its documentation.
+Whatever is not understood is an error with file and line.
 """
 import re
 
@@ -11,6 +12,14 @@ WORDS = frozenset('as break const continue crate else enum false fn for if impl 
 # words that Rust keeps for itself, and those of Rattle that Rust does not have: neither is a name, and none is copied
 REFUSED = frozenset('Self abstract async await become box do dyn ensures extern final gen ghost invariant macro move override '
                     'priv ref requires static trait try typeof unsafe unsized virtual where yield'.split())
+# what a type may derive; a value may be let go only if its type has `Drop`, which in Rust all may
+TRAITS = ('Clone', 'Copy', 'Debug', 'PartialEq', 'Eq', 'Default', 'Drop')
+# attributes that speak to the prover alone: tactics for a file or a function, and what calls what in a circle
+PROVERS = re.compile(r'(?:tactic|cycle)\(.*\)', re.DOTALL)
+EXPORT = 'unsafe(no_mangle)'
+# macros that Rust has too, and Rattle's way to ask the machine, which is in scope everywhere
+MACROS = {'matches'}
+MACHINE = 'HostRuntime'
 NUMBERS = frozenset('u8 u16 u32 u64 usize i8 i16 i32 i64 isize'.split())
 
 TOKEN = re.compile(r'''
@@ -26,7 +35,6 @@ TOKEN = re.compile(r'''
 ''', re.VERBOSE | re.ASCII)
 
 PAIRS = {'(': ')', '[': ']', '{': '}'}
-CONTRACT_PAIRS = {**PAIRS, '⌜': '⌝'}
 
 
 class Misread(Exception):
@@ -41,10 +49,11 @@ class Token:
 class Scope:
     """What a path of a file may begin with, beside what the file itself declares."""
 
-    def __init__(self, module, crates, derived=()):
+    def __init__(self, module, crates, derived=(), std=None):
         self.module = module      # the module that the file's crate becomes
         self.crates = crates      # the crates that it may name, modules too
         self.derived = dict(derived)    # traits beyond the usual ones, by the type's name
+        self.std = std            # the module that stands for Rattle's std, if the file may name it
 
 
 class File:
@@ -56,10 +65,12 @@ class File:
         self.comments = []      # (start, does it stand alone on its line)
         self.edits = []         # (start, end, text in its place)
         self.documented = []    # where an item, a field or a variant begins
-        self.modules, self.declared, self.roots = [], set(), []
+        self.modules, self.declared, self.roots, self.machines = [], set(), [], []
+        self.ghosts = -1, -1    # the last run of ghost lines
         self.last = None
         self.next = None
         self.advance()
+        self.file_attributes()
         while self.next:
             self.item()
         self.resolve_roots()
@@ -128,10 +139,12 @@ class File:
         before = self.last.text if self.last else ''
         self.advance()
         if token.kind == 'word':
-            if self.sees('!') and self.text[token.end] == '!':
+            if self.sees('!') and self.text[token.end] == '!' and token.text not in MACROS:
                 self.fail('macros are not understood')
             if self.sees('::') and before not in ('::', '.'):
                 self.roots.append(token)
+            if token.text == MACHINE and before != '::':
+                self.machines.append(token)
 
     def until(self, *stops):
         """Goes over code up to one of these signs or words."""
@@ -215,9 +228,9 @@ class File:
             self.until(';')
             self.take(';')
         elif word in ('struct', 'enum'):
-            self.type(word, start)
+            attributes = self.type(word, start, attributes)
         elif word in ('fn', 'extern'):
-            self.function(attributes, shown)
+            self.function(self.left_out(attributes), shown)
             attributes = []
         elif word == 'impl':
             self.take('impl')
@@ -232,25 +245,53 @@ class File:
             if name != 'repr(C)' or word != 'struct':
                 self.fail(f'the attribute {name} is not understood here', place)
 
-    def attribute(self):
+    def file_attributes(self):
+        """`#![tactic(..)]` above a root's first item: the line is left out."""
+        while self.sees('#') and self.text[self.next.end:self.next.end + 1] == '!':
+            name, place, end = self.attribute('!')
+            if not PROVERS.fullmatch(name):
+                self.fail(f'the attribute {name} is not understood here', place)
+            self.edits.append((place, end + (self.text[end:end + 1] == '\n'), ''))
+
+    def attribute(self, *signs):
         """Its text, its place and its end."""
         place = self.take('#').start
-        self.take('[')
+        for sign in *signs, '[':
+            self.take(sign)
         inside = self.next.start if self.next else place
-        self.until(']')
+        noted = len(self.roots)
+        while not self.sees(']'):
+            if self.sees('unsafe'):
+                self.advance()
+            else:
+                self.any()
+        # no path in an attribute is one of Rust's
+        del self.roots[noted:]
         end = self.take(']').end
         return self.text[inside:end - 1], place, end
 
+    def left_out(self, attributes):
+        """Takes out a function's attributes; those that do not speak to the prover alone."""
+        for _, place, end in attributes:
+            self.edits.append((place, re.compile('[ \n]*').match(self.text, end).end(), ''))
+        return [name for name, _, _ in attributes if not PROVERS.fullmatch(name)]
+
     def ghost_use(self):
-        """A line for the prover alone, in its own alphabet: it ends at the first semicolon."""
+        """A line for the prover alone, in its own alphabet: it ends at the first semicolon. Of the empty lines about a run of them one stays."""
         start = self.next.start
         found = re.compile(r'ghost use [^;{}"\n]+(\{[^;{}"\n]*\})?;[ ]*\n').match(self.text, start)
         if not found:
             self.fail('a ghost line that is not understood')
         if start and self.text[start - 1] != '\n':
             self.fail('a ghost line that does not begin its line')
-        self.edits.append((start, found.end(), ''))
-        self.at = found.end()
+        end = found.end()
+        if start != self.ghosts[1]:
+            self.ghosts = start, end
+        self.ghosts = first, _ = self.ghosts[0], end
+        if self.text[max(first - 2, 0):first] in ('', '\n\n') and self.text[end:end + 1] == '\n':
+            end += 1
+        self.edits.append((start, end, ''))
+        self.at = end
         self.advance()
 
     def use(self):
@@ -259,20 +300,41 @@ class File:
         if root is None or root.kind != 'word' or root.text in REFUSED:
             self.fail(f'{self.shown()} stands where a path is due')
         self.advance()
-        last = root
+        self.roots.append(root)
+        if not self.sees('::'):
+            self.fail('a path of one name is not understood', root.start)
+        self.imported(root)
+        self.take(';')
+
+    def imported(self, last):
+        """The rest of a path of a `use`, or each path of a group; a name that it brings in is one of this file's."""
         while self.sees('::'):
             self.take('::')
+            if self.sees('{'):
+                self.take('{')
+                while not self.sees('}'):
+                    if self.sees('self'):
+                        self.take('self')
+                        self.brought_in(last)
+                    else:
+                        self.imported(self.name_due())
+                    if not self.sees('}'):
+                        self.take(',')
+                if self.last.text == '{':
+                    self.fail('a group of no names is not understood')
+                self.take('}')
+                return
             last = self.name_due()
+        self.brought_in(last)
+
+    def brought_in(self, name):
         if self.sees('as'):
             self.take('as')
-            last = self.name_due()
-        self.take(';')
-        self.roots.append(root)
-        self.declared.add(last.text)
-        if last is root:
-            self.fail('a path of one name is not understood', root.start)
+            name = self.name_due()
+        self.declared.add(name.text)
 
-    def type(self, word, start):
+    def type(self, word, start, attributes):
+        """The attributes that are not the derived traits."""
         self.take(word)
         name = self.name_due()
         self.declared.add(name.text)
@@ -286,19 +348,33 @@ class File:
             self.fail(f'{self.shown()} stands where the parts of {name.text} are due')
         if '&' in self.text[inside:self.last.end]:
             self.fail(f'{name.text} holds a reference, so it is no plain data', name.start)
-        traits = ['Clone', 'Copy', 'Debug', 'PartialEq', 'Eq'] + self.scope.derived.pop(name.text, [])
-        self.edits.append((start, start, f'#[derive({", ".join(traits)})]\n'))
+        traits, derives, others = [], [], []
+        for attribute in attributes:
+            (derives if attribute[0].startswith('derive(') else others).append(attribute)
+        for text, place, _ in derives:
+            traits = re.findall('[^ ,\n]+', text[len('derive('):-1])
+            for trait in traits:
+                if trait not in TRAITS:
+                    self.fail(f'the derived trait {trait} is not understood', place)
+        traits += ['Debug', 'PartialEq', 'Eq'] + self.scope.derived.pop(name.text, [])
+        line = f'#[derive({", ".join(trait for trait in dict.fromkeys(traits) if trait != "Drop")})]'
+        if not derives:
+            self.edits.append((start, start, line + '\n'))
+        for text, place, end in derives:
+            self.edits.append((place, end, line))
+            if len(derives) > 1:
+                self.fail('a second list of derived traits is not understood', derives[1][1])
+        return others
 
     def function(self, attributes, start):
         exported = self.sees('extern')
         if exported:
             self.take('extern')
             self.take('"C"')
-        if [name for name, _, _ in attributes] != ['no_mangle'] * exported:
-            self.fail('an exported function has the attribute no_mangle and no other, any other function none', start)
+        if attributes != [EXPORT] * exported:
+            self.fail(f'an exported function has the attribute {EXPORT} and no other for its host, any other function none', start)
         if exported:
             # the name is for linkers and the calling convention for C: Rust calls it as any function
-            self.edits.append((attributes[0][1], start, ''))
             where = self.text.index('extern', start)
             self.edits.append((where, self.next.start, ''))
         self.take('fn')
@@ -330,14 +406,14 @@ class File:
             self.fail(f'{self.shown()} stands where a condition is due')
         open_at = []
         at = self.next.start
-        closing = {close: opening for opening, close in CONTRACT_PAIRS.items()}
+        closing = {close: opening for opening, close in PAIRS.items()}
         while True:
             sign = self.text[at] if at < len(self.text) else ''
             if not sign:
                 self.fail(f'{self.text[open_at[-1]]} is not closed', open_at[-1])
             if sign == '"' or self.text.startswith(('//', '--'), at):
                 self.fail(f'{sign!r} is not understood in a contract', at)
-            if sign in CONTRACT_PAIRS:
+            if sign in PAIRS:
                 open_at.append(at)
             elif sign in closing:
                 if self.text[open_at[-1]] != closing[sign]:
@@ -363,8 +439,15 @@ class File:
                 self.fail(f'{name} may be a crate or a name of this file', root.start)
             elif name in self.scope.crates:
                 self.edits.append((root.start, root.end, f'crate::{name}'))
+            elif name == 'std' and self.scope.std and not here:
+                self.edits.append((root.start, root.end, f'crate::{self.scope.std}'))
             elif not here and name not in ('self', 'super') and (in_use or name not in NUMBERS):
                 self.fail(f'the path begins at {name}, which is neither a crate listed for it nor a name of this file', root.start)
+        for token in self.machines:
+            if MACHINE not in self.declared:
+                if not self.scope.std:
+                    self.fail(f'{MACHINE} is not understood here', token.start)
+                self.edits.append((token.start, token.start, f'crate::{self.scope.std}::rt::'))
 
     def document(self):
         """Comments directly above an item, field or variant are its documentation; the first lines are the file's."""

@@ -1,14 +1,15 @@
-//! Links the archive that `rt staticlib tewhoranu` writes: TEWHORANU_LIB names its folder where it is not this repository's
-//! target/staticlib. With the feature `source` nothing is linked: portable/make writes the proved source as Rust.
+//! Links the archive that `rt lib` writes in crates/tewhoranu: TEWHORANU_LIB names its folder where it is not this repository's
+//! crates/tewhoranu/out. With the feature `source` nothing is linked: portable/make writes the proved source as Rust.
 
 use std::env;
+use std::fs;
 use std::path::{Path, PathBuf};
 use std::process::Command;
 
 fn link(root: &Path) {
     let folder = match env::var_os("TEWHORANU_LIB") {
         Some(folder) => PathBuf::from(folder),
-        None => root.join("target/staticlib"),
+        None => root.join("crates/tewhoranu/out"),
     };
     println!("cargo:rerun-if-env-changed=TEWHORANU_LIB");
     println!("cargo:rerun-if-changed={}", folder.join("libtewhoranu.a").display());
@@ -17,8 +18,11 @@ fn link(root: &Path) {
 }
 
 fn make(root: &Path) {
-    for part in ["crates.txt", "crates", "portable"] {
-        println!("cargo:rerun-if-changed={}", root.join(part).display());
+    // what the kit builds stands beside a crate's source, and changes nothing here
+    let crates = fs::read_dir(root.join("crates")).into_iter().flatten().flatten().map(|entry| entry.path().join("src"));
+    let crates = crates.filter(|source| source.is_dir());
+    for part in crates.chain(["crates.txt", "portable"].map(|part| root.join(part))) {
+        println!("cargo:rerun-if-changed={}", part.display());
     }
     let package = PathBuf::from(env::var_os("OUT_DIR").expect("cargo sets it")).join("package");
     let made = Command::new("python3").arg(root.join("portable/make")).arg(package).status();

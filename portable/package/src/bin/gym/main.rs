@@ -10,8 +10,7 @@ include!("../../modules.rs");
 include!("modules.rs");
 
 mod io;
-mod libc;
-mod os;
+mod kit;
 
 use std::process::ExitCode;
 use std::thread;
