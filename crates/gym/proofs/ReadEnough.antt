@@ -1,5 +1,5 @@
 -- What is read of the words and of the input is enough. Assumes nothing.
-use Prim.Native.Nat.{ℕ, zero, suc, ◌≤◌, ◌<◌}
+use Prim.Native.Nat.{ℕ, zero, suc, ◌<◌}
 use mathlib.Core.Path.{◌≡◌, refl, sym, ap, ◌∙◌}
 use mathlib.Core.Bool.{Bool, true, false, ◌&&◌}
 use mathlib.Core.List.{List, [], ◌∷◌}
@@ -19,12 +19,12 @@ use Rattle.graph_file.proofs.SectionLaws.{whole_long}
 use Rattle.path_rules.specs.Rules.{rules_of}
 use Rattle.path_rules.specs.declared.Rules.{Rules}
 use Rattle.path_rules.proofs.Ends.{rules_long}
-use Rattle.path_row.specs.Form.{PathRow, row_here}
+use Rattle.path_row.specs.Form.{row_here}
 use Rattle.comparison.specs.Compare.{compare_rows, compare_answer}
 use Rattle.judge.specs.Judge.{judge_of, judge_answer}
 use Rattle.conversion.specs.Conversion.{text_of, old_of, new_of}
 use Rattle.ruled.specs.Ruled.{ruled_text, text_by, ruled_of}
-use Rattle.printing.specs.Printed.{program_text, outcome_text}
+use Rattle.printing.specs.Printed.{program_text}
 use Rattle.beginnings.specs.Beginnings.{count_for}
 use Rattle.readers.specs.Readers.{readers_for}
 use Rattle.renumbering.specs.Renumbering.{renumber_of, back_for}

@@ -23,6 +23,8 @@ ghost use Rattle.gym.specs.Handed.{handed, reply_meaning, descriptor as descript
 use printing::{INPUT, print_for};
 use replies::{ROOM, Stream, put_reply};
 use second::{has_second, read_second, room};
+use std::env::FillError;
+use std::rt::Env;
 use words::{Command, Reply, command_of};
 
 // What is read of a word: one byte more than a path row may have. What is longer is no word, no
@@ -95,21 +97,33 @@ fn run<'s>(
     }
 }
 
+// Is there a word i, the program's own name being word 0?
+fn is_given(rt: &impl Env, i: usize) -> bool {
+    let mut none = [0u8; 0];
+    !matches!(rt.arg(i, &mut none), Err(FillError::NotPresent))
+}
+
 // How many words were given; the program's own name is not counted.
-fn words_given() -> usize {
-    let n = os::arg_count();
-    if n == 0 { 0 } else { n - 1 }
+fn words_given(rt: &impl Env) -> usize {
+    let mut count: usize = 0;
+    for i in 1..usize::MAX {
+        if !is_given(rt, i) {
+            break;
+        }
+        count = i;
+    }
+    count
 }
 
 // Word i, the program's own name being word 0: as much of it as fits.
-fn read_word(i: usize, buf: &mut [u8]) -> usize
+fn read_word(rt: &impl Env, i: usize, buf: &mut [u8]) -> usize
     ensures answer { IsPrefixLen result buf.new }
 {
-    let n = os::arg(i, buf);
-    if os::errno() == libc::ENAMETOOLONG {
-        return buf.len();
+    match rt.arg(i, buf) {
+        Ok(n) => n,
+        Err(FillError::TooLong) => buf.len(),
+        Err(FillError::NotPresent) => 0,
     }
-    n
 }
 
 // The gym file; the usage text needs none, and does not wait for one.
@@ -128,10 +142,16 @@ fn read_file(c: Command, text: &mut [u8]) -> usize
 
 // Reads the second file and then the gym file, and answers. The room for the second file is large,
 // so that only the words that have one clear it.
-fn run_with_second<'s>(count: usize, name: &'s [u8], first: &'s [u8], second: &'s [u8]) {
+fn run_with_second<'s>(
+    rt: &HostRuntime,
+    count: usize,
+    name: &'s [u8],
+    first: &'s [u8],
+    second: &'s [u8],
+) {
     let mut more = room();
     let mut whole = false;
-    let m = read_second(2, &mut more, &mut whole);
+    let m = read_second(rt, 2, &mut more, &mut whole);
     if !whole {
         return;
     }
@@ -147,16 +167,16 @@ fn run_without<'s>(count: usize, name: &'s [u8], first: &'s [u8], second: &'s [u
     run(count, name, first, second, &text[..size], &name[..0]);
 }
 
-fn main() {
-    let count = words_given();
+fn main(rt: HostRuntime) {
+    let count = words_given(&rt);
     let mut name = [0u8; WORD];
     let mut first = [0u8; WORD];
     let mut second = [0u8; WORD];
-    let n = read_word(1, &mut name);
-    let a = read_word(2, &mut first);
-    let b = read_word(3, &mut second);
+    let n = read_word(&rt, 1, &mut name);
+    let a = read_word(&rt, 2, &mut first);
+    let b = read_word(&rt, 3, &mut second);
     if has_second(command_of(count, &name[..n], &first[..a])) {
-        run_with_second(count, &name[..n], &first[..a], &second[..b]);
+        run_with_second(&rt, count, &name[..n], &first[..a], &second[..b]);
     } else {
         run_without(count, &name[..n], &first[..a], &second[..b]);
     }

@@ -1,0 +1,13 @@
+-- `gym::words::count_asked`: the query, or the usage text. Assumes nothing.
+use Rattle.gym.specs.Words.{count, count_asked}
+use Rattle.gym.specs.Handed.{queried, meaning, reply_meaning}
+use Rattle.gym.proofs.WordLaws.{query_asks}
+use Rattle.gym.proofs.words.count_asked.Goals as goal
+
+pub returns-in_default : goal.returns-in_default
+unfolding queried meaning reply_meaning count_asked
+returns-in_default c = record { answer = λ b. query_asks count _ _ _ c.in_default.is (c.query_of.ensures.answer count) }
+
+pub returns : goal.returns
+unfolding queried meaning reply_meaning count_asked
+returns c = record { answer = λ b. query_asks count _ _ _ c.in-At.is (c.query_of.ensures.answer count) }
