@@ -65,7 +65,7 @@ fn is_known(cells: &[u64], v: u64) -> bool
 // The set noted, if it is new; answers how many there are then.
 fn note(cells: &mut [u64], count: usize, v: u64) -> usize
     requires held { count ≤ length cells.old }
-    ensures found { record { cells = cells.exit.now; count = result } ≡ noted (record { cells = cells.entry.now; count = count }) v }
+    ensures found { record { cells = cells.new; count = result } ≡ noted (record { cells = cells.old; count = count }) v }
 {
     if is_known(&cells[..count], v) {
         return count;
@@ -86,7 +86,7 @@ fn note_turn(
     k: usize,
 ) -> usize
     requires held { count ≤ length cells.old }
-    ensures found { record { cells = cells.exit.now; count = result } ≡ note_turn after labels k (record { cells = cells.entry.now; count = count }) }
+    ensures found { record { cells = cells.new; count = result } ≡ note_turn after labels k (record { cells = cells.old; count = count }) }
 {
     let i = k / 8;
     if i < count {
@@ -103,7 +103,7 @@ fn note_turn(
 // All sets, found backwards from the end's own; answers how many there are.
 pub fn find_vectors(after: [u64; 10], labels: [u64; 10], cells: &mut [u64]) -> usize
     requires cleared { cells.old ≡ replicate 2048 0 }
-    ensures found { record { cells = cells.exit.now; count = result } ≡ vectors after labels }
+    ensures found { record { cells = cells.new; count = result } ≡ vectors after labels }
 {
     cells[0] = 1024;
     let mut count: usize = 1;
