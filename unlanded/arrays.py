@@ -2,7 +2,7 @@
 """arrays.py CRATE.. : lends block and ask as arrays in src/, drops the clauses on sizes, rewrites the proofs' paths.
 Clause lists before are kept in /tmp/mid/clauses.json (made from the sources by 'scan')."""
 import re,sys,glob,json,os
-ROOT='/work/middle/crates'
+ROOT='crates'
 ALL=['block','search','board','follow','comparison','resolution','judge','beginnings','printing','conversion','gym','host','trials']
 def functions(text):
     """yields (name, start, end_of_header, params_text, clauses)"""
@@ -307,7 +307,7 @@ def array_params(root):
         for n,s,i,p,cl in functions(t):
             out[(c,n)]=len(re.findall(r'\[u64; ?\w+\]',p))
     return out
-def redo(crate,oldroot='/work/middle/crates',root='/tmp/mid/arr/crates'):
+def redo(crate,oldroot='crates',root='arr/crates'):
     maps=Maps(oldroot,root)
     old=array_params(oldroot); new=array_params(root)
     for f in glob.glob(f'{oldroot}/{crate}/proofs/**/Proof.antt',recursive=True):
