@@ -1,6 +1,6 @@
 #!/usr/bin/env python3
 """arrays.py CRATE.. : lends block and ask as arrays in src/, drops the clauses on sizes, rewrites the proofs' paths.
-Clause lists before are kept in /tmp/mid/clauses.json (made from the sources by 'scan')."""
+Clause lists before are kept in mid/clauses.json (made from the sources by 'scan')."""
 import re,sys,glob,json,os
 ROOT='crates'
 ALL=['block','search','board','follow','comparison','resolution','judge','beginnings','printing','conversion','gym','host','trials']
@@ -33,7 +33,7 @@ def scan():
 if __name__=='__main__':
     if sys.argv[1]=='scan':
         d=scan()
-        json.dump(d,open('/tmp/mid/clauses.json','w'),indent=0)
+        json.dump(d,open('mid/clauses.json','w'),indent=0)
         print(len(d), sum(len(x[2]) for v in d.values() for x in v))
         for n,v in d.items():
             if len(v)>1 and any(x[2] for x in v): print('several',n,[(x[0],[a for a,b in x[2]]) for x in v])

@@ -1,5 +1,5 @@
 import re,glob,os,shutil,sys
-SRC=os.environ.get('MSRC','/tmp/mid/arr/crates'); OUT=os.environ.get('MOUT','/tmp/mid/merge')
+SRC=os.environ.get('MSRC','mid/arr/crates'); OUT=os.environ.get('MOUT','mid/merge')
 M=['block','search','board','follow','comparison','resolution','judge','beginnings']
 if len(sys.argv)>1: M=sys.argv[1].split(',')
 mods={};fnmod={};specs={};laws={};typemod={}
