@@ -3,14 +3,14 @@
 Contracts, `ghost` lines and the attributes that speak to the prover are left out; all else stays as it stands, comments
 too. Three things change: a path that begins at a crate begins at that crate's module, types get the traits by which Rust
 compares and shows them beside those that they derive, and a comment directly above an item becomes its documentation.
-Whatever is not understood is an error with file and line.
+A struct that holds lent memory has a lifetime, and is only shown. Whatever is not understood is an error with file and line.
 """
 import re
 
 WORDS = frozenset('as break const continue crate else enum false fn for if impl in let loop match mod mut pub return self '
-                  'struct super true type use while'.split())
+                  'Self struct super true type use while'.split())
 # words that Rust keeps for itself, and those of Rattle that Rust does not have: neither is a name, and none is copied
-REFUSED = frozenset('Self abstract async await become box do dyn ensures extern final gen ghost invariant macro move override '
+REFUSED = frozenset('abstract async await become box do dyn ensures extern final gen ghost invariant macro move override '
                     'priv ref requires static trait try typeof unsafe unsized virtual where yield'.split())
 # what a type may derive; a value may be let go only if its type has `Drop`, which in Rust all may
 TRAITS = ('Clone', 'Copy', 'Debug', 'PartialEq', 'Eq', 'Default', 'Drop')
@@ -20,6 +20,8 @@ EXPORT = 'unsafe(no_mangle)'
 # macros that Rust has too, and Rattle's way to ask the machine, which is in scope everywhere
 MACROS = {'matches'}
 MACHINE = 'HostRuntime'
+# modules of Rattle's std that Rust has alike, in core
+ALIKE = re.compile(r'::(?:array|cmp)\b')
 NUMBERS = frozenset('u8 u16 u32 u64 usize i8 i16 i32 i64 isize'.split())
 
 TOKEN = re.compile(r'''
@@ -31,7 +33,7 @@ TOKEN = re.compile(r'''
   | (?P<lifetime>'[a-z_][a-z0-9_]*)
   | (?P<number>(?:0x[0-9a-fA-F_]+|0b[01_]+|[0-9][0-9_]*)(?:[ui](?:8|16|32|64|size))?(?![A-Za-z0-9_]))
   | (?P<word>[A-Za-z_][A-Za-z0-9_]*)
-  | (?P<sign><<=|>>=|\.\.=|::|->|=>|==|!=|<=|>=|&&|\|\||<<|>>|\.\.|[-+*/%&|^]=|[-+*/%&|^!<>=.,:;(){}\[\]\#])
+  | (?P<sign><<=|>>=|\.\.=|::|->|=>|==|!=|<=|>=|&&|\|\||<<|>>|\.\.|[-+*/%&|^]=|[-+*/%&|^!<>=.,:;(){}\[\]\#?])
 ''', re.VERBOSE | re.ASCII)
 
 PAIRS = {'(': ')', '[': ']', '{': '}'}
@@ -182,15 +184,38 @@ class File:
                 self.take(')')
 
     def lifetimes(self):
+        """`<'a, 'b>`, if there are any; how many."""
+        number = 0
         if self.sees('<'):
             self.take('<')
             while not self.sees('>'):
                 if self.next is None or self.next.kind != 'lifetime':
                     self.fail(f'{self.shown()} stands where a lifetime is due')
                 self.advance()
+                number += 1
                 if not self.sees('>'):
                     self.take(',')
             self.take('>')
+        return number
+
+    def parameters(self):
+        """What stands between `<` and `>` behind a function's name: lifetimes, types with their bounds, constants."""
+        if not self.sees('<'):
+            return
+        self.take('<')
+        depth = 1
+        while depth:
+            if self.sees('<'):
+                depth += 1
+            elif self.sees('>'):
+                depth -= 1
+            elif self.sees('>>'):
+                depth -= 2
+            if depth < 0:
+                self.fail('a list of parameters is not closed')
+            if self.sees('{', ';'):
+                self.fail(f'{self.shown()} stands where a parameter is due')
+            self.any()
 
     # -- items
 
@@ -234,7 +259,9 @@ class File:
             attributes = []
         elif word == 'impl':
             self.take('impl')
+            self.lifetimes()
             self.name_due()
+            self.lifetimes()
             self.take('{')
             while not self.sees('}'):
                 self.item()
@@ -338,6 +365,7 @@ class File:
         self.take(word)
         name = self.name_due()
         self.declared.add(name.text)
+        lent = self.lifetimes()
         inside = self.at
         if self.sees('('):
             self.bracketed()
@@ -346,7 +374,7 @@ class File:
             self.members()
         else:
             self.fail(f'{self.shown()} stands where the parts of {name.text} are due')
-        if '&' in self.text[inside:self.last.end]:
+        if not lent and '&' in self.text[inside:self.last.end]:
             self.fail(f'{name.text} holds a reference, so it is no plain data', name.start)
         traits, derives, others = [], [], []
         for attribute in attributes:
@@ -356,7 +384,8 @@ class File:
             for trait in traits:
                 if trait not in TRAITS:
                     self.fail(f'the derived trait {trait} is not understood', place)
-        traits += ['Debug', 'PartialEq', 'Eq'] + self.scope.derived.pop(name.text, [])
+        # what holds lent memory is neither compared nor copied, only shown
+        traits += (['Debug'] if lent else ['Debug', 'PartialEq', 'Eq']) + self.scope.derived.pop(name.text, [])
         line = f'#[derive({", ".join(trait for trait in dict.fromkeys(traits) if trait != "Drop")})]'
         if not derives:
             self.edits.append((start, start, line + '\n'))
@@ -379,7 +408,7 @@ class File:
             self.edits.append((where, self.next.start, ''))
         self.take('fn')
         self.declared.add(self.name_due().text)
-        self.lifetimes()
+        self.parameters()
         if not self.sees('('):
             self.fail(f'{self.shown()} stands where parameters are due')
         self.bracketed()
@@ -439,6 +468,8 @@ class File:
                 self.fail(f'{name} may be a crate or a name of this file', root.start)
             elif name in self.scope.crates:
                 self.edits.append((root.start, root.end, f'crate::{name}'))
+            elif name == 'std' and not here and ALIKE.match(self.text, root.end):
+                self.edits.append((root.start, root.end, 'core'))
             elif name == 'std' and self.scope.std and not here:
                 self.edits.append((root.start, root.end, f'crate::{self.scope.std}'))
             elif not here and name not in ('self', 'super') and (in_use or name not in NUMBERS):

@@ -25,6 +25,24 @@ use Rattle.resolution.specs.Listing.{found_for, entries_text}
 use Rattle.resolution.specs.Asked.{entries_taken}
 use Rattle.resolution.proofs.Answers.{texts_joined}
 use Rattle.accepting.specs.Steps.{CountTold}
+use Rattle.resolution.specs.Asked.{found_meaning}
+use denote.Enum.Bare.{sameb}
+use Rattle.resolution.specs.contracts.text.Found.{the_type}
+use Rattle.resolution.specs.declared.text.Found as code
+use Rattle.resolution.specs.declared.text.Found.TheVariants.{None, One, Several}
+
+-- as code compares two words
+pub found_eq : (a b : code.Found) → sameb the_type a b ≡ same_found (found_meaning a) (found_meaning b)
+unfolding found_meaning same_found
+found_eq None None = refl
+found_eq None One = refl
+found_eq None Several = refl
+found_eq One None = refl
+found_eq One One = refl
+found_eq One Several = refl
+found_eq Several None = refl
+found_eq Several One = refl
+found_eq Several Several = refl
 
 -- the word
 pub found_same : (a b : Found) → same_found a b ≡ true → a ≡ b

@@ -1,6 +1,6 @@
 -- What may stand under `awaits`: an end by its byte, an open pair among the open rows. Assumes
 -- nothing.
-use Prim.Native.Nat.{ℕ, zero, suc, ◌+◌, ◌-◌, ◌≤◌, ◌<◌}
+use Prim.Native.Nat.{ℕ, zero, suc, ◌+◌, ◌≤◌, ◌<◌}
 use mathlib.Core.Path.{◌≡◌, refl, sym, ap, ◌∙◌}
 use mathlib.Core.Bool.{Bool, true, false, ◌&&◌}
 use mathlib.Core.Option.{some}
@@ -8,7 +8,7 @@ use mathlib.Core.List.{List, [], ◌∷◌, map}
 use native.Mathlib.Numerals.{add-one}
 use native.Mathlib.Omega.{arith}
 use lib.Dec.{eqb}
-use lib.ListN.{length, get_or, drop}
+use lib.ListN.{length, drop}
 use borrow.Author.Tests.{eq-eqb, ne_eqb, eqb-true, eqb-false}
 use Rattle.scope_graph.specs.Language.{End, by, Language}
 use Rattle.scope_graph.specs.Graph.{Query, OpenPair}
@@ -21,6 +21,11 @@ use Rattle.graph_rows.specs.Format.{open_section}
 use Rattle.graph_rows.specs.Admission.{Row, value, row_of}
 use Rattle.graph_rows.specs.Decode.{rows_in, rules_of, graph_of, letters_of, open_pair_of, opens_of}
 use Rattle.graph_table.specs.declared.rows.OpenRow.{OpenRow}
+use mathlib.Core.List.{◌++◌}
+use Rattle.std.specs.declared.option.Option.{Option as Maybe}
+use Rattle.std.specs.declared.option.Option.TheVariants.{Some, None as Nothing}
+use Rattle.std.specs.Option.{is_none}
+use Rattle.resolution.proofs.Chunks.{first_cell, after_chunk, chunk_whole}
 use Rattle.graph_table.specs.Sections.{part_of, rows_of}
 use Rattle.graph_table.specs.Values.{open_row}
 use Rattle.graph_table.proofs.Parts.{rows_next, rows_none, value_cell}
@@ -29,8 +34,6 @@ use Rattle.board.proofs.Queries.{rows_are}
 use Rattle.path_row.specs.Numbering.{number_from, label_number}
 use Rattle.comparison.specs.Letters.{letters_from, block_letters}
 use Rattle.comparison.proofs.LetterLaws.{letters_same}
-use Rattle.resolution.specs.declared.text.Awaits.{Awaits}
-use Rattle.resolution.specs.declared.text.Awaits.TheVariants.{Settled, Pair}
 use Rattle.resolution.specs.Asked.{Ready, query_in, followed_by, awaits_meaning}
 use Rattle.resolution.proofs.Answers.{pair_is, open_small}
 use Rattle.accepting.specs.Tests.{end_named, pair_named, is_open, is_settled, may_await}
@@ -78,38 +81,36 @@ module _ (at end : ℕ) where
   abbrev is : Row → Bool
   is row = eqb (value row 0) at && eqb (value row 1) end
 
-  module _ (t : List ℕ) (p : ℕ) where
-    pub open_end : length t - p < 6 → false ≡ has_open at end (rows_of (drop p t))
+  module _ (t : List ℕ) where
+    pub open_end : length t < 6 → false ≡ has_open at end (rows_of t)
     unfolding has_open any_of
-    open_end h = rw (rows_none t p h)
+    open_end h = rw (rows_none t 0 (omega arith))
 
-    module _ (row : OpenRow) (more : 6 ≤ length t - p) (e : row ≡ open_row t p) where
-      at_is : row.at ≡ value (row_of (drop p t)) 0
-      at_is = ap (λ (o : OpenRow). o.at) e ∙ ap (λ (n : ℕ). get_or t n 0) (let z : p + 1 ≡ p + 1 + 0 = omega arith in z) ∙ sym (value_cell t p 0 (omega arith))
+    module _ (cells rest : List ℕ) (split : t ≡ cells ++ rest) (size : length cells ≡ 6) (row : OpenRow) (e : row ≡ open_row cells 0) where
+      at_is : row.at ≡ value (row_of t) 0
+      at_is = ap (λ (o : OpenRow). o.at) e ∙ sym (first_cell t cells rest split size 1 (omega arith)) ∙ sym (value_cell t 0 0 (omega arith))
 
-      end_is : row.end ≡ value (row_of (drop p t)) 1
-      end_is = ap (λ (o : OpenRow). o.end) e ∙ ap (λ (n : ℕ). get_or t n 0) (let z : p + 2 ≡ p + 1 + 1 = omega arith in z) ∙ sym (value_cell t p 1 (omega arith))
+      end_is : row.end ≡ value (row_of t) 1
+      end_is = ap (λ (o : OpenRow). o.end) e ∙ sym (first_cell t cells rest split size 2 (omega arith)) ∙ sym (value_cell t 0 1 (omega arith))
 
-      chosen : Bool → Bool
-      chosen b = elim b as (λ _. Bool) [ true ↦ true | false ↦ has_open at end (rows_of (drop (p + 6) t)) ]
+      abbrev chosen : Bool → Bool
+      chosen b = elim b as (λ _. Bool) [ true ↦ true | false ↦ has_open at end (rows_of rest) ]
 
-      step : has_open at end (rows_of (drop p t)) ≡ chosen (eqb row.at at && eqb row.end end)
-      unfolding has_open any_of chosen
+      step : has_open at end (rows_of t) ≡ chosen (eqb row.at at && eqb row.end end)
+      unfolding has_open any_of
       step =
-          ap (has_open at end) (rows_next t p more)
-          ∙ ap (λ (x : ℕ). chosen (eqb x at && eqb (value (row_of (drop p t)) 1) end)) (sym at_is)
-          ∙ ap (λ (y : ℕ). chosen (eqb row.at at && eqb y end)) (sym end_is)
+          ap (has_open at end) (rows_next t 0 (let h = chunk_whole t cells rest split size in omega arith))
+          ∙ ap (λ (x : ℕ). elim (eqb x at && eqb (value (row_of t) 1) end) as (λ _. Bool) [ true ↦ true | false ↦ has_open at end (rows_of (drop 6 t)) ]) (sym at_is)
+          ∙ ap (λ (y : ℕ). elim (eqb row.at at && eqb y end) as (λ _. Bool) [ true ↦ true | false ↦ has_open at end (rows_of (drop 6 t)) ]) (sym end_is)
+          ∙ ap (λ (l : List ℕ). elim (eqb row.at at && eqb row.end end) as (λ _. Bool) [ true ↦ true | false ↦ has_open at end (rows_of l) ]) (after_chunk t cells rest split size)
 
-      pub open_here : row.at ≡ at → row.end ≡ end → true ≡ has_open at end (rows_of (drop p t))
-      unfolding chosen
+      pub open_here : row.at ≡ at → row.end ≡ end → true ≡ has_open at end (rows_of t)
       open_here a b = sym (step ∙ rw (eq-eqb row.at at a, eq-eqb row.end end b))
 
-      pub open_scope : (row.at ≡ at → ⊥) → has_open at end (rows_of (drop (p + 6) t)) ≡ has_open at end (rows_of (drop p t))
-      unfolding chosen
+      pub open_scope : (row.at ≡ at → ⊥) → has_open at end (rows_of rest) ≡ has_open at end (rows_of t)
       open_scope n = sym (step ∙ rw (ne_eqb row.at at n))
 
-      pub open_other : row.at ≡ at → (row.end ≡ end → ⊥) → has_open at end (rows_of (drop (p + 6) t)) ≡ has_open at end (rows_of (drop p t))
-      unfolding chosen
+      pub open_other : row.at ≡ at → (row.end ≡ end → ⊥) → has_open at end (rows_of rest) ≡ has_open at end (rows_of t)
       open_other a n = sym (step ∙ rw (eq-eqb row.at at a, ne_eqb row.end end n))
 
 -- ends are the same exactly if their numbers are
@@ -171,14 +172,11 @@ module _ (cells block ask : List ℕ) (ready : Ready cells block ask) where
           f ∙ pair_is cells block ask ready at end s.0 s.1 ∙ sym (rw (sym open_is ∙ e))
 
   -- nothing is awaited, or something is
-  module _ (a : Awaits) (told : awaits_meaning cells a ≡ awaits L (graph_of cells) q (opens_of cells)) where
-    pub settled_yes : a ≡ Settled → true ≡ is_settled cells (awaits L (graph_of cells) q (opens_of cells))
-    unfolding awaits_meaning is_settled
-    settled_yes e = ap (λ (x : Awaits). is_settled cells (awaits_meaning cells x)) (sym e) ∙ ap (is_settled cells) told
-
-    pub settled_no : (at end : ℕ) → a ≡ Pair at end → false ≡ is_settled cells (awaits L (graph_of cells) q (opens_of cells))
-    unfolding awaits_meaning is_settled
-    settled_no at end e = ap (λ (x : Awaits). is_settled cells (awaits_meaning cells x)) (sym e) ∙ ap (is_settled cells) told
+  pub settled_is : (a : Maybe OpenRow) → awaits_meaning cells a ≡ awaits L (graph_of cells) q (opens_of cells)
+      → is_none a ≡ is_settled cells (awaits L (graph_of cells) q (opens_of cells))
+  unfolding awaits_meaning is_settled
+  settled_is Nothing told = ap (is_settled cells) told
+  settled_is (Some o) told = ap (is_settled cells) told
 
   -- a pair by its byte
   pub named_is : (at x end : ℕ) → end_of end ≡ end_named (block_letters block) x → (r : Bool)

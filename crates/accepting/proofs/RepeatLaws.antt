@@ -1,14 +1,14 @@
 -- Rows that are the same, by their bytes. Assumes nothing.
-use Prim.Native.Nat.{ℕ, ◌+◌, ◌-◌, ◌≤◌, ◌<◌}
+use Prim.Native.Nat.{ℕ, ◌-◌}
 use mathlib.Core.Path.{◌≡◌, refl, sym, ap, ◌∙◌}
 use mathlib.Core.Bool.{Bool, true, false, ◌&&◌}
 use mathlib.Core.List.{List, [], ◌∷◌}
 use native.Mathlib.Omega.{arith}
 use lib.Dec.{eqb}
-use lib.ListN.{length, get_or, take, drop}
-use borrow.Author.Tests.{eq-eqb, ne_eqb, eqb-true}
+use lib.ListN.{take, drop}
+use borrow.Author.Tests.{eq-eqb, eqb-true}
+use Rattle.std.specs.Cmp.Lexicographic.{pointwise}
 use Rattle.text_field.proofs.ByteLaws.{both}
-use Rattle.text_field.proofs.Steps.{drop_next, drop_end}
 use Rattle.path_row.specs.Form.{row_text}
 use Rattle.path_row.proofs.FormLaws.{read_then_written}
 use Rattle.told.specs.Apart.{rows_in}
@@ -17,22 +17,13 @@ use Rattle.accepting.specs.Tests.{same_bytes, is_among, none_twice}
 use Rattle.accepting.specs.Steps.{text_among}
 use Rattle.accepting.proofs.RowTests.{rows_on}
 
--- a loop over two texts of one length
-module _ (a b : List ℕ) (i : ℕ) where
-  pub same_all : length a ≤ i → length b ≤ i → true ≡ same_bytes (drop i a) (drop i b)
-  unfolding same_bytes
-  same_all h k = rw (drop_end a i h, drop_end b i k)
-
-  module _ (h : i < length a) (k : i < length b) where
-    here : same_bytes (drop i a) (drop i b) ≡ (eqb (get_or a i 0) (get_or b i 0) && same_bytes (drop (i + 1) a) (drop (i + 1) b))
-    unfolding same_bytes
-    here = ap (λ (z : List ℕ). same_bytes z (drop i b)) (drop_next a i h) ∙ ap (same_bytes (get_or a i 0 ∷ drop (i + 1) a)) (drop_next b i k)
-
-    pub same_other : (get_or a i 0 ≡ get_or b i 0 → ⊥) → false ≡ same_bytes (drop i a) (drop i b)
-    same_other n = sym (here ∙ rw (ne_eqb (get_or a i 0) (get_or b i 0) n))
-
-    pub same_next : get_or a i 0 ≡ get_or b i 0 → same_bytes (drop (i + 1) a) (drop (i + 1) b) ≡ same_bytes (drop i a) (drop i b)
-    same_next e = sym (here ∙ rw (eq-eqb (get_or a i 0) (get_or b i 0) e))
+-- as code compares them
+pub pointwise_same : (a b : List ℕ) → pointwise eqb a b ≡ same_bytes a b
+unfolding same_bytes
+pointwise_same [] [] = refl
+pointwise_same [] (y ∷ b) = refl
+pointwise_same (x ∷ a) [] = refl
+pointwise_same (x ∷ a) (y ∷ b) = ap (λ (t : Bool). eqb x y && t) (pointwise_same a b)
 
 pub same_is : (a b : List ℕ) → same_bytes a b ≡ true → a ≡ b
 unfolding same_bytes
@@ -49,13 +40,6 @@ pub same_self : (a : List ℕ) → same_bytes a a ≡ true
 unfolding same_bytes
 same_self [] = refl
 same_self (x ∷ a) = rw (eq-eqb x x refl) (same_self a)
-
-pub same_length : (a b : List ℕ) → (length a ≡ length b → ⊥) → false ≡ same_bytes a b
-same_length a b n = by (same_bytes a b) refl
-  where
-    by : (t : Bool) → same_bytes a b ≡ t → false ≡ t
-    by false e = refl
-    by true e = absurd (n (ap length (same_is a b e)))
 
 -- a row's text as it stands
 module _ (s : List ℕ) (at end next : ℕ) (w : RowStands s at end next) where

@@ -6,15 +6,14 @@ use mathlib.Core.Option.{none}
 use mathlib.Core.List.{List, [], ◌∷◌}
 use lib.ListN.{length, drop}
 use Rattle.scope_graph.specs.Rows.{any_of}
-use Rattle.text_field.specs.Outcome.{Outcome, refused, done}
+use Rattle.text_field.specs.Outcome.{refused, done}
 use Rattle.text_field.proofs.Steps.{drop_end}
-use Rattle.scope_graph.specs.Agree.{Judgement}
 use Rattle.path_row.specs.declared.form.Step.{Step}
 use Rattle.path_row.specs.declared.taken.Steps.{Steps}
 use Rattle.path_row.specs.Form.{PathRow, row_here, steps_in, steps_taken, steps_held}
 use Rattle.path_row.proofs.Promises.{held_are_taken}
 use Rattle.judge.specs.declared.standing.Judged.{Judged}
-use Rattle.judge.specs.Judge.{meaning}
+use Rattle.judge.specs.Judge.{standing_in}
 use Rattle.judge.specs.Steps.{judged_row}
 use Rattle.judge.proofs.Calls.{RowRead_is}
 use Rattle.graph_table.specs.declared.rows.QueryRow.{QueryRow}
@@ -24,8 +23,8 @@ use Rattle.told.specs.Steps.{RowStands}
 use Rattle.told.proofs.RowLaws.{rows_none, rows_some}
 use Rattle.told.proofs.Printing.{ends_none}
 use Rattle.scope_graph.specs.Own.{all_of}
-use Rattle.accepting.specs.Tests.{row_visible}
-use Rattle.accepting.specs.Steps.{says_visible, visible_by, text_visible}
+use Rattle.accepting.specs.Tests.{is_visible, row_visible}
+use Rattle.accepting.specs.Steps.{visible_by, text_visible}
 
 -- the rows from a place on: none, or one and those after it
 module _ (s : List ℕ) (at : ℕ) where
@@ -74,13 +73,13 @@ module _ (cells : List ℕ) (q : QueryRow) (row : List ℕ) where
   unfolding visible_by
   text_none e = sym (ap (visible_by cells (query_on cells q)) e)
 
-  pub text_judged : (mark start count : ℕ) → RowRead_is row mark start count → (t : Steps) → t ≡ steps_held (steps_in row)
-      → (j : Judged) → meaning j ≡ done (judged_row cells q mark start (steps_taken t)) → (r : Bool) → r ≡ says_visible (meaning j)
+  pub text_judged : (mark start count : ℕ) → RowRead_is row mark start count → (t : Steps) → t ≡ steps_held (steps_in row) → (ss : List Step) → ss ≡ steps_taken t
+      → (j : Judged) → standing_in j ≡ judged_row cells q mark start ss → (r : Bool) → r ≡ is_visible (standing_in j)
       → r ≡ text_visible cells (query_on cells q) row
-  unfolding visible_by row_visible says_visible
-  text_judged mark start count w t held j e r is =
-      let same : steps_taken t ≡ steps_in row = ap steps_taken held ∙ held_are_taken (steps_in row) in
-      is ∙ ap says_visible (e ∙ ap {B = Outcome Judgement} (λ (ss : List Step). done (judged_row cells q mark start ss)) same) ∙ sym (ap (visible_by cells (query_on cells q)) w.read)
+  unfolding visible_by row_visible
+  text_judged mark start count w t held ss taken j e r is =
+      let same : ss ≡ steps_in row = taken ∙ ap steps_taken held ∙ held_are_taken (steps_in row) in
+      is ∙ ap is_visible (e ∙ ap (judged_row cells q mark start) same) ∙ sym (ap (visible_by cells (query_on cells q)) w.read)
 
   -- what the text says of its row
   pub text_tells : (r : PathRow) → row_here row ≡ done r → (b c : Bool) → b ≡ text_visible cells (query_on cells q) row → b ≡ c → row_visible cells (query_on cells q) r ≡ c

@@ -1,18 +1,16 @@
 -- The verdict for a table and for a text. Assumes nothing.
 use Prim.Native.Nat.{ℕ}
-use mathlib.Core.Path.{◌≡◌, refl, sym, ap, ◌∙◌}
+use mathlib.Core.Path.{◌≡◌, refl, sym, ap}
 use mathlib.Core.Bool.{false}
 use mathlib.Core.List.{List}
-use lib.ListN.{take}
 use Rattle.text_field.specs.Outcome.{Outcome, refused, done, and_then}
 use Rattle.text_field.proofs.ByteLaws.{clash}
 use Rattle.graph_file.specs.File.{read_cells}
-use Rattle.graph_file.proofs.TableLaws.{ReadInto}
 use Rattle.told.specs.Delivered.{Delivered}
 use Rattle.told.specs.Apart.{told_of}
 use Rattle.told.specs.Steps.{is_done}
 use Rattle.told.proofs.Promises.{no_printing}
-use Rattle.accepting.specs.Verdict.{Finding, accept_of, accept_for}
+use Rattle.accepting.specs.Verdict.{accept_of, accept_for}
 
 pub not_printed : (cells lists : List ℕ) → is_done (told_of cells lists) ≡ false → refused 10 ≡ accept_of cells lists
 unfolding accept_of and_then is_done
@@ -30,6 +28,3 @@ module _ (text lists : List ℕ) where
   pub text_read : (cells : List ℕ) → read_cells text ≡ done cells → accept_for text lists ≡ accept_of cells lists
   unfolding accept_for and_then
   text_read cells e = rw e
-
-  pub text_made : (n : ℕ) (t : List ℕ) → ReadInto text n t → (r : Outcome Finding) → r ≡ accept_of (take n t) lists → r ≡ accept_for text lists
-  text_made n t m r e = e ∙ sym (text_read (take n t) m.made)

@@ -4,18 +4,12 @@ use Rattle.std.specs.Prelude.{ℕ, ◌<◌, ◌≡◌, Bool, true, false, ◌&&�
 use Rattle.scope_graph.specs.Graph.{Query}
 use Rattle.scope_graph.specs.Rows.{language, any_of}
 use Rattle.scope_graph.specs.Computed.{Found, entries}
-use Rattle.scope_graph.specs.Agree.{Judgement}
 use Rattle.text_field.specs.Outcome.{Outcome, refused, done}
 use Rattle.graph_rows.specs.Admission.{Row, value}
 use Rattle.graph_rows.specs.Decode.{rules_of, graph_of}
 use Rattle.path_row.specs.Form.{PathRow, row_here, row_text}
 use Rattle.resolution.specs.Listing.{found_for, entries_text}
-use Rattle.accepting.specs.Tests.{same_bytes, is_visible, row_visible}
-
--- the judge's answer is that a row is visible
-unfoldable pub says_visible : Outcome Judgement → Bool
-says_visible (refused n) = false
-says_visible (done j) = is_visible j
+use Rattle.accepting.specs.Tests.{same_bytes, row_visible}
 
 -- a row's text is a path row and the judge calls it visible
 unfoldable pub visible_by : (cells : List ℕ) → Query (language (rules_of cells)) → Outcome PathRow → Bool

@@ -8,8 +8,12 @@ use Rattle.graph_file.specs.File.{read_cells}
 use Rattle.graph_rows.specs.Decode.{rules_of, queries_of}
 use Rattle.told.specs.Delivered.{Delivered}
 use Rattle.told.specs.Apart.{told_of}
+use Rattle.std.specs.declared.result.Result.{Result}
+use Rattle.std.specs.declared.result.Result.TheVariants.{Ok, Err}
+use Rattle.text_field.specs.declared.refusal.Refusal.{Refusal}
+use Rattle.text_field.specs.Refusal.{number_of}
 use Rattle.accepting.specs.declared.verdict.Verdict.{Verdict}
-use Rattle.accepting.specs.declared.verdict.Verdict.TheVariants.{Accepted, Wrong, Refused}
+use Rattle.accepting.specs.declared.verdict.Verdict.TheVariants.{Accepted, Wrong}
 use Rattle.accepting.specs.Tests.{is_right}
 
 -- all listings are right, or the number of the first query, counted from 0, whose listing is wrong
@@ -19,10 +23,10 @@ pub data Finding : Type 0 where
 
 -- what an answer means (01, "Where each language form goes"): a refusal by its number, or what was
 -- found
-unfoldable pub meaning : Verdict → Outcome Finding
-meaning Accepted = done all_right
-meaning (Wrong i) = done (wrong_at i)
-meaning (Refused n) = refused n
+unfoldable pub meaning : Result Verdict Refusal → Outcome Finding
+meaning (Ok Accepted) = done all_right
+meaning (Ok (Wrong i)) = done (wrong_at i)
+meaning (Err r) = refused (number_of r)
 
 module _ (cells : List ℕ) where
   -- the first wrong one, where the queries are numbered from i on

@@ -1,42 +1,19 @@
 // The number of rows and the word under `found`, held against the query's own entries.
-ghost use Rattle.std.specs.Prelude.{◌≡◌, ◌<◌};
-ghost use Rattle.resolution.specs.Summary.{same_found};
+ghost use Rattle.std.specs.Prelude.{◌<◌};
 ghost use Rattle.resolution.specs.Asked.{Ready, query_in, found_meaning};
 ghost use Rattle.accepting.specs.Steps.{CountTold};
 
+use block::{ASKSIZE, SIZE};
 use follow::Bounds;
 use resolution::{Found, found_by, take_entries};
-
-// Is it the same word?
-fn same_found(a: Found, b: Found) -> bool
-    ensures answer { result ≡ same_found (found_meaning a) (found_meaning b) }
-{
-    match a {
-        Found::None => match b {
-            Found::None => true,
-            Found::One => false,
-            Found::Several => false,
-        },
-        Found::One => match b {
-            Found::None => false,
-            Found::One => true,
-            Found::Several => false,
-        },
-        Found::Several => match b {
-            Found::None => false,
-            Found::One => false,
-            Found::Several => true,
-        },
-    }
-}
 
 // Has the query so many entries, and is this its word? One walk counts them and tells the word. It
 // ends soon after our own rows have more bytes than the delivered ones: these are then not all of
 // them.
 pub(crate) fn count_right(
     table: &[u64],
-    block: &[u64],
-    ask: &[u64],
+    block: &[u64; SIZE],
+    ask: &[u64; ASKSIZE],
     found: Found,
     count: usize,
     bytes: usize,
@@ -52,11 +29,8 @@ pub(crate) fn count_right(
         most: count as u64 + 1,
     };
     let t = take_entries(table, block, ask, bounds, &mut none, 0);
-    if t.over {
+    if t.over || t.entries != count as u64 {
         return false;
     }
-    if t.entries != count as u64 {
-        return false;
-    }
-    same_found(found_by(table, block, ask, bounds, t), found)
+    found_by(table, block, ask, bounds, t) == found
 }

@@ -13,37 +13,32 @@ use crate::opens::may_await;
 use crate::repeats::all_different;
 use crate::rows::all_visible;
 use crate::verdict::Verdict;
+use block::SIZE;
 use graph_table::{QueryRow, form_of};
 use resolution::{ask_of, query_at, query_count};
-use told::{Listing, ListingRead, read_listing};
-
-// Refusal 10: the listings have not the printed form, or not one stands there for each query.
-pub(crate) const NO_PRINTING: u64 = 10;
+use text_field::Refusal;
+use told::{Listing, read_listing};
 
 // Is the listing right for the query? `awaits`, which can take long, is tested last.
-fn list_right(table: &[u64], block: &[u64], q: QueryRow, lists: &[u8], l: Listing) -> bool
+fn list_right(table: &[u64], block: &[u64; SIZE], q: QueryRow, lists: &[u8], l: Listing) -> bool
     requires asked { Asked table.now (query_on table.now q) }
     requires made { Made table.now block.now }
     requires span { RowsSpan lists.now l.first l.count l.next }
     ensures answer { result ≡ is_right table.now (query_on table.now q) (listing_at lists.now l) }
 {
-    let found = l.found;
-    let awaits = l.awaits;
     let ask = ask_of(table, block, q);
-    if !count_right(table, block, &ask, found, l.count, l.next - l.first) {
-        return false;
-    }
-    if !all_visible(table, block, q, lists, l.first) {
-        return false;
-    }
-    if !all_different(lists, l.first, l.count) {
-        return false;
-    }
-    may_await(table, block, &ask, awaits)
+    count_right(table, block, &ask, l.found, l.count, l.next - l.first)
+        && all_visible(table, block, q, lists, l.first)
+        && all_different(lists, l.first, l.count)
+        && may_await(table, block, &ask, l.awaits)
 }
 
 // The verdict on listings of the printed form: the first wrong one tells.
-pub(crate) fn first_wrong(table: &[u64], block: &[u64], lists: &[u8]) -> Verdict
+pub(crate) fn first_wrong(
+    table: &[u64],
+    block: &[u64; SIZE],
+    lists: &[u8],
+) -> Result<Verdict, Refusal>
     requires read { WasRead table.now }
     requires made { Made table.now block.now }
     requires form { is_done (told_of table.now lists.now) ≡ true }
@@ -52,17 +47,15 @@ pub(crate) fn first_wrong(table: &[u64], block: &[u64], lists: &[u8]) -> Verdict
     let form = form_of(table);
     let count = query_count(table, block);
     let mut at: usize = 0;
-    let mut i: usize = 0;
-    while i < count {
+    for i in 0..count {
         let q = query_at(table, block, i);
-        let ListingRead::Read(l) = read_listing(form, q, lists, at) else {
-            return Verdict::Refused(NO_PRINTING);
+        let Some(l) = read_listing(form, q, lists, at) else {
+            return Err(Refusal::NoPrinting);
         };
         if !list_right(table, block, q, lists, l) {
-            return Verdict::Wrong(i);
+            return Ok(Verdict::Wrong(i));
         }
         at = l.next;
-        i += 1;
     }
-    Verdict::Accepted
+    Ok(Verdict::Accepted)
 }

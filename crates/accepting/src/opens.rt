@@ -5,24 +5,21 @@ ghost use Rattle.scope_graph.specs.Order.{end_of};
 ghost use Rattle.scope_graph.specs.Computed.{followed_at, awaits};
 ghost use Rattle.graph_rows.specs.Decode.{rules_of, graph_of, opens_of};
 ghost use Rattle.graph_table.specs.Sections.{rows_of};
-ghost use Rattle.block.specs.Layout.{IsBlock};
 ghost use Rattle.comparison.specs.Letters.{block_letters};
 ghost use Rattle.resolution.specs.Asked.{Ready, query_in};
 ghost use Rattle.told.specs.Steps.{named_meaning};
 ghost use Rattle.accepting.specs.Tests.{end_named, is_settled, is_open, may_await};
 ghost use Rattle.accepting.specs.Steps.{has_open};
 
-use block::{ask_goal, ask_start};
+use block::{ASKSIZE, SIZE, ask_goal, ask_start};
 use board::part;
 use comparison::label_number;
 use graph_table::{OPENS, ROW, open_row};
-use resolution::{Awaits, awaits_of, away_from, pair_followed};
-use told::Awaited;
+use resolution::{awaits_of, away_from, pair_followed};
 
 // The number of an end by its byte: 0 for `$`, n + 1 for label n. A letter that is not listed has a
 // number that no open row has.
-fn end_number(block: &[u64], x: u8) -> u64
-    requires block { IsBlock block.now }
+fn end_number(block: &[u64; SIZE], x: u8) -> u64
     ensures answer { end_of result ≡ end_named (block_letters block.now) x }
 {
     if x == b'$' {
@@ -35,14 +32,9 @@ fn end_number(block: &[u64], x: u8) -> u64
 fn is_open(opens: &[u64], at: u64, end: u64) -> bool
     ensures answer { result ≡ has_open at end (rows_of opens.now) }
 {
-    let mut p: usize = 0;
-    while ROW <= opens.len() - p {
-        let row = open_row(opens, p);
-        p += ROW;
-        if row.at != at {
-            continue;
-        }
-        if row.end == end {
+    for row in opens.chunks_exact(ROW) {
+        let row = open_row(row, 0);
+        if row.at == at && row.end == end {
             return true;
         }
     }
@@ -50,7 +42,7 @@ fn is_open(opens: &[u64], at: u64, end: u64) -> bool
 }
 
 // Is the pair open and followed, and so decisive?
-fn is_decisive(table: &[u64], block: &[u64], ask: &[u64], at: u64, end: u64) -> bool
+fn is_decisive(table: &[u64], block: &[u64; SIZE], ask: &[u64; ASKSIZE], at: u64, end: u64) -> bool
     requires ready { Ready table.now block.now ask.now }
     ensures answer { result ≡ (is_open table.now (record { at = at; end = end_of end }) && followed_at (language (rules_of table.now)) (graph_of table.now) (query_in table.now ask.now) (record { at = at; end = end_of end })) }
 {
@@ -64,24 +56,25 @@ fn is_decisive(table: &[u64], block: &[u64], ask: &[u64], at: u64, end: u64) -> 
 }
 
 // Is nothing awaited, and so the query settled?
-fn is_settled(table: &[u64], block: &[u64], ask: &[u64]) -> bool
+fn is_settled(table: &[u64], block: &[u64; SIZE], ask: &[u64; ASKSIZE]) -> bool
     requires ready { Ready table.now block.now ask.now }
     ensures answer { result ≡ is_settled table.now (awaits (language (rules_of table.now)) (graph_of table.now) (query_in table.now ask.now) (opens_of table.now)) }
 {
-    let a = awaits_of(table, block, ask);
-    match a {
-        Awaits::Settled => true,
-        Awaits::Pair(_, _) => false,
-    }
+    awaits_of(table, block, ask).is_none()
 }
 
-// May it stand under `awaits`: `-` if the query is settled, else any decisive pair?
-pub(crate) fn may_await(table: &[u64], block: &[u64], ask: &[u64], a: Awaited) -> bool
+// May it stand under `awaits`: `-` (none) if the query is settled, else any decisive pair?
+pub(crate) fn may_await(
+    table: &[u64],
+    block: &[u64; SIZE],
+    ask: &[u64; ASKSIZE],
+    a: Option<(u64, u8)>,
+) -> bool
     requires ready { Ready table.now block.now ask.now }
     ensures answer { result ≡ may_await table.now (query_in table.now ask.now) (named_meaning a) }
 {
     match a {
-        Awaited::Dash => is_settled(table, block, ask),
-        Awaited::Named(at, x) => is_decisive(table, block, ask, at, end_number(block, x)),
+        None => is_settled(table, block, ask),
+        Some((at, x)) => is_decisive(table, block, ask, at, end_number(block, x)),
     }
 }

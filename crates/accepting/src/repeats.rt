@@ -2,12 +2,12 @@
 // alone in its class is compared with no other.
 ghost use Rattle.std.specs.Prelude.{◌≡◌, true, ◌≤◌, ◌<◌, get_or, drop};
 ghost use Rattle.told.specs.Apart.{rows_in};
-ghost use Rattle.accepting.specs.Tests.{same_bytes, none_twice};
+ghost use Rattle.accepting.specs.Tests.{none_twice};
 ghost use Rattle.accepting.specs.Steps.{text_among};
 ghost use Rattle.accepting.specs.Classes.{class_of, raised, class_counts, Tells};
 
-use text_field::byte_at;
-use told::{RowPlace, row_at};
+use text_field::get_or;
+use told::row_at;
 
 // How many classes there are: so many that of some thousand rows few share one.
 const CLASSES: usize = 65536;
@@ -21,33 +21,13 @@ const FEW: usize = 32;
 // A class with two rows or more; those beyond two are not counted.
 const SHARED: u8 = 2;
 
-// Are the bytes the same?
-fn same(a: &[u8], b: &[u8]) -> bool
-    ensures answer { result ≡ same_bytes a.now b.now }
-{
-    if a.len() != b.len() {
-        return false;
-    }
-    let mut i: usize = 0;
-    while i < a.len() {
-        if a[i] != b[i] {
-            return false;
-        }
-        i += 1;
-    }
-    true
-}
-
 // Does the row stand among those from a place of the text on?
 fn is_among(row: &[u8], lists: &[u8], from: usize) -> bool
     ensures answer { result ≡ text_among row.now (rows_in (drop from lists.now)).0 }
 {
     let mut at = from;
-    while at < lists.len() {
-        let RowPlace::Row(end, next) = row_at(lists, at) else {
-            return false;
-        };
-        if same(row, &lists[at..end]) {
+    while let Some((end, next)) = row_at(lists, at) {
+        if row == &lists[at..end] {
             return true;
         }
         at = next;
@@ -61,10 +41,8 @@ fn class_of(row: &[u8]) -> usize
     ensures below { result < 65536 }
 {
     let mut class: usize = 0;
-    let mut i: usize = 0;
-    while i < row.len() {
-        class = (class * FACTOR + row[i] as usize) % CLASSES;
-        i += 1;
+    for &x in row {
+        class = (class * FACTOR + x as usize) % CLASSES;
     }
     class
 }
@@ -84,26 +62,20 @@ fn count_classes(lists: &[u8], first: usize, counts: &mut [u8; CLASSES])
     ensures counted { counts.new ≡ class_counts counts.old (rows_in (drop first lists.now)).0 }
 {
     let mut at = first;
-    while at < lists.len() {
-        let RowPlace::Row(end, next) = row_at(lists, at) else {
-            return;
-        };
+    while let Some((end, next)) = row_at(lists, at) {
         let class = class_of(&lists[at..end]);
         counts[class] = one_more(counts[class]);
         at = next;
     }
 }
 
-// Does the row stand among those from a place of the text on? Only a row in a shared class is looked
-// for.
+// Does the row stand among those from a place of the text on? Only a row in a shared class is
+// looked for.
 fn stands_again(row: &[u8], lists: &[u8], from: usize, counts: &[u8]) -> bool
     requires shared { text_among row.now (rows_in (drop from lists.now)).0 ≡ true → 2 ≤ get_or counts.now (class_of row.now) 2 }
     ensures answer { result ≡ text_among row.now (rows_in (drop from lists.now)).0 }
 {
-    if byte_at(counts, class_of(row), SHARED) < SHARED {
-        return false;
-    }
-    is_among(row, lists, from)
+    get_or(counts, class_of(row), SHARED) >= SHARED && is_among(row, lists, from)
 }
 
 // Is no row from a place of the text on repeated? The counts tell which rows share their class.
@@ -112,10 +84,7 @@ fn none_again(lists: &[u8], first: usize, counts: &[u8]) -> bool
     ensures answer { result ≡ none_twice (rows_in (drop first lists.now)).0 }
 {
     let mut at = first;
-    while at < lists.len() {
-        let RowPlace::Row(end, next) = row_at(lists, at) else {
-            return true;
-        };
+    while let Some((end, next)) = row_at(lists, at) {
         if stands_again(&lists[at..end], lists, next, counts) {
             return false;
         }

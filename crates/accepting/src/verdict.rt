@@ -1,8 +1,7 @@
-// All listings are right; or the number of the first query, counted from 0, whose listing is wrong;
-// or the refusal's number.
+// All listings are right; or the number of the first query, counted from 0, whose listing is wrong.
+// No Option: `None` for listings that are right would read as if nothing had been told.
 #[derive(Clone, Copy)]
 pub enum Verdict {
     Accepted,
     Wrong(usize),
-    Refused(u64),
 }

@@ -5,13 +5,12 @@ use mathlib.Core.Bool.{Bool, true, false}
 use mathlib.Core.List.{List}
 use borrow.Author.Tests.{lt-leb, le-leb}
 use lib.Dec.{leb}
-use lib.ListN.{length, take}
+use lib.ListN.{length}
 use Rattle.text_field.specs.Outcome.{Outcome, refused, done, and_then, refuse_if}
 use Rattle.text_field.specs.Answer.{answer}
 use Rattle.text_field.proofs.OutcomeLaws.{not_done}
 use Rattle.graph_file.specs.File.{read_cells}
 use Rattle.graph_rows.specs.Decode.{queries_of}
-use Rattle.graph_file.proofs.TableLaws.{ReadInto}
 use Rattle.block.specs.Block.{scopes_cell}
 use Rattle.block.specs.Ask.{ask_start, ask_goal}
 use Rattle.search.specs.Conditions.{free_at}
@@ -34,16 +33,6 @@ module _ (cells : List ℕ) (i : ℕ) where
       → (n : ℕ) → n ≡ capped (length (places_behind block (ask_goal ask) (scopes_cell block) (free_at (ask_start ask)) (ask_start ask) 0)) → done n ≡ count_of cells i
   unfolding count_of refuse_if
   a_query h block ask ready e n told = rw (lt-leb (length (queries_of cells)) i h) (ap done (told ∙ count_of_lem cells block ask ready i e))
-
--- over a text: it was refused, or read
-module _ (text : List ℕ) (i : ℕ) where
-  pub text_refused : (n : ℕ) → read_cells text ≡ refused n → refused n ≡ count_for text i
-  unfolding count_for and_then
-  text_refused n e = rw e
-
-  pub text_counted : (n : ℕ) (t : List ℕ) → ReadInto text n t → (o : Outcome ℕ) → o ≡ count_of (take n t) i → o ≡ count_for text i
-  unfolding count_for and_then
-  text_counted n t m o e = rw m.made e
 
 -- the number lent for the count stays, or holds it
 module _ (lent : ℕ) where

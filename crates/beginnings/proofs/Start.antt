@@ -65,19 +65,6 @@ scopes_first n t few = at (Two (ltb t 64)) (Two (ltb t n))
         let k : t < n = ltb-true t n f in absurd (omega arith)
     at (inr e) (inr f) = let h : 64 ≤ t = ltb-false t 64 e in scope_past (ALL_SCOPES / 2 ^ (64 - n)) t h ∙ sym f
 
--- the next states are the first 128 cells
-pub next_first : (block : List ℕ) → next_cell (take 128 block) ≡ next_cell block
-next_first block = fun_ext (λ q. fun_ext (λ l. at q l (Two (ltb q 16)) (Two (ltb l 8))))
-  where
-    at : (q l : ℕ) → (ltb q 16 ≡ true) ⊎ (ltb q 16 ≡ false) → (ltb l 8 ≡ true) ⊎ (ltb l 8 ≡ false)
-        → next_cell (take 128 block) q l ≡ next_cell block q l
-    at q l (inl e) (inl f) =
-        let h : q < 16 = ltb-true q 16 e in
-        let k : l < 8 = ltb-true l 8 f in
-        next_in_lem (take 128 block) q l h k ∙ get_or-take 128 block (DELTA + (q * 8 + l)) 16 (omega arith) ∙ sym (next_in_lem block q l h k)
-    at q l (inr e) f = let h : 16 ≤ q = ltb-false q 16 e in next_no_state (take 128 block) q l h ∙ sym (next_no_state block q l h)
-    at q l (inl e) (inr f) = let h : 8 ≤ l = ltb-false l 8 f in next_no_label (take 128 block) q l h ∙ sym (next_no_label block q l h)
-
 -- what is asked for only matters at scopes of the tables
 module _ (block : List ℕ) (goal : ℕ) (seek part : ℕ → ℕ → Bool) (same : (s q : ℕ) → s < 64 → seek s q ≡ part s q) where
   abbrev b : Board Turned

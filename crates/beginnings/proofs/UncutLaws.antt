@@ -7,15 +7,18 @@ use mathlib.Core.Bool.{Bool, true, false, ◌&&◌, and-false, false≢true}
 use mathlib.Core.Option.{Option, some, none}
 use mathlib.Core.List.{List}
 use native.Mathlib.Omega.{arith}
-use borrow.Author.Tests.{ltb-true, ltb-false, eqb-true, eqb-false}
+use borrow.Author.Tests.{ltb-true, ltb-false}
 use lib.Dec.{eqb, ltb}
-use lib.ListN.{get_or}
+use lib.ListN.{get_or, take, drop, length, length-drop}
+use lib.Seq.{length-take-le}
+use Rattle.std.specs.List.{AllWithin}
+use Rattle.std.proofs.lemmas.List.Edits.{get_or-between}
 use Rattle.scope_graph.specs.Language.{◌∈◌, stop, by}
 use Rattle.scope_graph.specs.Path.{HopOf}
 use Rattle.scope_graph.specs.Turns.{Turned, later, later_step}
 use Rattle.scope_graph.proofs.Lists.{Two}
 use Rattle.block.specs.Sets.{has_bit}
-use Rattle.block.specs.Layout.{BETTER}
+use Rattle.block.specs.Layout.{BETTER, IsBlock}
 use Rattle.block.specs.Block.{Bounds, turn_cell, turn_of, edge_cell, hop_of, pair_flag, block_hops, accept_set}
 use Rattle.block.proofs.SetLaws.{bits_none, places_none}
 use Rattle.block.proofs.BlockLaws.{pair_no_second, hops_scope}
@@ -35,14 +38,16 @@ unordered_at block c h e a = sym (better_is block c h a) ∙ ap (λ (x : ℕ). h
 abbrev pub UnorderedTo : List ℕ → ℕ → Type 0
 UnorderedTo block k = (a c : ℕ) → c < k → pair_flag block a c ≡ false
 
-pub unordered_more : (block : List ℕ) (k : ℕ) → k < 9 → get_or block (BETTER + k) 0 % 512 ≡ 0 → UnorderedTo block k → UnorderedTo block (k + 1)
-unordered_more block k h e so a c m =
-    ⊎_elim (λ y. let is : c ≡ k = eqb-true c k y in rw is (unordered_at block k h e a))
-    (λ y. let other : c ≡ k → ⊥ = eqb-false c k y in so a c (omega arith)) (Two (eqb c k))
-
 pub unordered_all : (block : List ℕ) (k : ℕ) → 9 ≤ k → UnorderedTo block k → (a c : ℕ) → pair_flag block a c ≡ false
 unordered_all block k h so a c =
     ⊎_elim (λ y. let m : c < 9 = ltb-true c 9 y in so a c (omega arith)) (λ y. pair_no_second block a c (ltb-false c 9 y)) (Two (ltb c 9))
+
+-- as code goes through the cells of the order
+pub unordered_cells : (block : List ℕ) → IsBlock block → AllWithin (λ x. x % 512 ≡ 0) (take 9 (drop BETTER block)) 0 (length (take 9 (drop BETTER block)))
+    → (a c : ℕ) → pair_flag block a c ≡ false
+unordered_cells block size h =
+    let n : length (take 9 (drop BETTER block)) ≡ 9 = length-take-le 9 (drop BETTER block) (omega (arith, length-drop BETTER block)) in
+    unordered_all block 9 (omega arith) (λ a c m. unordered_at block c m (sym (ap (λ x. x % 512) (get_or-between block BETTER (BETTER + 9) c 0 (omega arith))) ∙ h c 0 (omega arith) (omega arith)) a)
 
 -- what is sought is nowhere
 module _ (block : List ℕ) where

@@ -1,14 +1,7 @@
--- How the code holds a count, and what a host's number holds after a listing that it comes beside
--- (02, K11). Assumes nothing: these are definitions.
+-- What a host's number holds after a listing that a count comes beside (02, K11). Assumes nothing:
+-- these are definitions.
 use Rattle.std.specs.Prelude.{ℕ}
 use Rattle.text_field.specs.Outcome.{Outcome, refused, done}
-use Rattle.beginnings.specs.declared.counts.Counted.{Counted}
-use Rattle.beginnings.specs.declared.counts.Counted.TheVariants.{Refused, Count}
-
--- a refusal by its number, or the count
-unfoldable pub counted_of : Counted → Outcome ℕ
-counted_of (Refused n) = refused n
-counted_of (Count n) = done n
 
 -- What the number lent for the count holds afterwards, by the listing's answer: the count where the
 -- listing was written; after a refusal, what it held.

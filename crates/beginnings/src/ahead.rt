@@ -36,8 +36,7 @@ pub(crate) fn ahead(near: &[u64], start: u64, width: u64) -> [u64; 64]
     let mut beyond: u64 = 0;
     let mut done: u64 = 0;
     let mut left: u64 = 0;
-    let mut i: u64 = 0;
-    while i < 64 {
+    for i in 0..64 {
         layer = at_hand(layer, beyond, done);
         if layer == 0 {
             return out;
@@ -48,22 +47,6 @@ pub(crate) fn ahead(near: &[u64], start: u64, width: u64) -> [u64; 64]
         beyond = beyond | near[u as usize];
         done = done | single(u);
         layer = taken(layer, u);
-        i += 1;
     }
     out
-}
-
-// Is some neighbour of some scope left out?
-pub(crate) fn leaves_out(near: &[u64], fewer: &[u64]) -> bool
-    requires near { length near.now ≡ 64 }
-    requires fewer { length fewer.now ≡ 64 }
-{
-    let mut s: usize = 0;
-    while s < 64 {
-        if near[s] != fewer[s] {
-            return true;
-        }
-        s += 1;
-    }
-    false
 }

@@ -11,7 +11,7 @@ mod plain;
 mod uncut;
 mod whole;
 
-pub use counts::{Counted, count, listing_counted};
+pub use counts::{count, listing_counted};
 
 // No count is above this.
 pub const MOST: u64 = 1000000000;

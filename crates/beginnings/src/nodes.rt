@@ -1,10 +1,9 @@
 // How many places are followed from a node on: two functions that call each other, one for a node,
 // one for its edges.
 ghost use Rattle.std.specs.Prelude.{◌≡◌, ℕ, suc, ◌+◌, ◌≤◌, ◌<◌, length};
-ghost use Rattle.block.specs.Layout.{IsBlock};
 ghost use Rattle.block.specs.Sets.{has_scope};
 ghost use Rattle.block.specs.Block.{Bounds};
-ghost use Rattle.block.specs.Ask.{IsAsk, ask_goal};
+ghost use Rattle.block.specs.Ask.{ask_goal};
 ghost use Rattle.search.specs.Conditions.{Inside, LiveAt, WorthAt, Known};
 ghost use Rattle.follow.specs.Steps.{FollowedEdge};
 ghost use Rattle.beginnings.specs.Beginnings.{MOST, capped};
@@ -14,7 +13,7 @@ ghost use Rattle.beginnings.specs.Steps.{ALL_SCOPES, Few, Tells, own_place, behi
 use crate::MOST;
 use crate::memo::{look_up, slot_of, store};
 use crate::near::flood;
-use block::{edge_at, edges_end, has_state};
+use block::{ASKSIZE, SIZE, edge_at, edges_end, has_state};
 use follow::{first_followed, next_followed};
 use search::{ALL_LABELS, NOTHING_KNOWN, Node, entered, worth};
 
@@ -45,17 +44,15 @@ fn added(so: u64, more: u64) -> u64
 // to from it, so the others are let go first, and what was counted with these is looked up.
 #[cycle(count_at_count_from)]
 pub fn count_at(
-    block: &[u64],
-    ask: &[u64],
+    block: &[u64; SIZE],
+    ask: &[u64; ASKSIZE],
     onward: &[u64],
     near: &[u64],
     hopes: u64,
     node: Node,
     memo: &mut [u64],
 ) -> u64
-    requires block { IsBlock block.now }
     requires bounds { Bounds block.now }
-    requires ask { IsAsk ask.now }
     requires live { LiveAt block.now (ask_goal ask.now) (has_scope node.free) ask.now }
     requires table { 64 ≤ length onward.now }
     requires worth { WorthAt block.now (ask_goal ask.now) ALL_SCOPES (hopes_in block.now) (has_scope node.free) onward.now }
@@ -94,8 +91,8 @@ pub fn count_at(
 // counted before. Once the most is counted nothing more matters.
 #[cycle(count_at_count_from)]
 fn count_from(
-    block: &[u64],
-    ask: &[u64],
+    block: &[u64; SIZE],
+    ask: &[u64; ASKSIZE],
     onward: &[u64],
     near: &[u64],
     hopes: u64,
@@ -105,9 +102,7 @@ fn count_from(
     so: u64,
     memo: &mut [u64],
 ) -> u64
-    requires block { IsBlock block.now }
     requires bounds { Bounds block.now }
-    requires ask { IsAsk ask.now }
     requires live { LiveAt block.now (ask_goal ask.now) (has_scope node.free) ask.now }
     requires table { 64 ≤ length onward.now }
     requires worth { WorthAt block.now (ask_goal ask.now) ALL_SCOPES (hopes_in block.now) (has_scope node.free) onward.now }

@@ -1,12 +1,12 @@
 // The plain walk over the beginnings, one by one and with no memo: most queries have few.
 ghost use Rattle.std.specs.Prelude.{◌≡◌, ◌≤◌, ◌<◌, length};
-ghost use Rattle.block.specs.Layout.{IsBlock};
 ghost use Rattle.block.specs.Block.{Bounds as BlockBounds, scopes_cell};
-ghost use Rattle.block.specs.Ask.{IsAsk, ask_start, ask_goal};
+ghost use Rattle.block.specs.Ask.{ask_start, ask_goal};
 ghost use Rattle.search.specs.Conditions.{free_at, LiveAt, WorthAt};
 ghost use Rattle.beginnings.specs.Tables.{hopes_in, places_behind};
 ghost use Rattle.beginnings.specs.Steps.{ALL_SCOPES, ENOUGH};
 
+use block::{ASKSIZE, SIZE};
 use follow::{Aim, Bounds, Seen, Tally, Task, walk};
 use search::ALL;
 
@@ -17,10 +17,8 @@ pub const ENOUGH: u64 = 512;
 const PAST_ENDS: u64 = 9;
 
 // How many beginnings the query has, if they are fewer than enough; else as many as enough.
-pub fn counted_few(block: &[u64], ask: &[u64], onward: &[u64], hopes: u64) -> u64
-    requires block { IsBlock block.now }
+pub fn counted_few(block: &[u64; SIZE], ask: &[u64; ASKSIZE], onward: &[u64], hopes: u64) -> u64
     requires bounds { BlockBounds block.now }
-    requires ask { IsAsk ask.now }
     requires start { ask_start ask.now < 64 }
     requires scopes { scopes_cell block.now ≤ 64 }
     requires live { LiveAt block.now (ask_goal ask.now) (free_at (ask_start ask.now)) ask.now }

@@ -1,22 +1,21 @@
 // The count from a query's start.
 ghost use Rattle.std.specs.Prelude.{◌≡◌, true, ℕ, suc, ◌≤◌, ◌<◌, ltb, length};
-ghost use Rattle.block.specs.Layout.{IsBlock};
 ghost use Rattle.block.specs.Sets.{has_scope};
 ghost use Rattle.block.specs.Block.{Bounds, scopes_cell};
-ghost use Rattle.block.specs.Ask.{IsAsk, ask_start, ask_goal};
+ghost use Rattle.block.specs.Ask.{ask_start, ask_goal};
 ghost use Rattle.search.specs.Conditions.{free_at, Inside, LiveAt, WorthAt};
 ghost use Rattle.beginnings.specs.Beginnings.{MOST, capped};
 ghost use Rattle.beginnings.specs.Tables.{hopes_in, places_behind, InScopes};
 ghost use Rattle.beginnings.specs.Steps.{ALL_SCOPES, Few, Uncut, Tells, behind};
 
 use crate::MOST;
-use crate::ahead::{ahead, leaves_out};
+use crate::ahead::ahead;
 use crate::memo::CELLS;
 use crate::near::near_table;
 use crate::nodes::count_at;
 use crate::plain::{ENOUGH, counted_few};
 use crate::uncut::is_uncut;
-use block::{BETTER, accept_set, ask_goal, ask_start, scope_count, taken};
+use block::{ASKSIZE, SIZE, ask_goal, ask_start, scope_count, taken};
 use board::hopeful;
 use search::{ALL, Node, live_table};
 
@@ -29,20 +28,23 @@ fn first_scopes(n: u64) -> u64
     ALL >> (64 - n)
 }
 
-// The states from which transitions alone lead to acceptance. The next states are the block's first
-// cells, up to those of the order.
-fn hopes_of(block: &[u64]) -> u64
-    requires block { IsBlock block.now }
+// The states from which transitions alone lead to acceptance.
+fn hopes_of(block: &[u64; SIZE]) -> u64
     ensures answer { result ≡ hopes_in block.now }
 {
-    hopeful(&block[..BETTER], accept_set(block))
+    hopeful(block)
 }
 
 // The places from a node on, with an empty memo.
-fn count_by(block: &[u64], ask: &[u64], onward: &[u64], near: &[u64], hopes: u64, node: Node) -> u64
-    requires block { IsBlock block.now }
+fn count_by(
+    block: &[u64; SIZE],
+    ask: &[u64; ASKSIZE],
+    onward: &[u64],
+    near: &[u64],
+    hopes: u64,
+    node: Node,
+) -> u64
     requires bounds { Bounds block.now }
-    requires ask { IsAsk ask.now }
     requires live { LiveAt block.now (ask_goal ask.now) (has_scope node.free) ask.now }
     requires table { 64 ≤ length onward.now }
     requires worth { WorthAt block.now (ask_goal ask.now) ALL_SCOPES (hopes_in block.now) (has_scope node.free) onward.now }
@@ -65,16 +67,14 @@ const WIDE: u64 = 52;
 // Does counting in stages come to the most that is counted? Stages that leave nothing out are not
 // tried: all is counted as soon.
 fn comes_to_most(
-    block: &[u64],
-    ask: &[u64],
+    block: &[u64; SIZE],
+    ask: &[u64; ASKSIZE],
     onward: &[u64],
     near: &[u64],
     hopes: u64,
     node: Node,
 ) -> bool
-    requires block { IsBlock block.now }
     requires bounds { Bounds block.now }
-    requires ask { IsAsk ask.now }
     requires live { LiveAt block.now (ask_goal ask.now) (has_scope node.free) ask.now }
     requires table { 64 ≤ length onward.now }
     requires worth { WorthAt block.now (ask_goal ask.now) ALL_SCOPES (hopes_in block.now) (has_scope node.free) onward.now }
@@ -88,7 +88,7 @@ fn comes_to_most(
     let mut width = NARROW;
     while width < WIDE {
         let fewer = ahead(near, node.scope, width);
-        if !leaves_out(near, &fewer) {
+        if near == fewer.as_slice() {
             return false;
         }
         if MOST <= count_by(block, ask, onward, &fewer, hopes, node) {
@@ -101,10 +101,8 @@ fn comes_to_most(
 
 // The number of the query's beginnings, however many. Where no step is cut it is first tried to
 // come to the most in stages, since counting all the others may take long.
-fn count_all(block: &[u64], ask: &[u64], onward: &[u64], hopes: u64) -> u64
-    requires block { IsBlock block.now }
+fn count_all(block: &[u64; SIZE], ask: &[u64; ASKSIZE], onward: &[u64], hopes: u64) -> u64
     requires bounds { Bounds block.now }
-    requires ask { IsAsk ask.now }
     requires live { LiveAt block.now (ask_goal ask.now) (free_at (ask_start ask.now)) ask.now }
     requires start { ask_start ask.now < scopes_cell block.now }
     requires scopes { scopes_cell block.now ≤ 64 }
@@ -123,20 +121,16 @@ fn count_all(block: &[u64], ask: &[u64], onward: &[u64], hopes: u64) -> u64
         state: 0,
     };
     let near = near_table(block);
-    if is_uncut(block, ask) {
-        if comes_to_most(block, ask, onward, &near, hopes, node) {
-            return MOST;
-        }
+    if is_uncut(block, ask) && comes_to_most(block, ask, onward, &near, hopes, node) {
+        return MOST;
     }
     count_by(block, ask, onward, &near, hopes, node)
 }
 
 // The number of the query's beginnings, over its board. They are walked over first, up to a bound,
 // since most queries have few, and a memo costs more than these.
-pub fn count_on(block: &[u64], ask: &[u64]) -> u64
-    requires block { IsBlock block.now }
+pub fn count_on(block: &[u64; SIZE], ask: &[u64; ASKSIZE]) -> u64
     requires bounds { Bounds block.now }
-    requires ask { IsAsk ask.now }
     requires live { LiveAt block.now (ask_goal ask.now) (free_at (ask_start ask.now)) ask.now }
     requires start { ask_start ask.now < scopes_cell block.now }
     requires scopes { scopes_cell block.now ≤ 64 }

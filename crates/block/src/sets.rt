@@ -30,5 +30,5 @@ pub fn single(s: u64) -> u64
 pub fn has_state(set: u64, q: u64) -> bool
     ensures answer { result ≡ has_state set q }
 {
-    if q < 16 { (set >> q) % 2 == 1 } else { false }
+    q < 16 && (set >> q) % 2 == 1
 }

@@ -1,11 +1,15 @@
 -- Laws of parts of a block: what is written, what is kept. Assumes nothing.
-use mathlib.Core.Path.{◌≡◌, refl, ap, ◌∙◌}
+use mathlib.Core.Path.{◌≡◌, refl, sym, ap, ◌∙◌}
+use mathlib.Core.Logic.{⊎_elim}
 use mathlib.Core.List.{List, [], ◌∷◌}
-use Prim.Native.Nat.{ℕ, zero, suc, ◌+◌, ◌≤◌, ◌<◌}
+use Prim.Native.Nat.{ℕ, zero, suc, ◌+◌, ◌-◌, ◌≤◌, ◌<◌}
 use native.Mathlib.Omega.{arith}
-use native.Mathlib.Numerals.{add-one}
-use lib.ListN.{length, get_or, set, drop, length-set, drop_of_length-le}
-use lib.Seq.{get_or-set_same, get_or-set_other, drop-cons}
+use lib.ListN.{length, get_or, set, length-set}
+use lib.Seq.{get_or-set_same, get_or-set_other, ext_get_or}
+use borrow.Author.Rules.{rules}
+use borrow.Rule.Slice.PartMut.{put_mid}
+use Rattle.std.proofs.lemmas.List.{places}
+use Rattle.graph_table.proofs.Tests.{below_or}
 use Rattle.block.specs.Layout.{HINT, SIZE}
 use Rattle.board.specs.Cells.{puts, Only, HINTS, HintsOnly}
 
@@ -63,33 +67,31 @@ module _ (at n : ℕ) where
     behind = λ j m. puts_behind xs b i j (omega arith);
   }
 
--- the cells as they are put one after the other: what is left, put from here on, gives the whole
-pub record Putting (old : List ℕ) (at : ℕ) (xs block : List ℕ) (i : ℕ) : Type 0 where
-  pub size : length block ≡ length old
-  pub within : i ≤ length xs
-  pub rest : puts block (at + i) (drop i xs) ≡ puts old at xs
+-- cells copied to a part of the block are put there
+puts_part : (b : List ℕ) (at n : ℕ) (xs : List ℕ) → length xs ≡ n → at + n ≤ length b → put_mid at n b xs ≡ puts b at xs
+puts_part b at n xs size fits =
+    ext_get_or 0 (put_mid at n b xs) (puts b at xs) (whole ∙ sym (puts_size xs b at))
+    (λ j h.
+    ⊎_elim
+    (λ (k : j < at). search (rules, places) ∙ sym (puts_before xs b at j k))
+    (λ (k : at ≤ j).
+    ⊎_elim
+    (λ (m : j < at + n). let here : at + (j - at) ≡ j = omega arith in inside j k m ∙ sym (rw here at (puts_at xs b at (j - at) (omega arith) (omega arith))))
+    (λ (m : at + n ≤ j). behind j m ∙ sym (puts_behind xs b at j (omega arith)))
+    (below_or j (at + n)))
+    (below_or j at))
+  where
+    whole : length (put_mid at n b xs) ≡ length b
+    whole = search (rules, places)
 
-pub putting_none : (old : List ℕ) (at : ℕ) (xs : List ℕ) → Putting old at xs old 0
-putting_none old at xs =
-    let here : at + 0 ≡ at = omega arith in
-    record { size = refl; within = omega arith; rest = ap (λ i. puts old i xs) here }
+    inside : (j : ℕ) → at ≤ j → j < at + n → get_or (put_mid at n b xs) j 0 ≡ get_or xs (j - at) 0
+    inside j k m = search (rules, places)
 
-module _ (old : List ℕ) (at : ℕ) (xs block : List ℕ) (i : ℕ) (so : Putting old at xs block i) where
-  pub putting_next : i < length xs → Putting old at xs (set block (at + i) (get_or xs i 0)) (i + 1)
-  unfolding puts
-  putting_next h =
-      let next : at + (i + 1) ≡ suc (at + i) = omega arith in
-      record {
-        size = length-set block (at + i) (get_or xs i 0) ∙ so.size;
-        within = omega arith;
-        rest = rw (next, add-one i) (rw (drop-cons xs i 0 h) at so.rest);
-      }
+    behind : (j : ℕ) → at + n ≤ j → get_or (put_mid at n b xs) j 0 ≡ get_or b j 0
+    behind j m = search (rules, places)
 
-  pub putting_all : length xs ≤ i → block ≡ puts old at xs
-  unfolding puts
-  putting_all h =
-      let none : drop i xs ≡ [] = drop_of_length-le xs {i = i} h in
-      rw none at so.rest
+pub copied : (b : List ℕ) (at n : ℕ) (xs ys : List ℕ) → xs ≡ ys → length ys ≡ n → at + n ≤ length b → put_mid at n b xs ≡ puts b at ys
+copied b at n xs ys e size fits = ap (put_mid at n b) e ∙ puts_part b at n ys size fits
 
 -- hints: one cell more is put
 pub hints_none : (b : List ℕ) → HintsOnly b b

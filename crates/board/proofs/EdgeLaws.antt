@@ -9,7 +9,7 @@ use native.Mathlib.Omega.{arith}
 use native.Mathlib.Numerals.{add-one}
 use borrow.Author.Tests.{ltb-true, ltb-false}
 use lib.Dec.{ltb}
-use lib.ListN.{length, get_or, set, take, drop, length-set}
+use lib.ListN.{length, get_or, set, take, drop}
 use lib.Seq.{get_or-set_same, get_or-set_other}
 use Rattle.scope_graph.specs.Path.{HopOf}
 use Rattle.scope_graph.specs.Turns.{Turned}
@@ -23,6 +23,7 @@ use Rattle.block.specs.Layout.{FIRST, EDGE, SIZE}
 use Rattle.block.specs.Block.{first_edge, edge_cell, scope_of, label_of, turn_of, hop_of, packed_edge, hops_from, hops_on}
 use Rattle.block.proofs.BlockLaws.{block_hops_in}
 use Rattle.board.specs.Cells.{puts, Only}
+use Rattle.board.specs.declared.edges.Put.{Put}
 use Rattle.board.specs.Edges.{turn_number, compact, narrow, cells_for, below, placed, ScopePut, EdgesPut}
 use Rattle.board.proofs.EdgeCells.{Left, left_all, left_more, left_cells, left_count, left_none, left_full}
 use Rattle.board.proofs.CellLaws.{puts_size, puts_before, puts_at, only_none, only_then, only_set, only_puts}
@@ -213,9 +214,6 @@ module _ (rows old block : List ℕ) (s k : ℕ) (so : Upto rows old block s k) 
       (λ (m : k ≤ j). let less = own j m h in omega arith)
       (below_or j k)
 
-pub upto_size : {rows new : List ℕ} {s k : ℕ} (block : List ℕ) → Upto rows (set block FIRST 0) new s k → length new ≡ length block
-upto_size block so = so.only.size ∙ length-set block FIRST 0
-
 -- a cell's turn, where none of the cells is above `top`
 turn_below : (x top : ℕ) → x ≤ top → turn_of x ≤ top / 512
 unfolding turn_of
@@ -253,66 +251,66 @@ module _ (rows : List ℕ) (s u : ℕ) (later : s < u) where
       earlier k p (omega arith) few ∙ ap (λ n. row_hops (drop n rows) u) (sym is) ∙ rows_earlier rows u r whole (omega arith)
 
 -- one scope's rows, as they are put: what is left of them, and the rows of later scopes
-pub record Scoping (rows : List ℕ) (s p n top : ℕ) (old block : List ℕ) (k at most : ℕ) : Type 0 where
-  pub left : Left old n (row_hops (drop p rows) s) block k (row_hops (drop at rows) s)
-  pub on : (u : ℕ) → s < u → row_hops (drop p rows) u ≡ row_hops (drop at rows) u
-  pub more : top ≤ most
-  pub cells : (j : ℕ) → n ≤ j → j < k → get_or block (EDGE + j) 0 ≤ most
+pub record Scoping (rows : List ℕ) (s : ℕ) (put : Put) (old block : List ℕ) (now : Put) : Type 0 where
+  pub left : Left old put.edges (row_hops (drop put.place rows) s) block now.edges (row_hops (drop now.place rows) s)
+  pub on : (u : ℕ) → s < u → row_hops (drop put.place rows) u ≡ row_hops (drop now.place rows) u
+  pub more : put.top ≤ now.top
+  pub cells : (j : ℕ) → put.edges ≤ j → j < now.edges → get_or block (EDGE + j) 0 ≤ now.top
 
-pub scoping_none : (rows : List ℕ) (s p n top : ℕ) (old : List ℕ) → Scoping rows s p n top old old n p top
-scoping_none rows s p n top old = record {
-  left = left_all old n (row_hops (drop p rows) s);
+pub scoping_none : (rows : List ℕ) (s : ℕ) (put : Put) (old : List ℕ) → Scoping rows s put old old put
+scoping_none rows s put old = record {
+  left = left_all old put.edges (row_hops (drop put.place rows) s);
   on = λ u h. refl;
   more = omega arith;
   cells = λ j h m. absurd (omega arith);
 }
 
-module _ (rows : List ℕ) (s p n top : ℕ) (old block : List ℕ) (k at most : ℕ) (so : Scoping rows s p n top old block k at most) where
+module _ (rows : List ℕ) (s : ℕ) (put : Put) (old block : List ℕ) (now : Put) (so : Scoping rows s put old block now) where
   abbrev all : List (HopOf Turned)
-  all = row_hops (drop p rows) s
+  all = row_hops (drop put.place rows) s
 
   abbrev rest : List (HopOf Turned)
-  rest = row_hops (drop at rows) s
+  rest = row_hops (drop now.place rows) s
 
-  pub scoping_found : (r v higher : ℕ) → r ≡ next_row rows s at → r < length rows → k < 512 → EDGE + k < length block
-      → v ≡ compact (hop_at rows r) → most ≤ higher → v ≤ higher
-      → Scoping rows s p n top old (set block (EDGE + k) v) (k + 1) (r + 6) higher
+  pub scoping_found : (r v higher : ℕ) → r ≡ next_row rows s now.place → r < length rows → now.edges < 512 → EDGE + now.edges < length block
+      → v ≡ compact (hop_at rows r) → now.top ≤ higher → v ≤ higher
+      → Scoping rows s put old (set block (EDGE + now.edges) v) (record { edges = now.edges + 1; place = r + 6; top = higher })
   scoping_found r v higher e h room inside is old-most new-most =
-      let row : NextRow rows s at r = rw e (next_is rows s at) in
+      let row : NextRow rows s now.place r = rw e (next_is rows s now.place) in
       record {
-        left = rw is (left_more old n all block k rest so.left (hop_at rows r) (row_hops (drop (r + 6) rows) s) room (row.hops h));
-        on = λ u later. so.on u later ∙ found_on rows s u later at r row h;
+        left = rw is (left_more old put.edges all block now.edges rest so.left (hop_at rows r) (row_hops (drop (r + 6) rows) s) room (row.hops h));
+        on = λ u later. so.on u later ∙ found_on rows s u later now.place r row h;
         more = let more = so.more in omega arith;
         cells = λ j i m.
             ⊎_elim
-            (λ (z : j < k).
-            let other : EDGE + j ≡ EDGE + k → ⊥ = λ w. omega arith in
-            let kept = get_or-set_other block (EDGE + k) (EDGE + j) v 0 other in
+            (λ (z : j < now.edges).
+            let other : EDGE + j ≡ EDGE + now.edges → ⊥ = λ w. omega arith in
+            let kept = get_or-set_other block (EDGE + now.edges) (EDGE + j) v 0 other in
             let less = so.cells j i z in
             omega arith)
-            (λ (z : k ≤ j).
-            let same : j ≡ k = omega arith in
-            let put = get_or-set_same block (EDGE + k) v 0 inside in
+            (λ (z : now.edges ≤ j).
+            let same : j ≡ now.edges = omega arith in
+            let here = get_or-set_same block (EDGE + now.edges) v 0 inside in
             rw same (omega arith))
-            (below_or j k);
+            (below_or j now.edges);
       }
 
-  pub row_whole : (r : ℕ) → r ≡ next_row rows s at → r < length rows → r + 6 ≤ length rows
-  row_whole r e h = let row : NextRow rows s at r = rw e (next_is rows s at) in row.whole h
+  pub row_whole : (r : ℕ) → r ≡ next_row rows s now.place → r < length rows → r + 6 ≤ length rows
+  row_whole r e h = let row : NextRow rows s now.place r = rw e (next_is rows s now.place) in row.whole h
 
-  put_all : cells_for k rest ≡ [] → ScopePut rows s p n top old block (record { edges = k; place = at; top = most })
+  put_all : cells_for now.edges rest ≡ [] → ScopePut rows s put old block now
   put_all e = record {
-    cells = left_cells old n all block k rest so.left e;
-    count = left_count old n all block k rest so.left e;
+    cells = left_cells old put.edges all block now.edges rest so.left e;
+    count = left_count old put.edges all block now.edges rest so.left e;
     on = so.on;
     more = so.more;
     most = so.cells;
   }
 
-  pub scoping_missed : (r : ℕ) → r ≡ next_row rows s at → length rows ≤ r → ScopePut rows s p n top old block (record { edges = k; place = at; top = most })
+  pub scoping_missed : (r : ℕ) → r ≡ next_row rows s now.place → length rows ≤ r → ScopePut rows s put old block now
   scoping_missed r e h =
-      let row : NextRow rows s at r = rw e (next_is rows s at) in
-      put_all (left_none old n all block k rest so.left (row.none h))
+      let row : NextRow rows s now.place r = rw e (next_is rows s now.place) in
+      put_all (left_none old put.edges all block now.edges rest so.left (row.none h))
 
-  pub scoping_full : 512 ≤ k → ScopePut rows s p n top old block (record { edges = k; place = at; top = most })
-  scoping_full h = put_all (left_full old n all block k rest so.left h)
+  pub scoping_full : 512 ≤ now.edges → ScopePut rows s put old block now
+  scoping_full h = put_all (left_full old put.edges all block now.edges rest so.left h)

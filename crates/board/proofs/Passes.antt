@@ -4,6 +4,8 @@ use Prim.Native.Nat.{ℕ, zero, suc, ◌+◌, ◌-◌, ◌*◌, ◌/◌, ◌%◌
 use mathlib.Core.Path.{◌≡◌, refl, sym, ap, ◌∙◌}
 use mathlib.Core.Bool.{Bool, true, false, ◌&&◌, ◌||◌}
 use mathlib.Core.Option.{some}
+use Rattle.std.specs.declared.option.Option.TheVariants.{Some, None}
+use Rattle.std.proofs.lemmas.Option.{none-some, same_Some}
 use mathlib.Core.List.{List, map}
 use mathlib.Core.Logic.{◌⊎◌, inl, inr, ⊎_elim}
 use native.Mathlib.Omega.{arith}
@@ -15,9 +17,6 @@ use lib.Seq.{get_or-set_same, get_or-set_other}
 use borrow.Author.Tests.{lt-ltb, le-ltb, eq-eqb, ne_eqb, eqb-true, eqb-false}
 use Rattle.scope_graph.specs.Rows.{OrderPair, same_end, any_of, preferred_by, next_by}
 use Rattle.scope_graph.specs.Order.{end_of}
-use Rattle.scope_graph.specs.declared.Turn.{Turn}
-use Rattle.scope_graph.specs.declared.End.{End}
-use Rattle.scope_graph.specs.declared.End.TheVariants.{Stop, Label}
 use Rattle.scope_graph.proofs.Lists.{Two, and_left, and_right, not_true}
 use Rattle.graph_rows.specs.Admission.{Row, value, row_of}
 use Rattle.graph_rows.specs.Decode.{order_pair_of, transition_of}
@@ -26,7 +25,8 @@ use Rattle.block.specs.Sets.{has_bit, has_state}
 use Rattle.block.proofs.SetLaws.{bits_or, bits_none, bits_one, one_shifted, states_none, states_or, states_one}
 use Rattle.graph_table.specs.Sections.{rows_of}
 use Rattle.graph_table.specs.Values.{row_end}
-use Rattle.board.specs.Tables.{state_cell, transition_cell, transition_cells, transition_place, accepted, end_place, BetterIs}
+use Rattle.board.specs.Places.{transition_place, end_place}
+use Rattle.board.specs.Tables.{state_cell, transition_cell, transition_cells, accepted, BetterIs}
 use Rattle.graph_table.proofs.Tests.{below_or, and_first, and_second, and_rest, and_true, or_false, or_then, flip}
 use Rattle.board.proofs.Fill.{tabulate_is}
 use Rattle.graph_table.proofs.Parts.{rows_next, rows_none}
@@ -122,38 +122,24 @@ better_none rows = record {
   each = λ a c h k. rw (get_or-replicate {A = ℕ} 9 c 0 0 k, bits_none a);
 }
 
--- the number of an end, by the end's cases
-module _ (e : End) where
-  pub end_stop : e ≡ Stop → 0 ≡ end_place e
-  unfolding end_place
-  end_stop is = rw is
-
-  module _ (l : ℕ) (t : Turn) (is : e ≡ Label l t) where
-    pub end_none : 8 ≤ l → 9 ≡ end_place e
-    unfolding end_place
-    end_none h = rw (is, le-ltb l 8 h, end_place)
-
-    pub end_label : l < 8 → l + 1 ≡ end_place e
-    unfolding end_place
-    end_label h = rw (is, lt-ltb l 8 h, end_place, add-one l)
-
--- an end's number is its cell, if that is one of the nine; else it is past them
-end_in : (cell : ℕ) → cell < 9 → end_place (row_end cell) ≡ cell
+-- an end's place is its cell, if that is one of the nine; else it has none
+end_in : (cell : ℕ) → cell < 9 → end_place (row_end cell) ≡ Some cell
 unfolding row_end end_place
 end_in zero h = refl
-end_in (suc n) h = rw (lt-ltb n 8 (omega arith), end_place)
+end_in (suc n) h = rw (lt-ltb n 8 (omega arith), end_place, add-one n)
 
-end_out : (cell : ℕ) → 9 ≤ cell → end_place (row_end cell) ≡ 9
+end_out : (cell : ℕ) → 9 ≤ cell → end_place (row_end cell) ≡ None
 unfolding row_end end_place
 end_out zero h = absurd (omega arith)
 end_out (suc n) h = rw (le-ltb n 8 (omega arith), end_place)
 
-module _ (cell r : ℕ) (e : r ≡ end_place (row_end cell)) where
-  pub end_past : 9 ≤ r → 9 ≤ cell
-  end_past h = ⊎_elim (λ k. absurd (omega (arith, end_in cell k))) (λ k. k) (below_or cell 9)
+module _ (cell : ℕ) where
+  pub end_past : end_place (row_end cell) ≡ None → 9 ≤ cell
+  end_past e = ⊎_elim (λ k. absurd (none-some cell (sym e ∙ end_in cell k))) (λ k. k) (below_or cell 9)
 
-  pub end_cell : r < 9 → r ≡ cell
-  end_cell h = ⊎_elim (λ k. e ∙ end_in cell k) (λ k. absurd (omega (arith, end_out cell k))) (below_or cell 9)
+  pub end_cell : (r : ℕ) → end_place (row_end cell) ≡ Some r → (r ≡ cell) × (cell < 9)
+  end_cell r e =
+      ⊎_elim (λ k. (same_Some r cell (sym e ∙ end_in cell k), k)) (λ k. absurd (none-some r (sym (end_out cell k) ∙ e))) (below_or cell 9)
 
 module _ (rows : List ℕ) (p : ℕ) (t : List ℕ) (so : Better rows p t) where
   abbrev less : ℕ
@@ -254,91 +240,95 @@ stepping_none rows p e = record {
   each = λ i h. rw (rows_none rows p (omega arith)) (get_or-replicate {A = ℕ} 128 i 16 16 h);
 }
 
-pub place_in : (q l : ℕ) → q < 16 → l < 8 → transition_place q l ≡ q * 8 + l
+-- a row's place is that of its state and label, if both are in range; else it has none
+pub place_in : (q l : ℕ) → q < 16 → l < 8 → transition_place q l ≡ Some (q * 8 + l)
 unfolding transition_place
 place_in q l h k = rw (and_rest (ltb q 16) (ltb l 8) (lt-ltb q 16 h) ∙ lt-ltb l 8 k, transition_place)
 
-pub place_no_state : (q l : ℕ) → 16 ≤ q → transition_place q l ≡ 128
+pub place_no_state : (q l : ℕ) → 16 ≤ q → transition_place q l ≡ None
 unfolding transition_place
 place_no_state q l h = rw (and_first (ltb q 16) (ltb l 8) (le-ltb q 16 h), transition_place)
 
-pub place_no_label : (q l : ℕ) → 8 ≤ l → transition_place q l ≡ 128
+pub place_no_label : (q l : ℕ) → 8 ≤ l → transition_place q l ≡ None
 unfolding transition_place
 place_no_label q l h = rw (and_second (ltb q 16) (ltb l 8) (le-ltb l 8 h), transition_place)
 
-module _ (rows : List ℕ) (p : ℕ) (t : List ℕ) (so : Stepping rows (p + 6) t) where
-  abbrev place : ℕ
-  place = transition_place (state rows p) (label rows p)
+pub record PlaceIs (q l i : ℕ) : Type 0 where
+  pub state : q < 16
+  pub label : l < 8
+  pub is : i ≡ q * 8 + l
 
+pub place_some : (q l i : ℕ) → transition_place q l ≡ Some i → PlaceIs q l i
+place_some q l i e =
+    ⊎_elim
+    (λ (a : q < 16). ⊎_elim (λ (b : l < 8). record { state = a; label = b; is = same_Some i (q * 8 + l) (sym e ∙ place_in q l a b) })
+    (λ (b : 8 ≤ l). absurd (none-some i (sym (place_no_label q l b) ∙ e)))
+    (below_or l 8))
+    (λ (a : 16 ≤ q). absurd (none-some i (sym (place_no_state q l a) ∙ e)))
+    (below_or q 16)
+
+pub place_none : (q l : ℕ) → transition_place q l ≡ None → (16 ≤ q) ⊎ (8 ≤ l)
+place_none q l e =
+    ⊎_elim
+    (λ (a : q < 16). ⊎_elim (λ (b : l < 8). absurd (none-some (q * 8 + l) (sym e ∙ place_in q l a b))) (λ (b : 8 ≤ l). inr b) (below_or l 8))
+    (λ (a : 16 ≤ q). inl a)
+    (below_or q 16)
+
+module _ (rows : List ℕ) (p : ℕ) (t : List ℕ) (so : Stepping rows (p + 6) t) where
   inside : 6 ≤ length rows - p
   inside = let w = so.within in omega arith
 
   stepping_at : (new : List ℕ) → length new ≡ 128 → ((i : ℕ) → i < 128 → get_or new i 16 ≡ transition_cell (rows_of (drop p rows)) i) → Stepping rows p new
   stepping_at new size each = let w = so.within in let d = so.whole in record { within = omega arith; whole = omega arith; size = size; each = each }
 
-  stepping_past : 128 ≤ place → Stepping rows p t
-  stepping_past past = stepping_at t so.size (λ i h. so.each i h ∙ sym (cell_other rows p inside i (none i h)))
+  stepping_past : transition_place (state rows p) (label rows p) ≡ None → Stepping rows p t
+  stepping_past past = stepping_at t so.size (λ i h. so.each i h ∙ sym (cell_other rows p inside i (none i h (place_none (state rows p) (label rows p) past))))
     where
-      none : (i : ℕ) → i < 128 → (eqb (state rows p) (i / 8) && eqb (label rows p) (i % 8)) ≡ false
-      none i h =
-          ⊎_elim
-          (λ (a : state rows p < 16). ⊎_elim
-          (λ (b : label rows p < 8). let e = place_in (state rows p) (label rows p) a b in absurd (omega arith))
-          (λ (b : 8 ≤ label rows p). and_second (eqb (state rows p) (i / 8)) (eqb (label rows p) (i % 8)) (ne_eqb (label rows p) (i % 8) (λ e. omega arith)))
-          (below_or (label rows p) 8))
-          (λ (a : 16 ≤ state rows p). and_first (eqb (state rows p) (i / 8)) (eqb (label rows p) (i % 8)) (ne_eqb (state rows p) (i / 8) (λ e. omega arith)))
-          (below_or (state rows p) 16)
+      none : (i : ℕ) → i < 128 → (16 ≤ state rows p) ⊎ (8 ≤ label rows p) → (eqb (state rows p) (i / 8) && eqb (label rows p) (i % 8)) ≡ false
+      none i h (inl a) = and_first (eqb (state rows p) (i / 8)) (eqb (label rows p) (i % 8)) (ne_eqb (state rows p) (i / 8) (λ e. omega arith))
+      none i h (inr b) = and_second (eqb (state rows p) (i / 8)) (eqb (label rows p) (i % 8)) (ne_eqb (label rows p) (i % 8) (λ e. omega arith))
 
-  stepping_put : place < 128 → Stepping rows p (set t place (next rows p))
-  stepping_put here = stepping_at (set t place (next rows p)) (length-set t place (next rows p) ∙ so.size) each
-    where
-      is : place ≡ state rows p * 8 + label rows p
-      is =
-          ⊎_elim
-          (λ (a : state rows p < 16). ⊎_elim (λ (b : label rows p < 8). place_in (state rows p) (label rows p) a b)
-          (λ (b : 8 ≤ label rows p). let e = place_no_label (state rows p) (label rows p) b in absurd (omega arith))
-          (below_or (label rows p) 8))
-          (λ (a : 16 ≤ state rows p). let e = place_no_state (state rows p) (label rows p) a in absurd (omega arith))
-          (below_or (state rows p) 16)
+  module _ (place : ℕ) (has : transition_place (state rows p) (label rows p) ≡ Some place) where
+    so_placed : PlaceIs (state rows p) (label rows p) place
+    so_placed = place_some (state rows p) (label rows p) place has
 
-      small : label rows p < 8
-      small =
-          ⊎_elim (λ (b : label rows p < 8). b) (λ (b : 8 ≤ label rows p). let e = place_no_label (state rows p) (label rows p) b in absurd (omega arith)) (below_or (label rows p) 8)
+    stepping_put : Stepping rows p (set t place (next rows p))
+    stepping_put = stepping_at (set t place (next rows p)) (length-set t place (next rows p) ∙ so.size) each
+      where
+        other : (i : ℕ) → (i ≡ place → ⊥) → (eqb (state rows p) (i / 8) && eqb (label rows p) (i % 8)) ≡ false
+        other i n =
+            not_true (eqb (state rows p) (i / 8) && eqb (label rows p) (i % 8))
+            (λ e.
+            let a = eqb-true (state rows p) (i / 8) (and_left (eqb (state rows p) (i / 8)) (eqb (label rows p) (i % 8)) e) in
+            let b = eqb-true (label rows p) (i % 8) (and_right (eqb (state rows p) (i / 8)) (eqb (label rows p) (i % 8)) e) in
+            let z = so_placed.is in
+            n (omega arith))
 
-      other : (i : ℕ) → (i ≡ place → ⊥) → (eqb (state rows p) (i / 8) && eqb (label rows p) (i % 8)) ≡ false
-      other i n =
-          not_true (eqb (state rows p) (i / 8) && eqb (label rows p) (i % 8))
-          (λ e.
-          let a = eqb-true (state rows p) (i / 8) (and_left (eqb (state rows p) (i / 8)) (eqb (label rows p) (i % 8)) e) in
-          let b = eqb-true (label rows p) (i % 8) (and_right (eqb (state rows p) (i / 8)) (eqb (label rows p) (i % 8)) e) in
-          let z = is in
-          n (omega arith))
+        each : (i : ℕ) → i < 128 → get_or (set t place (next rows p)) i 16 ≡ transition_cell (rows_of (drop p rows)) i
+        each i h =
+            ⊎_elim
+            (λ (e : eqb i place ≡ true).
+            let same : i ≡ place = eqb-true i place e in
+            let size = so.size in
+            let z = so_placed.is in
+            let few = so_placed.label in
+            let own = cell_own rows p inside i (omega arith) (omega arith) in
+            ap (λ x. get_or (set t place (next rows p)) x 16) same ∙ get_or-set_same t place (next rows p) 16 (omega arith) ∙ sym own)
+            (λ (e : eqb i place ≡ false).
+            let n : i ≡ place → ⊥ = eqb-false i place e in
+            get_or-set_other t place i (next rows p) 16 n ∙ so.each i h ∙ sym (cell_other rows p inside i (other i n)))
+            (Two (eqb i place))
 
-      each : (i : ℕ) → i < 128 → get_or (set t place (next rows p)) i 16 ≡ transition_cell (rows_of (drop p rows)) i
-      each i h =
-          ⊎_elim
-          (λ (e : eqb i place ≡ true).
-          let same : i ≡ place = eqb-true i place e in
-          let size = so.size in
-          let z = is in
-          let few = small in
-          let own = cell_own rows p inside i (omega arith) (omega arith) in
-          ap (λ x. get_or (set t place (next rows p)) x 16) same ∙ get_or-set_same t place (next rows p) 16 (omega arith) ∙ sym own)
-          (λ (e : eqb i place ≡ false).
-          let n : i ≡ place → ⊥ = eqb-false i place e in
-          get_or-set_other t place i (next rows p) 16 n ∙ so.each i h ∙ sym (cell_other rows p inside i (other i n)))
-          (Two (eqb i place))
+-- by the number of the row above which the rows were passed
+module _ (rows : List ℕ) (i : ℕ) (t : List ℕ) (so : Stepping rows ((i + 1) * 6) t) where
+  moved : Stepping rows (i * 6 + 6) t
+  moved = let e : (i + 1) * 6 ≡ i * 6 + 6 = omega arith in rw e at so
 
--- by the place above which the rows were passed
-module _ (rows : List ℕ) (p : ℕ) (t : List ℕ) (so : Stepping rows p t) (h : 6 ≤ p) where
-  moved : Stepping rows (p - 6 + 6) t
-  moved = let e : p ≡ p - 6 + 6 = omega arith in rw e at so
+  pub stepped_past : transition_place (state rows (i * 6)) (label rows (i * 6)) ≡ None → Stepping rows (i * 6) t
+  stepped_past past = stepping_past rows (i * 6) t moved past
 
-  pub stepped_past : (i : ℕ) → i ≡ transition_place (state rows (p - 6)) (label rows (p - 6)) → 128 ≤ i → Stepping rows (p - 6) t
-  stepped_past i e past = stepping_past rows (p - 6) t moved (rw (sym e) past)
-
-  pub stepped : (i v : ℕ) → i ≡ transition_place (state rows (p - 6)) (label rows (p - 6)) → v ≡ next rows (p - 6) → i < 128 → Stepping rows (p - 6) (set t i v)
-  stepped i v e same here = rw (e, same) (stepping_put rows (p - 6) t moved (rw (sym e) here))
+  pub stepped : (place v : ℕ) → transition_place (state rows (i * 6)) (label rows (i * 6)) ≡ Some place → v ≡ next rows (i * 6) → Stepping rows (i * 6) (set t place v)
+  stepped place v e same = rw same (stepping_put rows (i * 6) t moved place e)
 
 pub stepping_all : (rows : List ℕ) (p : ℕ) (t : List ℕ) → Stepping rows p t → p < 6 → t ≡ transition_cells (rows_of rows)
 unfolding transition_cells

@@ -2,15 +2,16 @@
 -- says whether the test holds of it. Assumes nothing.
 use Prim.Native.Nat.{ℕ, zero, suc, ◌+◌, ◌-◌, ◌*◌, ◌/◌, ◌%◌, ◌^◌, ◌≤◌, ◌<◌}
 use mathlib.Core.Path.{◌≡◌, refl, sym, ap, ◌∙◌}
-use mathlib.Core.Bool.{Bool, true, false, false≢true}
+use mathlib.Core.Bool.{Bool, true, false}
 use mathlib.Core.Logic.{⊎_elim}
 use native.Mathlib.Omega.{arith}
 use native.Mathlib.Numerals.{add-one}
 use native.Mathlib.Nat.{pow-suc, one-mul, zero-mul, add_comm, mul_assoc, add-mul-div_right, mul-add-mod_self_right, div-eq_of_lt, lt_of_lt_of_le}
+use lib.Bits.{bit_and, bit_or, and_comm, and_shifted, or_disjoint}
 use lib.Dec.{eqb}
-use lib.Pow.{pow_pos, pow-add, pow_mono, shl_exact, high}
+use lib.Pow.{pow_pos, pow-add, pow_mono, high}
 use Rattle.block.specs.Sets.{has_bit, has_state}
-use Rattle.block.proofs.SetLaws.{state_in}
+use Rattle.block.proofs.SetLaws.{one_shifted, state_in}
 use Rattle.board.specs.Tables.{bit_if, states_below}
 use Rattle.board.proofs.Fill.{below_suc}
 
@@ -82,17 +83,6 @@ states_at f (suc n) q h =
 pub states_past : (f : ℕ → Bool) (n q : ℕ) → n ≤ q → states_below f n / 2 ^ q % 2 ≡ 0
 states_past f n q h = ap (λ (v : ℕ). v % 2) (div-eq_of_lt (lt_of_lt_of_le (states_lt f n) (pow_mono h)))
 
--- the bit that the code makes, if the test holds
-pub bit_so : (b : Bool) (q : ℕ) → q < 16 → b ≡ true → 1 * 2 ^ q % 18446744073709551616 ≡ bit_if b q
-unfolding bit_if
-bit_so true q h e = shl_exact {a = 1} 1 q 64 (omega arith) (omega arith) ∙ one-mul (2 ^ q)
-bit_so false q h e = absurd (false≢true e)
-
-pub bit_none : (b : Bool) (q : ℕ) → b ≡ false → 0 ≡ bit_if b q
-unfolding bit_if
-bit_none true q e = absurd (false≢true (sym e))
-bit_none false q e = refl
-
 -- a set whose states below q are gathered
 pub record Gathered (f : ℕ → Bool) (q out : ℕ) : Type 0 where
   pub within : q ≤ 16
@@ -102,18 +92,32 @@ pub gathered_none : (f : ℕ → Bool) → Gathered f 0 0
 unfolding states_below
 gathered_none f = record { within = omega arith; states = refl }
 
-pub gathered_next : (f : ℕ → Bool) (q out v : ℕ) → Gathered f q out → q < 16 → v ≡ bit_if (f q) q → Gathered f (q + 1) (out + v)
+gathered_next : (f : ℕ → Bool) (q out v : ℕ) → Gathered f q out → q < 16 → v ≡ bit_if (f q) q → Gathered f (q + 1) (out + v)
 unfolding states_below
 gathered_next f q out v g h e = record { within = omega arith; states = rw (add-one q, g.states, e) }
 
--- it has 16 bits, so nothing overflows
-pub gathered_few : (f : ℕ → Bool) (q out v : ℕ) → Gathered f q out → q < 16 → v ≡ bit_if (f q) q → out + v < 65536
-gathered_few f q out v g h e =
-    let n = gathered_next f q out v g h e in
-    let l = states_lt f (q + 1) in
-    let s = n.states in
-    let m : 2 ^ (q + 1) ≤ 65536 = pow_mono {i = q + 1} {j = 16} (omega arith) in
-    omega arith
+-- a state's bit stands above those below it, so that it is added as it is put
+or_last : (f : ℕ → Bool) (q : ℕ) → bit_or (states_below f q) (2 ^ q) ≡ states_below f q + 2 ^ q
+or_last f q =
+    or_disjoint (states_below f q) (2 ^ q)
+    (and_comm (states_below f q) (2 ^ q) ∙ ap (λ (v : ℕ). bit_and v (states_below f q)) (sym (one-mul (2 ^ q))) ∙ and_shifted 1 q (states_below f q) (states_lt f q))
+
+module _ (f : ℕ → Bool) (q out : ℕ) (g : Gathered f q out) (h : q < 16) where
+  pub gathered_put : f q ≡ true → Gathered f (q + 1) (bit_or out (1 * 2 ^ q % 18446744073709551616))
+  unfolding bit_if
+  gathered_put e =
+      let bit : 2 ^ q ≡ bit_if (f q) q = rw e in
+      let put : out + 2 ^ q ≡ bit_or out (1 * 2 ^ q % 18446744073709551616) =
+      ap (λ (v : ℕ). v + 2 ^ q) g.states ∙ sym (or_last f q) ∙ sym (ap (λ (v : ℕ). bit_or v (2 ^ q)) g.states)
+      ∙ sym (ap (bit_or out) (one_shifted q (omega arith))) in
+      rw put at (gathered_next f q out (2 ^ q) g h bit)
+
+  pub gathered_past : f q ≡ false → Gathered f (q + 1) out
+  unfolding bit_if
+  gathered_past e =
+      let none : 0 ≡ bit_if (f q) q = rw e in
+      let same : out + 0 ≡ out = omega arith in
+      rw same at (gathered_next f q out 0 g h none)
 
 pub gathered_all : (f : ℕ → Bool) (q out : ℕ) → Gathered f q out → 16 ≤ q → out ≡ states_below f 16
 gathered_all f q out g h = let w = g.within in let e : q ≡ 16 = omega arith in g.states ∙ ap (states_below f) e

@@ -98,20 +98,21 @@ module _ (next : ℕ → ℕ → ℕ) (accept : ℕ) where
 
 -- cells from number i on hold no state
 abbrev pub NoneFrom : List ℕ → ℕ → Type 0
-NoneFrom delta i = (j : ℕ) → i ≤ j → j < 128 → 16 ≤ get_or delta j 0
+NoneFrom block i = (j : ℕ) → i ≤ j → j < 128 → 16 ≤ get_or block (DELTA + j) 0
 
-pub none_next : (delta : List ℕ) (i : ℕ) → 0 < i → NoneFrom delta i → 16 ≤ get_or delta (i - 1) 0 → NoneFrom delta (i - 1)
-none_next delta i h so e j k few =
-    ⊎_elim (λ (y : eqb j (i - 1) ≡ true). let same = eqb-true j (i - 1) y in rw same e)
-    (λ (n : eqb j (i - 1) ≡ false). let other = eqb-false j (i - 1) n in so j (omega arith) few)
-    (Two (eqb j (i - 1)))
+pub none_next : (block : List ℕ) (i : ℕ) → NoneFrom block (i + 1) → 16 ≤ get_or block (DELTA + i) 0 → NoneFrom block i
+none_next block i so e j k few =
+    ⊎_elim (λ (y : eqb j i ≡ true). let same = eqb-true j i y in rw same e)
+    (λ (n : eqb j i ≡ false). let other = eqb-false j i n in so j (omega arith) few)
+    (Two (eqb j i))
 
-pub none_still : (delta : List ℕ) (i n : ℕ) → length delta ≡ 128 → NoneFrom delta i → i ≤ n * 8 → (q l : ℕ) → n ≤ q → 16 ≤ next_cell delta q l
-none_still delta i n size so h q l k =
+pub none_still : (block : List ℕ) (i n : ℕ) → 128 ≤ length block → NoneFrom block i → i ≤ n * 8 → (q l : ℕ) → n ≤ q → 16 ≤ next_cell block q l
+none_still block i n size so h q l k =
     ⊎_elim
     (λ (a : q < 16). ⊎_elim
-    (λ (b : l < 8). let e = next_at_lem delta q l size a b in let z = so (q * 8 + l) (omega arith) (omega arith) in omega arith)
-    (λ (b : 8 ≤ l). let e = next_no_label delta q l b in omega arith)
+    (λ (b : l < 8).
+    let e = next_in_lem block q l a b in let any = get_d_any block (DELTA + (q * 8 + l)) 16 0 (omega arith) in let z = so (q * 8 + l) (omega arith) (omega arith) in omega arith)
+    (λ (b : 8 ≤ l). let e = next_no_label block q l b in omega arith)
     (below_or l 8))
-    (λ (a : 16 ≤ q). let e = next_no_state delta q l a in omega arith)
+    (λ (a : 16 ≤ q). let e = next_no_state block q l a in omega arith)
     (below_or q 16)

@@ -42,15 +42,15 @@ below rows (suc s) = below rows s + length (row_hops rows s)
 unfoldable pub placed : List ℕ → ℕ → List (HopOf Turned)
 placed rows s = take (ROOM - below rows s) (map narrow (row_hops rows s))
 
--- One scope's hops put behind the first n edges: what stands in the block then, how many edges
--- there are, the place from which on a later scope's rows are found, and a number that neither
--- `top` nor a cell put is above.
-pub record ScopePut (rows : List ℕ) (s p n top : ℕ) (old new : List ℕ) (r : Put) : Type 0 where
-  pub cells : new ≡ puts old (EDGE + n) (cells_for n (row_hops (drop p rows) s))
-  pub count : r.edges ≡ n + length (cells_for n (row_hops (drop p rows) s))
-  pub on : (u : ℕ) → s < u → row_hops (drop p rows) u ≡ row_hops (drop r.place rows) u
-  pub more : top ≤ r.top
-  pub most : (j : ℕ) → n ≤ j → j < r.edges → get_or new (EDGE + j) 0 ≤ r.top
+-- One scope's hops put behind those that are put: what stands in the block then, how many edges
+-- there are, the place from which on a later scope's rows are found, and a number that neither the
+-- one before nor a cell put is above.
+pub record ScopePut (rows : List ℕ) (s : ℕ) (put : Put) (old new : List ℕ) (r : Put) : Type 0 where
+  pub cells : new ≡ puts old (EDGE + put.edges) (cells_for put.edges (row_hops (drop put.place rows) s))
+  pub count : r.edges ≡ put.edges + length (cells_for put.edges (row_hops (drop put.place rows) s))
+  pub on : (u : ℕ) → s < u → row_hops (drop put.place rows) u ≡ row_hops (drop r.place rows) u
+  pub more : put.top ≤ r.top
+  pub most : (j : ℕ) → put.edges ≤ j → j < r.edges → get_or new (EDGE + j) 0 ≤ r.top
 
 -- what filling the two regions from any rows leaves: no turn of a scope's edges is above `turn`
 pub record EdgesPut (rows old new : List ℕ) (turn : ℕ) : Type 0 where

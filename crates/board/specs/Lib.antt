@@ -1,5 +1,6 @@
 -- The board of a graph table, in reading order: what each table holds, what is promised. Assumes
 -- nothing.
+pub mod Places
 pub mod Tables
 pub mod Cells
 pub mod Edges

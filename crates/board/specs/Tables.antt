@@ -1,11 +1,9 @@
 -- What each small table of the board holds, for the rows of a section (crate block says where it
 -- stands and how it is read). Assumes nothing: these are definitions.
-use Rattle.std.specs.Prelude.{ℕ, zero, suc, ◌+◌, ◌*◌, ◌/◌, ◌%◌, ◌^◌, ◌<◌, ◌≡◌, List, [], ◌∷◌, ◌++◌, map, Bool, true, false, ◌&&◌, ◌||◌, eqb, ltb, length, get_or}
+use Rattle.std.specs.Prelude.{ℕ, zero, suc, ◌+◌, ◌/◌, ◌%◌, ◌^◌, ◌<◌, ◌≡◌, List, [], ◌∷◌, ◌++◌, map, Bool, true, false, ◌||◌, eqb, length, get_or}
 use Rattle.std.proofs.Math.Option.{Option, some, none}
 use Rattle.scope_graph.specs.Rows.{any_of, preferred_by, next_by}
 use Rattle.scope_graph.specs.Order.{end_of}
-use Rattle.scope_graph.specs.declared.End.{End}
-use Rattle.scope_graph.specs.declared.End.TheVariants.{Stop, Label}
 use Rattle.scope_graph.specs.Computed.{any_below}
 use Rattle.graph_rows.specs.Admission.{Row, value, blank}
 use Rattle.graph_rows.specs.Decode.{order_pair_of, transition_of}
@@ -28,10 +26,6 @@ transition_cell rows i = state_cell (next_by (map transition_of rows) (i / 8) (i
 unfoldable pub transition_cells : List Row → List ℕ
 transition_cells rows = tabulate (transition_cell rows) 128
 
--- the cell of a state and a label; 128 for those out of range
-unfoldable pub transition_place : ℕ → ℕ → ℕ
-transition_place q l = elim (ltb q 16 && ltb l 8) [ true ↦ q * 8 + l | false ↦ 128 ]
-
 -- the accepting states (the rows `accept`)
 unfoldable pub accepted : List Row → ℕ → Bool
 accepted rows q = any_of (eqb q) (map (λ (row : Row). value row 0) rows)
@@ -39,12 +33,6 @@ accepted rows q = any_of (eqb q) (map (λ (row : Row). value row 0) rows)
 -- the labels' letters as bytes (the rows `label`); 0 where there is none
 unfoldable pub letter_of : List Row → ℕ → ℕ
 letter_of rows i = value (get_or rows i blank) 0 % 256
-
--- the number of an order row's end: 0 for the end mark, n + 1 for the label n; 9, which is no end's,
--- for a label past the eight
-unfoldable pub end_place : End → ℕ
-end_place Stop = 0
-end_place (Label l t) = elim (ltb l 8) [ true ↦ suc l | false ↦ 9 ]
 
 -- nine sets of ends: those that are preferred to an end (the rows `less more`)
 pub record BetterIs (rows : List Row) (better : List ℕ) : Type 0 where

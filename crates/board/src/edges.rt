@@ -2,10 +2,9 @@
 // through edge rows.
 ghost use Rattle.std.specs.Prelude.{◌≡◌, ◌+◌, ◌≤◌, length};
 ghost use Rattle.graph_table.specs.Rows.{hop_at};
-ghost use Rattle.block.specs.Layout.{IsBlock};
 ghost use Rattle.board.specs.Edges.{compact, ScopePut, EdgesPut};
 
-use block::{EDGE, FIRST, TURN_UNIT, packed_edge};
+use block::{EDGE, FIRST, SIZE, TURN_UNIT, packed_edge};
 use graph_table::{ROW, edge_row, next_row};
 
 // How many edges there is room for.
@@ -29,63 +28,42 @@ fn hop_cell(rows: &[u64], p: usize) -> u64
     packed_edge(row.turn, row.label, row.to)
 }
 
-// The higher of two cells.
-fn higher(a: u64, b: u64) -> u64
-    ensures first { a ≤ result }
-    ensures second { b ≤ result }
+// Puts the hops of scope s behind those that are put, as many as there is room for, from its rows
+// behind those that were looked through.
+fn put_scope(rows: &[u64], s: u64, put: Put, block: &mut [u64; SIZE]) -> Put
+    ensures put { ScopePut rows.now s put block.old block.new result }
 {
-    if a < b { b } else { a }
-}
-
-// Puts the hops of scope s behind the first n edges, as many as there is room for, from its rows
-// from place p on; the first n edges' cells are not above `top`.
-fn put_scope(rows: &[u64], s: u64, p: usize, n: usize, top: u64, block: &mut [u64]) -> Put
-    requires block { IsBlock block.old }
-    ensures put { ScopePut rows.now s p n top block.old block.new result }
-{
-    let mut k = n;
-    let mut at = p;
-    let mut most = top;
-    while k < ROOM {
-        let found = next_row(rows, s, at);
+    let mut now = put;
+    while now.edges < ROOM {
+        let found = next_row(rows, s, now.place);
         if rows.len() <= found {
-            return Put {
-                edges: k,
-                place: at,
-                top: most,
-            };
+            break;
         }
         let cell = hop_cell(rows, found);
-        block[EDGE + k] = cell;
-        most = higher(most, cell);
-        k += 1;
-        at = found + ROW;
+        block[EDGE + now.edges] = cell;
+        now = Put {
+            edges: now.edges + 1,
+            place: found + ROW,
+            top: now.top.max(cell),
+        };
     }
-    Put {
-        edges: k,
-        place: at,
-        top: most,
-    }
+    now
 }
 
 // Fills the parts of the block for edges, and gives a turn that no edge's is above. In rows that
 // ascend each is looked at once.
-pub fn put_edges(rows: &[u64], block: &mut [u64]) -> u64
-    requires block { IsBlock block.old }
+pub fn put_edges(rows: &[u64], block: &mut [u64; SIZE]) -> u64
     ensures put { EdgesPut rows.now block.old block.new result }
 {
     block[FIRST] = 0;
-    let mut s: usize = 0;
-    let mut p: usize = 0;
-    let mut k: usize = 0;
-    let mut top: u64 = 0;
-    while s < 64 {
-        let put = put_scope(rows, s as u64, p, k, top, block);
-        s += 1;
-        k = put.edges;
-        p = put.place;
-        top = put.top;
-        block[FIRST + s] = k as u64;
+    let mut put = Put {
+        edges: 0,
+        place: 0,
+        top: 0,
+    };
+    for s in 0..64 {
+        put = put_scope(rows, s as u64, put, block);
+        block[FIRST + s + 1] = put.edges as u64;
     }
-    top / TURN_UNIT
+    put.top / TURN_UNIT
 }

@@ -21,10 +21,8 @@ pub fn letter_table(rows: &[u64]) -> [u64; 8]
     ensures answer { result ≡ tabulate (letter_of (rows_of rows.now)) 8 }
 {
     let mut t = [0; 8];
-    let mut i: usize = 0;
-    while i < 8 {
-        t[i] = value_of(rows, i) % 256;
-        i += 1;
+    for (i, letter) in t.iter_mut().enumerate() {
+        *letter = value_of(rows, i) % 256;
     }
     t
 }

@@ -3,7 +3,6 @@
 
 mod asked;
 mod automaton;
-mod cells;
 mod declarations;
 mod edges;
 mod hints;

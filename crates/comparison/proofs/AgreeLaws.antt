@@ -4,11 +4,17 @@ use mathlib.Core.Path.{◌≡◌, refl, sym, ap, ◌∙◌}
 use mathlib.Core.Bool.{true, false}
 use mathlib.Core.Logic.{◌⊎◌, inl, inr}
 use mathlib.Core.List.{List, [], ◌∷◌}
-use Prim.Native.Nat.{ℕ, suc, ◌+◌, ◌≤◌, ◌<◌}
+use Prim.Native.Nat.{ℕ, suc, ◌+◌, ◌<◌, min}
+use native.Mathlib.Numerals.{add-one}
 use native.Mathlib.Omega.{arith}
 use borrow.Author.Tests.{eqb-true, eq-eqb}
 use lib.Dec.{eqb}
-use lib.ListN.{get_or, take, drop}
+use lib.ListN.{length, take}
+use Rattle.std.specs.declared.option.Option.{Option}
+use Rattle.std.specs.List.{zip, AllWithin, HoldsAt}
+use Rattle.std.specs.Option.{MatchOption, unwrap_or}
+use Rattle.std.proofs.Math.Nat.{zero-min}
+use Rattle.std.proofs.lemmas.Iterator.{index_from_first}
 use Rattle.graph_rows.specs.Decode.{letters_of, rules_of, graph_of}
 use Rattle.scope_graph.specs.Language.{Language}
 use Rattle.scope_graph.specs.Rows.{Rules, language}
@@ -20,11 +26,9 @@ use Rattle.scope_graph.specs.Agree.{same_step as same_hop_step}
 use Rattle.scope_graph.proofs.Lists.{Two, not_true, true_false, and_left, and_right, and_both}
 use Rattle.scope_graph.proofs.Agree.{agree_on, agree_off, agree_ended, agree_over, agree_from, agree_apart}
 use Rattle.path_row.specs.declared.form.Step.{Step}
-use Rattle.path_row.specs.declared.taken.Steps.{Steps}
-use Rattle.path_row.specs.Form.{PathRow, no_step, steps_taken}
+use Rattle.path_row.specs.Form.{PathRow}
 use Rattle.path_row.specs.Numbering.{label_number, hop_of, hops_of, path_of, path_in}
 use Rattle.path_row.proofs.NumberingLaws.{number_tells}
-use Rattle.path_row.proofs.TakenLaws.{taken_none, taken_next}
 use Rattle.comparison.specs.Compare.{agreement}
 use Rattle.comparison.specs.Promises.{same_shown, agree_steps}
 
@@ -56,38 +60,43 @@ unfolding agree_steps
 steps_over [] = refl
 steps_over (t ∷ ts) = refl
 
--- the steps of two rows from step n on
-abbrev pub agrees : Steps → Steps → ℕ → ℕ
-agrees a b n = agree_steps (drop n (steps_taken a)) (drop n (steps_taken b))
+-- how many pairs at the front are of two equal steps
+unfoldable pub same_front : List (Step × Step) → ℕ
+same_front [] = 0
+same_front (p ∷ ps) = elim (same_shown p.0 p.1) [ true ↦ same_front ps + 1 | false ↦ 0 ]
 
-pub starts_at : (total : ℕ) → total ≡ 0 + total
-starts_at total = omega arith
+front_same : (p : Step × Step) (ps : List (Step × Step)) → p.0 ≡ p.1 → same_front (p ∷ ps) ≡ same_front ps + 1
+unfolding same_front
+front_same p ps e = rw (shown_same p.0 p.1 (ap (λ (s : Step). s.label) e) (ap (λ (s : Step). s.scope) e), same_front)
 
--- n steps are equal, and the rows go on: there ends what is equal, or one step more is
-module _ (a b : Steps) (n total : ℕ) (is : total ≡ n + agrees a b n) where
-  ended : agrees a b n ≡ 0 → n ≡ total
-  ended z = omega (arith, is, z)
+front_apart : (p : Step × Step) (ps : List (Step × Step)) → (p.0 ≡ p.1 → ⊥) → same_front (p ∷ ps) ≡ 0
+unfolding same_front
+front_apart p ps d = rw (not_true (same_shown p.0 p.1) (λ z. d (shown_is p.0 p.1 z)), same_front)
 
-  pub agrees_ends : a.count ≤ n → n ≡ total
-  agrees_ends h = ended (rw (taken_none a n h) (steps_ended (drop n (steps_taken b))))
+front_steps : (ts us : List Step) → same_front (zip ts us) ≡ agree_steps ts us
+unfolding same_front
+front_steps [] us = sym (steps_ended us)
+front_steps (t ∷ ts) [] = sym (steps_over (t ∷ ts))
+front_steps (t ∷ ts) (u ∷ us) = at (Two (same_shown t u)) (front_steps ts us)
+  where
+    at : (same_shown t u ≡ true) ⊎ (same_shown t u ≡ false) → same_front (zip ts us) ≡ agree_steps ts us → same_front ((t, u) ∷ zip ts us) ≡ agree_steps (t ∷ ts) (u ∷ us)
+    at (inl e) ih = front_same (t, u) (zip ts us) (shown_is t u e) ∙ ap (λ (n : ℕ). n + 1) ih ∙ add-one (agree_steps ts us) ∙ sym (steps_same t u ts us e)
+    at (inr e) ih = front_apart (t, u) (zip ts us) (λ z. true_false (shown_same t u (ap (λ (s : Step). s.label) z) (ap (λ (s : Step). s.scope) z)) e) ∙ sym (steps_apart t u ts us e)
 
-  pub agrees_stops : b.count ≤ n → n ≡ total
-  agrees_stops h = ended (rw (taken_none b n h) (steps_over (drop n (steps_taken a))))
+zip_length : (ts us : List Step) → length (zip ts us) ≡ min (length ts) (length us)
+zip_length [] us = sym (zero-min (length us))
+zip_length (t ∷ ts) [] = omega arith
+zip_length (t ∷ ts) (u ∷ us) = omega (arith, zip_length ts us)
 
-  module _ (h : n < a.count) (k : n < b.count) (t u : Step) (e : t ≡ get_or (steps_taken a) n no_step) (f : u ≡ get_or (steps_taken b) n no_step) where
-    opens : agrees a b n ≡ agree_steps (t ∷ drop (n + 1) (steps_taken a)) (u ∷ drop (n + 1) (steps_taken b))
-    opens = rw (taken_next a n h t e, taken_next b n k u f)
-
-    pub agrees_letter : (t.label ≡ u.label → ⊥) → n ≡ total
-    agrees_letter d = ended (opens ∙ steps_apart t u _ _ (not_true _ (λ z. d (ap (λ (x : Step). x.label) (shown_is t u z)))))
-
-    pub agrees_scope : (t.scope ≡ u.scope → ⊥) → n ≡ total
-    agrees_scope d = ended (opens ∙ steps_apart t u _ _ (not_true _ (λ z. d (ap (λ (x : Step). x.scope) (shown_is t u z)))))
-
-    pub agrees_on : t.label ≡ u.label → t.scope ≡ u.scope → total ≡ (n + 1) + agrees a b (n + 1)
-    agrees_on p q =
-        let z : agrees a b n ≡ suc (agrees a b (n + 1)) = opens ∙ steps_same t u _ _ (shown_same t u p q) in
-        omega (arith, is, z)
+-- the place of the first pair of two that differ, or the length of the shorter list
+pub first_difference : (ts us : List Step) (r : Option ℕ)
+    → MatchOption r (AllWithin (λ (p : Step × Step). p.0 ≡ p.1) (zip ts us) 0 (length (zip ts us))) (λ i. (i < length (zip ts us)) × HoldsAt (λ (p : Step × Step). p.0 ≡ p.1 → ⊥) (zip ts us) i × AllWithin (λ (p : Step × Step). p.0 ≡ p.1) (zip ts us) 0 i)
+    → unwrap_or r (min (length ts) (length us)) ≡ agree_steps ts us
+unfolding same_front
+first_difference ts us r h =
+    ap (unwrap_or r) (sym (zip_length ts us))
+    ∙ sym (index_from_first same_front (λ (p : Step × Step). p.0 ≡ p.1 → ⊥) (λ (p : Step × Step). p.0 ≡ p.1) refl front_apart front_same (zip ts us) r h)
+    ∙ front_steps ts us
 
 -- over a file's rules: steps that leave one scope
 module _ (r : Rules) (leaving : ℕ → List (HopOf Turned)) (letters : List ℕ) where

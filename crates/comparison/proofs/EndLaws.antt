@@ -12,8 +12,8 @@ use lib.Dec.{eqb, ltb}
 use Rattle.scope_graph.specs.Language.{by}
 use Rattle.scope_graph.specs.Turns.{later as later_turn, later_step}
 use Rattle.scope_graph.specs.Order.{turn_meaning, meaning}
-use Rattle.scope_graph.specs.declared.Turn.{Turn}
-use Rattle.scope_graph.specs.declared.Turn.TheVariants.{None, Of}
+use Rattle.std.specs.declared.option.Option.{Option}
+use Rattle.std.specs.declared.option.Option.TheVariants.{Some, None}
 use Rattle.scope_graph.specs.declared.End.{End}
 use Rattle.scope_graph.specs.declared.End.TheVariants.{Stop, Label}
 use Rattle.scope_graph.proofs.Lists.{Two}
@@ -56,21 +56,21 @@ module _ (block : List ℕ) (l : ℕ) where
           ap (pair_flag block a) (past h) ∙ pair_no_second block a 9 (omega arith) ∙ sym (pair_no_second block a (suc l) (omega arith))
 
 -- turns, by whether the steps are edge rows
-module _ (t u : Turn) where
+module _ (t u : Option ℕ) where
   pub none_first : t ≡ None → false ≡ later_turn (turn_meaning t) (turn_meaning u)
   unfolding turn_meaning later_turn
   none_first e = rw e
 
-  pub none_second : (n : ℕ) → t ≡ Of n → u ≡ None → false ≡ later_turn (turn_meaning t) (turn_meaning u)
+  pub none_second : (n : ℕ) → t ≡ Some n → u ≡ None → false ≡ later_turn (turn_meaning t) (turn_meaning u)
   unfolding turn_meaning later_turn
   none_second n e f = rw (e, f)
 
-  pub both_turns : (n m : ℕ) → t ≡ Of n → u ≡ Of m → ltb m n ≡ later_turn (turn_meaning t) (turn_meaning u)
+  pub both_turns : (n m : ℕ) → t ≡ Some n → u ≡ Some m → ltb m n ≡ later_turn (turn_meaning t) (turn_meaning u)
   unfolding turn_meaning later_turn
   both_turns n m e f = rw (e, f)
 
 -- two steps, by the order pairs and at one label by their turns
-module _ (block : List ℕ) (l k n m : ℕ) (t u : Turn) (is : n ≡ label_place l) (it : m ≡ label_place k) (v : Bool) (g : v ≡ pair_flag block n m) where
+module _ (block : List ℕ) (l k n m : ℕ) (t u : Option ℕ) (is : n ≡ label_place l) (it : m ≡ label_place k) (v : Bool) (g : v ≡ pair_flag block n m) where
   abbrev due_steps : Bool
   due_steps = table_order block (by (record { label = l; turn = turn_meaning t })) (by (record { label = k; turn = turn_meaning u }))
 
@@ -99,17 +99,17 @@ module _ (block : List ℕ) (a c : End) (u : Bool) where
   unfolding table_order end_number meaning later_step
   both_stop e f g = g ∙ rw (e, f) (sym (or-false (pair_flag block 0 0)))
 
-  pub second_label : (k : ℕ) (t : Turn) (n : ℕ) → a ≡ Stop → c ≡ Label k t → n ≡ label_place k → u ≡ pair_flag block 0 n → u ≡ due
+  pub second_label : (k : ℕ) (t : Option ℕ) (n : ℕ) → a ≡ Stop → c ≡ Label k t → n ≡ label_place k → u ≡ pair_flag block 0 n → u ≡ due
   unfolding table_order end_number meaning later_step
   second_label k t n e f is g =
       g ∙ ap (pair_flag block 0) is ∙ second_end block k 0 ∙ rw (e, f) (sym (or-false (pair_flag block 0 (suc k))))
 
-  pub first_label : (l : ℕ) (t : Turn) (n : ℕ) → a ≡ Label l t → c ≡ Stop → n ≡ label_place l → u ≡ pair_flag block n 0 → u ≡ due
+  pub first_label : (l : ℕ) (t : Option ℕ) (n : ℕ) → a ≡ Label l t → c ≡ Stop → n ≡ label_place l → u ≡ pair_flag block n 0 → u ≡ due
   unfolding table_order end_number meaning later_step
   first_label l t n e f is g =
       g ∙ ap (λ (k : ℕ). pair_flag block k 0) is ∙ first_end block l 0 ∙ rw (e, f) (sym (or-false (pair_flag block (suc l) 0)))
 
-  pub both_label : (l k : ℕ) (t s : Turn) → a ≡ Label l t → c ≡ Label k s
+  pub both_label : (l k : ℕ) (t s : Option ℕ) → a ≡ Label l t → c ≡ Label k s
       → u ≡ table_order block (by (record { label = l; turn = turn_meaning t })) (by (record { label = k; turn = turn_meaning s })) → u ≡ due
   unfolding meaning
   both_label l k t s e f g = g ∙ rw (e, f)

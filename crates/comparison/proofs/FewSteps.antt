@@ -8,11 +8,11 @@ use borrow.Author.Tests.{eqb-true, eqb-false}
 use lib.Dec.{eqb, ltb}
 use lib.ListN.{length, drop}
 use Rattle.scope_graph.proofs.Lists.{Two}
+use Rattle.std.specs.declared.option.Option.{Option}
+use Rattle.std.specs.declared.option.Option.TheVariants.{Some, None}
 use Rattle.text_field.specs.Outcome.{Outcome, refused, done, and_then, refuse_if}
 use Rattle.graph_file.specs.File.{read_cells}
 use Rattle.path_row.specs.declared.form.Step.{Step}
-use Rattle.path_row.specs.declared.form.StepRead.{StepRead}
-use Rattle.path_row.specs.declared.form.StepRead.TheVariants.{Taken, NoStep}
 use Rattle.path_row.specs.Form.{PathRow, Front, row_here, head_here, step_here, steps_of, steps_after, steps_in}
 use Rattle.path_row.proofs.FormLaws.{steps_on, steps_off}
 use Rattle.path_row.proofs.RowReads.{steps_shown}
@@ -26,9 +26,9 @@ unfolding steps_of
 few_of zero s = omega arith
 few_of (suc n) s = by (step_here s) refl (few_of n)
   where
-    by : (r : StepRead) → step_here s ≡ r → ((t : List ℕ) → length (steps_of n t) ≤ n) → length (steps_of (suc n) s) ≤ suc n
-    by NoStep e ih = rw (steps_off n s e) (omega arith)
-    by (Taken x v w) e ih = rw (steps_on n s x v w e) (let z = ih (drop w s) in omega arith)
+    by : (r : Option (Step × ℕ)) → step_here s ≡ r → ((u : List ℕ) → length (steps_of n u) ≤ n) → length (steps_of (suc n) s) ≤ suc n
+    by None e ih = rw (steps_off n s e) (omega arith)
+    by (Some (t, w)) e ih = rw (steps_on n s t w e) (let z = ih (drop w s) in omega arith)
 
 steps_few : (o : Outcome Front) (s : List ℕ) → length (steps_after o s) ≤ 63
 unfolding steps_after

@@ -18,12 +18,14 @@ use Rattle.path_row.proofs.RowReads.{RowIs}
 use Rattle.path_row.proofs.TakenLaws.{taken_held}
 use Rattle.path_row.proofs.LentLaws.{lent_all}
 use Rattle.comparison.specs.declared.rows.Compared.{Compared}
-use Rattle.comparison.specs.declared.rows.Compared.TheVariants.{Refused}
+use Rattle.std.specs.declared.result.Result.TheVariants.{Ok, Err}
+use Rattle.text_field.specs.declared.refusal.Refusal.{Refusal}
+use Rattle.text_field.specs.Refusal.{number_of}
 use Rattle.comparison.specs.declared.rows.ComparedRows.{ComparedRows}
-use Rattle.comparison.specs.Compare.{Told, meaning, row_before, comparison, agreement, told, told_of, compare_rows, compare_answer, HandsOut}
+use Rattle.comparison.specs.Compare.{Told, told_in, meaning, row_before, comparison, agreement, told, told_of, compare_rows, compare_answer, HandsOut}
 
 -- a refusal hands out no steps
-pub hands_none : (o : Outcome Told) (a b : List ℕ) (k : ℕ) (r : ComparedRows) → (r.answer ≡ Refused k) × ((r.first ≡ steps_held []) × (r.second ≡ steps_held [])) → refused k ≡ o → HandsOut o a b r
+pub hands_none : (o : Outcome Told) (a b : List ℕ) (k : Refusal) (r : ComparedRows) → (r.answer ≡ Err k) × ((r.first ≡ steps_held []) × (r.second ≡ steps_held [])) → refused (number_of k) ≡ o → HandsOut o a b r
 unfolding meaning steps_lent
 hands_none o a b k r (e, (f, g)) h = rw (← h) (record { answer = ap meaning e; first = f; second = g })
 
@@ -34,12 +36,13 @@ same_told cells s t ts us p q e f g h = rw (← e, ← f, ← g, ← h) refl
 
 -- rows that were read and fit: each hands out its steps
 pub hands_all : (cells a b : List ℕ) (o : Outcome Told) (mark start count : ℕ) (p : RowIs a mark start count) (mark' other more : ℕ) (q : RowIs b mark' other more) → o ≡ done (told cells p.row q.row) → (ts us : Steps) → ts ≡ steps_held (steps_in a)
-    → us ≡ steps_held (steps_in b) → (r : Compared) → meaning r ≡ done (told_of cells start other (steps_taken ts) (steps_taken us)) → HandsOut o a b (record { answer = r; first = ts; second = us })
+    → us ≡ steps_held (steps_in b) → (r : Compared) → told_in r ≡ told_of cells start other (steps_taken ts) (steps_taken us) → HandsOut o a b (record { answer = Ok r; first = ts; second = us })
+unfolding meaning
 hands_all cells a b o mark start count p mark' other more q w ts us e f r h =
     let x : steps_taken ts ≡ p.row.steps = ap steps_taken e ∙ taken_held (steps_in a) ∙ sym p.steps in
     let y : steps_taken us ≡ q.row.steps = ap steps_taken f ∙ taken_held (steps_in b) ∙ sym q.steps in
     record {
-      answer = h ∙ ap {B = Outcome Told} (λ (z : Told). done z) (same_told cells start other (steps_taken ts) (steps_taken us) p.row q.row p.starts q.starts (sym x) (sym y)) ∙ sym w;
+      answer = ap {B = Outcome Told} (λ (z : Told). done z) (h ∙ same_told cells start other (steps_taken ts) (steps_taken us) p.row q.row p.starts q.starts (sym x) (sym y)) ∙ sym w;
       first = e ∙ ap steps_held (sym (ap (λ (z : Outcome Told). steps_lent z a) w ∙ lent_all _ a p.row p.read ∙ p.steps));
       second = f ∙ ap steps_held (sym (ap (λ (z : Outcome Told). steps_lent z b) w ∙ lent_all _ b q.row q.read ∙ q.steps));
     }

@@ -28,7 +28,7 @@ use Rattle.path_row.proofs.TurnLaws.{same_hop_lem}
 use Rattle.path_row.proofs.RowReads.{RowIs}
 use Rattle.comparison.specs.declared.rows.Compared.{Compared}
 use Rattle.comparison.specs.declared.rows.Compared.TheVariants.{First, Second, Neither}
-use Rattle.comparison.specs.Compare.{neither, Told, as_told, which_of, meaning, row_before, comparison, told, told_of, compare_rows}
+use Rattle.comparison.specs.Compare.{neither, Told, as_told, which_of, told_in, row_before, comparison, told, told_of, compare_rows}
 use Rattle.comparison.specs.Promises.{agree_steps}
 use Rattle.comparison.specs.Steps.{step_at, same_step, steps_preferred, steps_compared}
 use Rattle.comparison.specs.Letters.{block_letters}
@@ -37,17 +37,17 @@ use Rattle.comparison.proofs.AgreeLaws.{agreement_apart, agreement_same}
 
 -- which of two rows with one start is more specific
 module _ (block : List ℕ) (s : ℕ) (ts us : List Step) (n : ℕ) (t : Bool) (e : t ≡ steps_preferred block s ts us) where
-  pub first_is : t ≡ true → meaning (First n) ≡ done (as_told (steps_compared block s ts us) n)
-  unfolding meaning steps_compared which_of
+  pub first_is : t ≡ true → told_in (First n) ≡ as_told (steps_compared block s ts us) n
+  unfolding told_in steps_compared which_of
   first_is f = rw (← e, f)
 
   module _ (f : t ≡ false) (u : Bool) (g : u ≡ steps_preferred block s us ts) where
-    pub second_is : u ≡ true → meaning (Second n) ≡ done (as_told (steps_compared block s ts us) n)
-    unfolding meaning steps_compared which_of
+    pub second_is : u ≡ true → told_in (Second n) ≡ as_told (steps_compared block s ts us) n
+    unfolding told_in steps_compared which_of
     second_is h = rw (← e, f, ← g, h)
 
-    pub neither_is : u ≡ false → meaning (Neither n) ≡ done (as_told (steps_compared block s ts us) n)
-    unfolding meaning steps_compared which_of
+    pub neither_is : u ≡ false → told_in (Neither n) ≡ as_told (steps_compared block s ts us) n
+    unfolding told_in steps_compared which_of
     neither_is h = rw (← e, f, ← g, h)
 
 -- over the block of a table that was read, as the rules have it
@@ -147,12 +147,12 @@ module _ (cells a b : List ℕ) (n m : ℕ) where
 
 -- by the starts and the steps of the rows
 module _ (cells : List ℕ) (s t : ℕ) (ts us : List Step) where
-  pub starts_apart : (s ≡ t → ⊥) → meaning (Neither 0) ≡ done (told_of cells s t ts us)
-  unfolding meaning told told_of
+  pub starts_apart : (s ≡ t → ⊥) → told_in (Neither 0) ≡ told_of cells s t ts us
+  unfolding told_in told told_of
   starts_apart z = sym (rw (compared_apart cells (record { mark = 0; start = s; steps = ts }) (record { mark = 0; start = t; steps = us }) z, agreement_apart cells (record { mark = 0; start = s; steps = ts }) (record { mark = 0; start = t; steps = us }) z))
 
   pub starts_same : WasRead cells → s ≡ t → (block : List ℕ) → Made cells block → (k : ℕ) → k ≡ agree_steps ts us → (r : Compared)
-      → meaning r ≡ done (as_told (steps_compared block s ts us) k) → meaning r ≡ done (told_of cells s t ts us)
+      → told_in r ≡ as_told (steps_compared block s ts us) k → told_in r ≡ told_of cells s t ts us
   unfolding told told_of
   starts_same was z block made k f r e =
       e ∙ rw f (sym (rw (compared_same cells block was made (record { mark = 0; start = s; steps = ts }) (record { mark = 0; start = t; steps = us }) z, agreement_same cells (record { mark = 0; start = s; steps = ts }) (record { mark = 0; start = t; steps = us }) z)))

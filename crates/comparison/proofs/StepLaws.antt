@@ -5,15 +5,15 @@ use mathlib.Core.Bool.{Bool, true, false, ◌&&◌, ◌||◌, or-false}
 use mathlib.Core.List.{List, [], ◌∷◌}
 use Prim.Native.Nat.{ℕ, suc, ◌+◌, ◌≤◌, ◌<◌}
 use native.Mathlib.Omega.{arith}
-use borrow.Author.Tests.{ne_eqb, eq-eqb}
-use lib.Dec.{eqb}
-use lib.ListN.{get_or, drop}
+use native.Mathlib.Numerals.{add-one}
+use lib.ListN.{length, get_or, drop, drop_of_length-le}
+use lib.Seq.{drop-cons}
 use Rattle.scope_graph.specs.Language.{stop, by}
 use Rattle.scope_graph.specs.Path.{HopOf}
 use Rattle.scope_graph.specs.Turns.{Turned, turn_by}
 use Rattle.scope_graph.specs.Order.{turn_meaning, meaning}
-use Rattle.scope_graph.specs.declared.Turn.{Turn}
-use Rattle.scope_graph.specs.declared.Turn.TheVariants.{None, Of}
+use Rattle.std.specs.declared.option.Option.{Option}
+use Rattle.std.specs.declared.option.Option.TheVariants.{Some, None}
 use Rattle.scope_graph.specs.declared.End.{End as CodeEnd}
 use Rattle.scope_graph.specs.declared.End.TheVariants.{Stop, Label}
 use Rattle.block.specs.Block.{first_edge, edge_cell, turn_of, block_hops}
@@ -22,10 +22,8 @@ use Rattle.block.proofs.BlockLaws.{block_hops_past}
 use Rattle.block.proofs.EdgeLaws.{EdgeTo}
 use Rattle.search.specs.Tables.{table_order}
 use Rattle.path_row.specs.declared.form.Step.{Step}
-use Rattle.path_row.specs.declared.taken.Steps.{Steps}
-use Rattle.path_row.specs.Form.{no_step, steps_taken}
+use Rattle.path_row.specs.Form.{no_step}
 use Rattle.path_row.specs.Numbering.{label_number, hop_of}
-use Rattle.path_row.proofs.TakenLaws.{taken_none, taken_next}
 use Rattle.comparison.specs.Letters.{block_letters}
 use Rattle.comparison.specs.Steps.{end_first, step_at, same_step, steps_preferred}
 
@@ -40,20 +38,23 @@ module _ (block : List ℕ) (s label to : ℕ) where
     unfolding turn_meaning
     turn_none h = sym (e.none_is (omega arith))
 
-    pub turn_edge : p < end → (x n : ℕ) → x ≡ edge_cell block p → n ≡ turn_of x → turn_meaning (Of n) ≡ turn_by (block_hops block s) label to
+    pub turn_edge : p < end → (x n : ℕ) → x ≡ edge_cell block p → n ≡ turn_of x → turn_meaning (Some n) ≡ turn_by (block_hops block s) label to
     unfolding turn_meaning edge_hop
     turn_edge h x n f g = rw (g, f) (ap (λ (k : HopOf Turned). k.step.turn) (e.is (omega arith)))
 
--- how steps go on from step i
-module _ (block : List ℕ) (s : ℕ) (t : Steps) (i : ℕ) where
-  pub end_stop : t.count ≤ i → meaning Stop ≡ end_first block s (drop i (steps_taken t))
-  unfolding end_first meaning
-  end_stop h = rw (taken_none t i h)
+opened : (ts : List Step) (i : ℕ) → i < length ts → drop i ts ≡ get_or ts i no_step ∷ drop (i + 1) ts
+opened ts i h = rw (add-one) (drop-cons ts i no_step h)
 
-  pub end_label : i < t.count → (x : Step) → x ≡ get_or (steps_taken t) i no_step → (n : ℕ) (u : Turn)
-      → n ≡ label_number (block_letters block) x.label → turn_meaning u ≡ turn_by (block_hops block s) n x.scope → meaning (Label n u) ≡ end_first block s (drop i (steps_taken t))
+-- how steps go on from step i
+module _ (block : List ℕ) (s : ℕ) (ts : List Step) (i : ℕ) where
+  pub end_stop : length ts ≤ i → meaning Stop ≡ end_first block s (drop i ts)
+  unfolding end_first meaning
+  end_stop h = rw (drop_of_length-le ts {i = i} h)
+
+  pub end_label : i < length ts → (x : Step) → x ≡ get_or ts i no_step → (n : ℕ) (u : Option ℕ)
+      → n ≡ label_number (block_letters block) x.label → turn_meaning u ≡ turn_by (block_hops block s) n x.scope → meaning (Label n u) ≡ end_first block s (drop i ts)
   unfolding end_first meaning hop_of
-  end_label h x e n u g k = rw (taken_next t i h x e, k, ← g)
+  end_label h x e n u g k = rw (opened ts i h, ← e, k, ← g)
 
 module _ (block : List ℕ) (s : ℕ) where
   -- what decides where the ends do not
@@ -73,21 +74,21 @@ module _ (block : List ℕ) (s : ℕ) where
   ends_first (t ∷ ts) [] = sym (or-false (table_order block (by (step_at block s t)) stop))
   ends_first (t ∷ ts) (u ∷ us) = refl
 
-  module _ (a b : Steps) (i : ℕ) where
+  module _ (a b : List Step) (i : ℕ) where
     abbrev left : List Step
-    left = drop i (steps_taken a)
+    left = drop i a
 
     abbrev right : List Step
-    right = drop i (steps_taken b)
+    right = drop i b
 
     abbrev here : Bool
     here = steps_preferred block s left right
 
     -- where the steps of a have ended the two ends decide
-    pub preferred_ends : a.count ≤ i → (eb : CodeEnd) → meaning eb ≡ end_first block s right → (u : Bool) → u ≡ table_order block (meaning Stop) (meaning eb) → here ≡ u
+    pub preferred_ends : length a ≤ i → (eb : CodeEnd) → meaning eb ≡ end_first block s right → (u : Bool) → u ≡ table_order block (meaning Stop) (meaning eb) → here ≡ u
     unfolding meaning end_first
     preferred_ends h eb f u m =
-        ends_first left right ∙ rw (taken_none a i h, ← f, ← m) (or-false u)
+        ends_first left right ∙ rw (drop_of_length-le a {i = i} h, ← f, ← m) (or-false u)
 
     module _ (ea eb : CodeEnd) (fa : meaning ea ≡ end_first block s left) (fb : meaning eb ≡ end_first block s right) (u : Bool) (m : u ≡ table_order block (meaning ea) (meaning eb)) where
       split : here ≡ (u || further left right)
@@ -100,22 +101,18 @@ module _ (block : List ℕ) (s : ℕ) where
         onward : here ≡ further left right
         onward = split ∙ rw f
 
-        pub preferred_stops : b.count ≤ i → here ≡ false
-        preferred_stops h = onward ∙ rw (taken_none b i h) (further_none left)
+        pub preferred_stops : length b ≤ i → here ≡ false
+        preferred_stops h = onward ∙ rw (drop_of_length-le b {i = i} h) (further_none left)
 
-        module _ (h : i < a.count) (k : i < b.count) (t t' : Step) (e : t ≡ get_or (steps_taken a) i no_step) (e' : t' ≡ get_or (steps_taken b) i no_step)
-            (l l' : ℕ) (is : l ≡ label_number (block_letters block) t.label) (is' : l' ≡ label_number (block_letters block) t'.label) where
+        module _ (h : i < length a) (k : i < length b) (v : Bool) (e : v ≡ same_step block (get_or a i no_step) (get_or b i no_step)) where
           abbrev behind : Bool
-          behind = steps_preferred block t.scope (drop (i + 1) (steps_taken a)) (drop (i + 1) (steps_taken b))
+          behind = steps_preferred block (get_or a i no_step).scope (drop (i + 1) a) (drop (i + 1) b)
 
-          both_on : here ≡ ((eqb l l' && eqb t.scope t'.scope) && behind)
-          both_on = onward ∙ rw (taken_next a i h t e, taken_next b i k t' e', is, is')
+          both_on : here ≡ (v && behind)
+          both_on = onward ∙ rw (opened a i h, opened b i k, ← e)
 
-          pub preferred_label : (l ≡ l' → ⊥) → here ≡ false
-          preferred_label z = both_on ∙ rw (ne_eqb l l' z)
+          pub preferred_apart : v ≡ false → here ≡ false
+          preferred_apart z = both_on ∙ rw z
 
-          pub preferred_scope : l ≡ l' → (t.scope ≡ t'.scope → ⊥) → here ≡ false
-          preferred_scope z z' = both_on ∙ rw (eq-eqb l l' z, ne_eqb t.scope t'.scope z')
-
-          pub preferred_on : l ≡ l' → t.scope ≡ t'.scope → here ≡ behind
-          preferred_on z z' = both_on ∙ rw (eq-eqb l l' z, eq-eqb t.scope t'.scope z')
+          pub preferred_on : v ≡ true → here ≡ behind
+          preferred_on z = both_on ∙ rw z

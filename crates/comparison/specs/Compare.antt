@@ -1,6 +1,10 @@
 -- Two path rows compared by the order of a file (document 01, "Paths"), whose letters and rules are
 -- graph_rows's Decode. Assumes nothing: these are definitions.
 use Rattle.std.specs.Prelude.{ℕ, ◌≡◌, List, Bool, true, false, ltb, length}
+use Rattle.std.specs.declared.result.Result.{Result}
+use Rattle.std.specs.declared.result.Result.TheVariants.{Ok, Err}
+use Rattle.text_field.specs.declared.refusal.Refusal.{Refusal}
+use Rattle.text_field.specs.Refusal.{number_of}
 use Rattle.text_field.specs.Outcome.{Outcome, refused, done, and_then, refuse_if}
 use Rattle.graph_file.specs.File.{read_cells}
 use Rattle.graph_rows.specs.Decode.{rules_of}
@@ -12,7 +16,7 @@ use Rattle.path_row.specs.Form.{PathRow, row_here, steps_held}
 use Rattle.path_row.specs.Lent.{steps_lent}
 use Rattle.path_row.specs.Numbering.{path_in}
 use Rattle.comparison.specs.declared.rows.Compared.{Compared}
-use Rattle.comparison.specs.declared.rows.Compared.TheVariants.{First, Second, Neither, Refused}
+use Rattle.comparison.specs.declared.rows.Compared.TheVariants.{First, Second, Neither}
 use Rattle.comparison.specs.declared.rows.ComparedRows.{ComparedRows}
 
 -- which of two rows is *more specific* (01, "Paths")
@@ -33,13 +37,16 @@ pub record Told : Type 0 where
 abbrev pub as_told : Comparison → ℕ → Told
 as_told c n = record { which = c; steps = n }
 
--- what an answer means: a refusal by its number, or which row is more specific, with the number of
--- steps that are equal (01, "Where each language form goes")
-unfoldable pub meaning : Compared → Outcome Told
-meaning (First n) = done (as_told first n)
-meaning (Second n) = done (as_told second n)
-meaning (Neither n) = done (as_told neither n)
-meaning (Refused n) = refused n
+-- which row is more specific, with the number of steps that are equal
+unfoldable pub told_in : Compared → Told
+told_in (First n) = as_told first n
+told_in (Second n) = as_told second n
+told_in (Neither n) = as_told neither n
+
+-- what an answer means: that, or a refusal by its number (01, "Where each language form goes")
+unfoldable pub meaning : Result Compared Refusal → Outcome Told
+meaning (Ok c) = done (told_in c)
+meaning (Err r) = refused (number_of r)
 
 -- is the one row more specific than the other, by the file's order?
 unfoldable pub row_before : List ℕ → PathRow → PathRow → Bool

@@ -1,10 +1,9 @@
 // A letter's number, by the board's letters.
 ghost use Rattle.std.specs.Prelude.{◌≡◌};
-ghost use Rattle.block.specs.Layout.{IsBlock};
 ghost use Rattle.path_row.specs.Numbering.{label_number};
 ghost use Rattle.comparison.specs.Letters.{block_letters};
 
-use block::letter;
+use block::{SIZE, letter};
 
 // A file has no more labels, so none has this number.
 pub const LABELS: u64 = 8;
@@ -13,12 +12,10 @@ const NO_LETTER: u64 = 0;
 
 // The number of a letter among the labels. One that is not listed has the count of the labels and
 // its own byte added to it, so each has another.
-pub fn label_number(block: &[u64], x: u8) -> u64
-    requires block { IsBlock block.now }
+pub fn label_number(block: &[u64; SIZE], x: u8) -> u64
     ensures answer { result ≡ label_number (block_letters block.now) x }
 {
-    let mut l: u64 = 0;
-    while l < LABELS {
+    for l in 0..LABELS {
         let y = letter(block, l);
         if y == NO_LETTER {
             return l + x as u64;
@@ -26,7 +23,6 @@ pub fn label_number(block: &[u64], x: u8) -> u64
         if y == x as u64 {
             return l;
         }
-        l += 1;
     }
-    l + x as u64
+    LABELS + x as u64
 }

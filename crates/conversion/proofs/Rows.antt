@@ -1,20 +1,23 @@
 -- Laws of looking for what the old form cannot show, row by row. Assumes nothing.
-use Prim.Native.Nat.{ℕ, ◌+◌, ◌-◌, ◌≤◌, ◌<◌}
+use Prim.Native.Nat.{ℕ, zero, suc, ◌+◌, ◌-◌, ◌*◌, ◌/◌, ◌≤◌, ◌<◌}
 use mathlib.Core.Path.{◌≡◌, refl, sym, ap, ◌∙◌}
 use mathlib.Core.Bool.{Bool, true, false, not, ◌&&◌, ◌||◌}
 use mathlib.Core.List.{List, [], ◌∷◌}
 use native.Mathlib.Omega.{arith}
 use borrow.Author.Tests.{eqb-true}
 use lib.Dec.{eqb}
-use lib.ListN.{length, get_or, drop, length-drop}
+use lib.ListN.{length, get_or, take, drop, length-drop}
 use lib.Seq.{drop-drop, get_or-drop}
+use Rattle.std.proofs.Math.Seq.{take-length}
+use Rattle.std.specs.List.{list_any, range_with_len}
 use Rattle.graph_rows.specs.Format.{plain_kind, edge_section, declaration_section, query_section}
 use Rattle.graph_rows.specs.Admission.{Row, row_of}
 use Rattle.graph_rows.specs.Way.{starts_with}
 use Rattle.graph_rows.specs.Order.{some_row}
 use Rattle.graph_rows.specs.Decode.{kept_if, rows_among, rows_in}
 use Rattle.graph_rows.specs.Formed.{other_kind, other_kinds, other_turn, other_turns}
-use Rattle.graph_table.specs.Sections.{first_row}
+use Rattle.graph_table.specs.Sections.{first_row, rows_of}
+use Rattle.graph_table.proofs.Parts.{rows_count}
 use Rattle.graph_table.specs.Values.{edge_row, declaration_row, query_row}
 use Rattle.graph_table.specs.declared.rows.EdgeRow.{EdgeRow}
 use Rattle.graph_table.specs.declared.rows.DeclarationRow.{DeclarationRow}
@@ -100,20 +103,38 @@ among_few (s ∷ a ∷ b ∷ c ∷ d ∷ e ∷ l) h = absurd (omega arith)
 
 -- from a place on
 module _ (t : List ℕ) (p : ℕ) where
-  pub among_hit : 6 ≤ length t - p → other_here (drop p t) ≡ true → among (drop p t) ≡ true
-  among_hit h e = among_six (drop p t) (rw (length-drop p t) h) ∙ rw e
+  among_step : 6 ≤ length t - p → among (drop p t) ≡ (other_here (drop p t) || among (drop (p + 6) t))
+  among_step h = among_six (drop p t) (rw (length-drop p t) h) ∙ ap (λ (l : List ℕ). other_here (drop p t) || among l) (drop-drop 6 p t)
 
-  pub among_next : 6 ≤ length t - p → other_here (drop p t) ≡ false → among (drop (p + 6) t) ≡ among (drop p t)
-  among_next h e = ap among (sym (drop-drop 6 p t)) ∙ sym (among_six (drop p t) (rw (length-drop p t) h) ∙ rw e)
-
-  pub among_end : length t - p < 6 → among (drop p t) ≡ false
+  among_end : length t - p < 6 → among (drop p t) ≡ false
   among_end h = among_few (drop p t) (rw (length-drop p t) h)
 
+-- the row of a number, and the rows from there on
+abbrev pub other_at : List ℕ → ℕ → Bool
+other_at t i = other_here (drop (6 * i) t)
+
+other_from : (t : List ℕ) (n i : ℕ) → n ≡ (length t - 6 * i) / 6 → list_any (other_at t) (range_with_len i n) ≡ among (drop (6 * i) t)
+other_from t zero i h = sym (among_end t (6 * i) (omega arith))
+other_from t (suc n) i h =
+    let next : 6 * (i + 1) ≡ 6 * i + 6 = omega arith in
+    ap (λ (b : Bool). other_at t i || b) (other_from t n (i + 1) (omega arith) ∙ ap (λ (p : ℕ). among (drop p t)) next)
+    ∙ sym (among_step t (6 * i) (omega arith))
+
 -- the rows behind the form are all
-pub among_all : (t : List ℕ) (p : ℕ) → p ≡ first_row t → among (drop p t) ≡ unshown t
+among_all : (t : List ℕ) (p : ℕ) → p ≡ first_row t → among (drop p t) ≡ unshown t
 unfolding among kind_among turn_among unshown other_kinds other_turns rows_in first_row
 among_all [] p e = rw e
 among_all (form ∷ t) p e = rw e
+
+-- the rows behind the form are the rest of the table
+abbrev pub behind : List ℕ → ℕ → List ℕ
+behind t p = take (length t - p) (drop p t)
+
+pub other_some : (t : List ℕ) (p n : ℕ) → p ≡ first_row t → n ≡ length (rows_of (behind t p)) → list_any (other_at (behind t p)) (range_with_len 0 n) ≡ unshown t
+other_some t p n e h =
+    let rest : behind t p ≡ drop p t = ap (λ (k : ℕ). take k (drop p t)) (sym (length-drop p t)) ∙ take-length (drop p t) in
+    let count = rows_count (length (behind t p)) (behind t p) (omega arith) in
+    other_from (behind t p) n 0 (omega arith) ∙ ap among rest ∙ among_all t p e
 
 -- one row, by its section
 module _ (t : List ℕ) (p : ℕ) where

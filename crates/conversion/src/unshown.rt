@@ -7,7 +7,7 @@ ghost use Rattle.conversion.specs.Rows.{other_here, unfit};
 use graph_rows::PLAIN_KIND;
 use graph_table::{
     DECLARATIONS, EDGES, EdgeRow, Form, Name, QUERIES, ROW, declaration_row, edge_row, first_row,
-    in_section, query_row,
+    in_section, query_row, row_count,
 };
 
 // The turn of every edge of a file without turns (document 02, K12).
@@ -52,14 +52,8 @@ fn is_other(table: &[u64], p: usize) -> bool
 fn unshown(table: &[u64]) -> bool
     ensures answer { result ≡ unshown table.now }
 {
-    let mut at = first_row(table);
-    while ROW <= table.len() - at {
-        if is_other(table, at) {
-            return true;
-        }
-        at += ROW;
-    }
-    false
+    let rows = &table[first_row(table)..];
+    (0..row_count(rows)).any(|i| is_other(rows, ROW * i))
 }
 
 // Has the table something that the form cannot show?

@@ -1,12 +1,12 @@
 -- What the code finds in a table that was read is what the graph has. Assumes nothing.
-use Prim.Native.Nat.{ℕ, ◌+◌, ◌-◌, ◌*◌, ◌%◌, ◌≤◌, ◌<◌}
+use Prim.Native.Nat.{ℕ, zero, suc, ◌+◌, ◌-◌, ◌*◌, ◌/◌, ◌%◌, ◌≤◌, ◌<◌}
 use mathlib.Core.Path.{◌≡◌, refl, sym, ap, ◌∙◌}
-use mathlib.Core.Bool.{Bool, true, false, not, ◌||◌}
+use mathlib.Core.Bool.{Bool, false, not, ◌||◌}
 use mathlib.Core.List.{List, [], ◌∷◌, ◌++◌, map, flat_map}
 use native.Mathlib.Omega.{arith}
-use borrow.Author.Tests.{eq-eqb, ne_eqb}
 use lib.Dec.{eqb}
-use lib.ListN.{length, get_or, drop, length-map, get_or-map}
+use lib.ListN.{length, get_or, drop, length-map, get_or-map, replicate, length-replicate}
+use Rattle.std.specs.List.{list_any, range_with_len}
 use Rattle.scope_graph.specs.Language.{◌∈◌}
 use Rattle.scope_graph.specs.Graph.{Edge, InRange}
 use Rattle.scope_graph.specs.Rows.{language}
@@ -47,15 +47,24 @@ module _ (edges : List ℕ) (p : ℕ) (row : EdgeRow) (e : row ≡ edge_row edge
       ap (some_row other_turn) (rows_next edges p h)
       ∙ ap (λ (b : Bool). b || some_row other_turn (rows_of (drop (p + 6) edges))) turn_here
 
-  pub turn_hit : (row.turn ≡ 0 → ⊥) → some_row other_turn (rows_of (drop p edges)) ≡ true
-  turn_hit n = turn_next ∙ rw (ne_eqb row.turn 0 n)
-
-  pub turn_miss : row.turn ≡ 0 → some_row other_turn (rows_of (drop (p + 6) edges)) ≡ some_row other_turn (rows_of (drop p edges))
-  turn_miss z = sym (turn_next ∙ rw (eq-eqb row.turn 0 z))
-
-pub turn_end : (edges : List ℕ) (p : ℕ) → length edges - p < 6 → some_row other_turn (rows_of (drop p edges)) ≡ false
+turn_end : (edges : List ℕ) (p : ℕ) → length edges - p < 6 → some_row other_turn (rows_of (drop p edges)) ≡ false
 unfolding some_row
 turn_end edges p h = ap (some_row other_turn) (rows_none edges p h)
+
+-- whether the row of a number has another turn than 0, and whether one of the rows has
+abbrev pub turned : List ℕ → ℕ → Bool
+turned edges i = not (eqb (edge_row edges (6 * i)).turn 0)
+
+turned_from : (edges : List ℕ) (n i : ℕ) → n ≡ (length edges - 6 * i) / 6 → list_any (turned edges) (range_with_len i n) ≡ some_row other_turn (rows_of (drop (6 * i) edges))
+turned_from edges zero i h = sym (turn_end edges (6 * i) (omega arith))
+turned_from edges (suc n) i h =
+    let next : 6 * (i + 1) ≡ 6 * i + 6 = omega arith in
+    ap (λ (b : Bool). turned edges i || b)
+    (turned_from edges n (i + 1) (omega arith) ∙ ap (λ (p : ℕ). some_row other_turn (rows_of (drop p edges))) next)
+    ∙ sym (turn_next edges (6 * i) (edge_row edges (6 * i)) refl (omega arith))
+
+pub turned_some : (edges : List ℕ) (n : ℕ) → n ≡ length (rows_of edges) → list_any (turned edges) (range_with_len 0 n) ≡ some_row other_turn (rows_of edges)
+turned_some edges n h = let count = rows_count (length edges) edges (omega arith) in turned_from edges n 0 (omega arith)
 
 -- functions that agree on a list's elements
 map_same : {A B : Type 0} (f g : A → B) (l : List A) → ((a : A) → a ∈ l → f a ≡ g a) → map f l ≡ map g l
@@ -176,3 +185,7 @@ module _ (cells : List ℕ) (was : WasRead cells) where
       let short = drawing_short (other_turns cells) (numbers_below (scopes_of cells)) (drawn_edges cells)
       (λ s m. let k = numbers_elim (scopes_of cells) s m in omega arith) edges_narrow in
       omega arith
+
+-- the code's own memory has room for the drawing
+pub drawing_room : (cells : List ℕ) → WasRead cells → length (drawing_of cells) ≤ length (replicate {A = ℕ} 11556 0)
+drawing_room cells was = let f = drawing_most cells was in let r = length-replicate {A = ℕ} 11556 0 in omega arith

@@ -2,5 +2,4 @@
 -- promises.
 pub mod Texts
 pub mod Found
-pub mod Answers
 pub mod Promises

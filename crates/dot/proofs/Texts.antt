@@ -10,32 +10,17 @@ use Rattle.scope_graph.specs.Language.{◌∈◌}
 use Rattle.scope_graph.specs.Readers.{numbers_below}
 use Rattle.scope_graph.proofs.Lists.{here, there}
 use Rattle.text_field.specs.Number.{number_text}
-use Rattle.text_field.specs.Buffer.{Buf, put, puts}
+use Rattle.text_field.specs.Buffer.{Buf, puts}
 use Rattle.text_field.proofs.NumberLaws.{length_below}
-use Rattle.text_field.proofs.BufferLaws.{puts_then, puts_step, puts_one, puts_none}
+use Rattle.text_field.proofs.BufferLaws.{puts_then}
 use Rattle.graph_rows.specs.Admission.{Row, row_of}
 use Rattle.graph_rows.proofs.RowLaws.{row_cells}
 use Rattle.graph_table.specs.declared.rows.EdgeRow.{EdgeRow}
 use Rattle.graph_table.specs.Values.{edge_row}
 use Rattle.graph_table.proofs.Parts.{rows_next, rows_none}
-use Rattle.dot_text.specs.Tokens.{comment}
 use Rattle.dot_text.specs.Grammar.{DrawnEdge}
 use Rattle.dot.specs.Drawing.{dropped_if, open_line, scope_line, arrow, before_letter, after_letter, edge_line, close_line, drawing_text}
 use Rattle.dot.specs.Rows.{drawn, drawn_by, letter_byte, edge_lines}
-
--- the head
-pub head_dropped : (dropped : Bool) → dropped ≡ true → (b c d : Buf) → c ≡ puts b comment → d ≡ puts c open_line → d ≡ puts b (dropped_if dropped ++ open_line)
-unfolding dropped_if
-head_dropped dropped e b c d f g = puts_then b c d comment open_line f g ∙ ap (λ (t : Bool). puts b (dropped_if t ++ open_line)) (sym e)
-
-pub head_plain : (dropped : Bool) → dropped ≡ false → (b c : Buf) → c ≡ puts b open_line → c ≡ puts b (dropped_if dropped ++ open_line)
-unfolding dropped_if
-head_plain dropped e b c f = f ∙ ap (λ (t : Bool). puts b (dropped_if t ++ open_line)) (sym e)
-
--- a scope and what ends its line
-pub scope_puts : (s : ℕ) (b c d : Buf) → c ≡ puts b (number_text s) → d ≡ puts c (59 ∷ 10 ∷ []) → d ≡ puts b (scope_line s)
-unfolding scope_line
-scope_puts s b c d e f = puts_then b c d (number_text s) (59 ∷ 10 ∷ []) e f
 
 -- the scopes below n, one after the other
 abbrev pub scope_lines : ℕ → List ℕ
@@ -47,30 +32,12 @@ lines_append [] k = refl
 lines_append (x ∷ l) k =
     ap (λ (z : List ℕ). scope_line x ++ z) (lines_append l k) ∙ sym (append_assoc (scope_line x) (flat_map scope_line l) (flat_map scope_line k))
 
-pub scopes_none : (b : Buf) → b ≡ puts b (scope_lines 0)
-unfolding numbers_below flat_map puts
-scopes_none b = refl
-
-scopes_more : (n : ℕ) → scope_lines (n + 1) ≡ scope_lines n ++ scope_line n
+pub scopes_more : (n : ℕ) → scope_lines (n + 1) ≡ scope_lines n ++ scope_line n
 unfolding numbers_below flat_map
 scopes_more n =
     ap scope_lines (add-one n)
     ∙ lines_append (numbers_below n) (n ∷ [])
     ∙ ap (λ (l : List ℕ). scope_lines n ++ l) (append-nil (scope_line n))
-
-pub scopes_next_lem : (n : ℕ) (b c d : Buf) → c ≡ puts b (scope_lines n) → d ≡ puts c (scope_line n) → d ≡ puts b (scope_lines (n + 1))
-scopes_next_lem n b c d e f = puts_then b c d (scope_lines n) (scope_line n) e f ∙ ap (puts b) (sym (scopes_more n))
-
--- the six parts of an edge's line
-pub edge_puts : (e : DrawnEdge) (b c d f g h i : Buf) → c ≡ puts b (number_text e.from) → d ≡ puts c arrow → f ≡ puts d (number_text e.to)
-    → g ≡ puts f before_letter → h ≡ put g e.letter → i ≡ puts h after_letter → i ≡ puts b (edge_line e)
-unfolding edge_line
-edge_puts e b c d f g h i from to-arrow to before letter after =
-    let y = puts_then g h i (e.letter ∷ []) after_letter (letter ∙ puts_one g e.letter) after in
-    let x = puts_then f g i before_letter (e.letter ∷ after_letter) before y in
-    let w = puts_then d f i (number_text e.to) (before_letter ++ (e.letter ∷ after_letter)) to x in
-    let v = puts_then c d i arrow (number_text e.to ++ (before_letter ++ (e.letter ∷ after_letter))) to-arrow w in
-    puts_then b c i (number_text e.from) (arrow ++ (number_text e.to ++ (before_letter ++ (e.letter ∷ after_letter)))) from v
 
 -- the lines of the edge rows from a place on
 module _ (labels edges : List ℕ) (p : ℕ) where
@@ -85,16 +52,13 @@ module _ (labels edges : List ℕ) (p : ℕ) where
   unfolding edge_lines flat_map
   edges_next_lem h = ap (λ (l : List Row). flat_map edge_line (map (drawn_by labels) l)) (rows_next edges p h)
 
-  pub edges_step : 6 ≤ length edges - p → (b c w : Buf) (row : EdgeRow) → row ≡ edge_row edges p → (x : ℕ) → x ≡ letter_byte labels row.label
-      → c ≡ puts b (edge_line (drawn row x)) → puts b (edge_lines labels (drop p edges)) ≡ w → puts c (edge_lines labels (drop (p + 6) edges)) ≡ w
-  edges_step h b c w row e x f put all =
-      puts_step b c w (edge_line (drawn row x)) (edge_lines labels (drop (p + 6) edges)) (edge_lines labels (drop p edges)) put
-      (edges_next_lem h ∙ ap (λ (d : DrawnEdge). edge_line d ++ edge_lines labels (drop (p + 6) edges)) (sym (row_drawn row e x f)))
-      all
+  pub edges_first : 6 ≤ length edges - p → (row : EdgeRow) → row ≡ edge_row edges p → (x : ℕ) → x ≡ letter_byte labels row.label
+      → edge_lines labels (drop p edges) ≡ edge_line (drawn row x) ++ edge_lines labels (drop (p + 6) edges)
+  edges_first h row e x f = edges_next_lem h ∙ ap (λ (d : DrawnEdge). edge_line d ++ edge_lines labels (drop (p + 6) edges)) (sym (row_drawn row e x f))
 
-  pub edges_end : length edges - p < 6 → (b w : Buf) → puts b (edge_lines labels (drop p edges)) ≡ w → b ≡ w
+  pub edges_none : length edges - p < 6 → edge_lines labels (drop p edges) ≡ []
   unfolding edge_lines flat_map
-  edges_end h b w all = puts_none b (edge_lines labels (drop p edges)) (ap (λ (l : List Row). flat_map edge_line (map (drawn_by labels) l)) (rows_none edges p h)) ∙ all
+  edges_none h = ap (λ (l : List Row). flat_map edge_line (map (drawn_by labels) l)) (rows_none edges p h)
 
 -- the four parts of a drawing
 pub whole_puts : (dropped : Bool) (scopes : List ℕ) (edges : List DrawnEdge) (b c d e f : Buf) → c ≡ puts b (dropped_if dropped ++ open_line)

@@ -5,8 +5,8 @@ ghost use Rattle.graph_rows.specs.Formed.{other_turn};
 ghost use Rattle.graph_table.specs.Sections.{rows_of};
 ghost use Rattle.dot.specs.Rows.{letter_byte};
 
-use graph_table::{ROW, edge_row};
-use text_field::cell;
+use graph_table::{ROW, edge_row, row_count};
+use text_field::get_or;
 
 // The labels of a file at most (document 01, "The gym file").
 const LABELS_MOST: u64 = 8;
@@ -19,20 +19,12 @@ pub(crate) fn letter_byte(labels: &[u64], label: u64) -> u8
     ensures answer { result ≡ letter_byte labels.now label }
 {
     let i = (label % LABELS_MOST) as usize;
-    (cell(labels, ROW * i + 1, 0) % 256) as u8
+    (get_or(labels, ROW * i + 1, 0) % 256) as u8
 }
 
 // Does some edge row have another turn than 0?
 pub(crate) fn has_turn(edges: &[u64]) -> bool
     ensures answer { result ≡ some_row other_turn (rows_of edges.now) }
 {
-    let mut at: usize = 0;
-    while ROW <= edges.len() - at {
-        let row = edge_row(edges, at);
-        if row.turn != DRAWN_TURN {
-            return true;
-        }
-        at += ROW;
-    }
-    false
+    (0..row_count(edges)).any(|i| edge_row(edges, ROW * i).turn != DRAWN_TURN)
 }

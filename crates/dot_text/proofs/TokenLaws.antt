@@ -11,8 +11,8 @@ use borrow.Author.Tests.{eqb-true, ne_eqb}
 use Rattle.text_field.specs.Bytes.{is_digit, is_capital}
 use Rattle.text_field.specs.Outcome.{refused, done}
 use Rattle.text_field.specs.Number.{number_text, number_here}
-use Rattle.text_field.specs.declared.NumberRead.{NumberRead}
-use Rattle.text_field.specs.declared.NumberRead.TheVariants.{Number, NoNumber}
+use Rattle.std.specs.declared.option.Option.{Option}
+use Rattle.std.specs.declared.option.Option.TheVariants.{Some, None}
 use Rattle.text_field.proofs.ByteLaws.{both, clash}
 use Rattle.text_field.proofs.OutcomeLaws.{done_same, not_done}
 use Rattle.text_field.proofs.ByteLaws.{digit_bounds}
@@ -83,8 +83,8 @@ pub number_stands : (s : List ℕ) (t : Taken ℕ) → number_next s ≡ done t 
 unfolding number_next number_of spelling
 number_stands s t e = by (number_here (past_blanks s)) refl e
   where
-    by : (r : NumberRead) → number_here (past_blanks s) ≡ r → number_of r (past_blanks s) ≡ done t → Stands (number t.value) s t.rest
-    by (Number v w) here f =
+    by : (r : Option (ℕ × ℕ)) → number_here (past_blanks s) ≡ r → number_of r (past_blanks s) ≡ done t → Stands (number t.value) s t.rest
+    by (Some (v, w)) here f =
         let q = done_same (record { value = v; rest = drop w (past_blanks s) }) t f in
         let b = blanked s in
         let n = number_found (past_blanks s) v w here in
@@ -96,14 +96,14 @@ number_stands s t e = by (number_here (past_blanks s)) refl e
           proper = rw (← p) n.small;
           whole = b.whole ∙ ap (λ (z : List ℕ). b.gap ++ z) (n.whole ∙ rw (d, p));
         }
-    by NoNumber here f = absurd (not_done 18 t f)
+    by None here f = absurd (not_done 18 t f)
 
 -- what comes after the space is no blank
 pub not_blank : (x : ℕ) → 33 ≤ x → is_blank x ≡ false
 unfolding is_blank
 not_blank x h = rw (ne_eqb x 32 (λ e. omega arith), ne_eqb x 9 (λ e. omega arith), ne_eqb x 10 (λ e. omega arith))
 
-digit_front : (s : List ℕ) (v w : ℕ) → number_here s ≡ Number v w → past_blanks s ≡ s
+digit_front : (s : List ℕ) (v w : ℕ) → number_here s ≡ Some (v, w) → past_blanks s ≡ s
 unfolding past_blanks
 digit_front [] v w e = refl
 digit_front (x ∷ s) v w e = by (is_digit x) refl

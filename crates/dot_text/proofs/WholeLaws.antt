@@ -31,3 +31,5 @@ module _ (s : List ℕ) (start : ℕ) (from : drop start s ≡ past_comment s) w
     pub parts_endless : t ≡ false → refused 18 ≡ parts_of s
     unfolding places_in refuse_if
     parts_endless h = sym (rw (ended ∙ h)) ∙ places
+
+pub ruleset parts_steps = (parts_headless, parts_whole, parts_endless)

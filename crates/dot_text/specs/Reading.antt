@@ -4,8 +4,8 @@ use Rattle.std.specs.Prelude.{ℕ, zero, suc, Bool, true, false, not, ◌&&◌, 
 use Rattle.text_field.specs.Bytes.{is_capital}
 use Rattle.text_field.specs.Outcome.{Outcome, refused, done, and_then, refuse_if}
 use Rattle.text_field.specs.Number.{number_here}
-use Rattle.text_field.specs.declared.NumberRead.{NumberRead}
-use Rattle.text_field.specs.declared.NumberRead.TheVariants.{Number, NoNumber}
+use Rattle.std.specs.declared.option.Option.{Option}
+use Rattle.std.specs.declared.option.Option.TheVariants.{Some, None}
 use Rattle.dot_text.specs.Tokens.{is_blank, digraph, scopes_word, label_word, arrow, open_brace, close_brace, open_bracket, close_bracket, equals, semicolon, comment}
 use Rattle.dot_text.specs.Grammar.{DrawnEdge, Drawing}
 
@@ -25,10 +25,10 @@ past_bytes [] text = done text
 past_bytes (b ∷ bytes) [] = refused 18
 past_bytes (b ∷ bytes) (x ∷ text) = elim (eqb x b) [ true ↦ past_bytes bytes text | false ↦ refused 18 ]
 
--- a number and the place after it, in a text
-unfoldable pub number_of : NumberRead → List ℕ → Outcome (Taken ℕ)
-number_of (Number v next) text = done (record { value = v; rest = drop next text })
-number_of NoNumber text = refused 18
+-- a number, or the byte of a letter, and the place after it, in a text
+unfoldable pub number_of : Option (ℕ × ℕ) → List ℕ → Outcome (Taken ℕ)
+number_of (Some (v, next)) text = done (record { value = v; rest = drop next text })
+number_of None text = refused 18
 
 -- The next token: fixed bytes, a number, or a letter in quotes.
 unfoldable pub fixed_next : List ℕ → List ℕ → Outcome (List ℕ)

@@ -6,5 +6,5 @@ mod statements;
 mod tokens;
 mod whole;
 
-pub use statements::{EdgeRead, edge, scope};
-pub use whole::{DrawingRead, drawing};
+pub use statements::{edge, scope};
+pub use whole::drawing;

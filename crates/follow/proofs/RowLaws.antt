@@ -1,16 +1,19 @@
 -- Laws of the path that the walk holds, and of a row's text and size. Assumes nothing.
 use mathlib.Core.Path.{◌≡◌, refl, sym, ap, ◌∙◌}
 use mathlib.Core.List.{List, [], ◌∷◌, ◌++◌, map, append_assoc, append-nil}
-use Prim.Native.Nat.{ℕ, suc, ◌+◌, ◌*◌, ◌/◌, ◌%◌, ◌≤◌, ◌<◌}
+use Prim.Native.Nat.{ℕ, suc, ◌+◌, ◌*◌, ◌/◌, ◌%◌, ◌≤◌, ◌<◌, min}
 use native.Mathlib.Omega.{arith}
 use native.Mathlib.Numerals.{add-one}
 use lib.ListN.{length, get_or, set, take, drop, length-append, length-take, get_or-map}
 use lib.Seq.{get_or-take, get_or-drop, take-suc, take-suc-set, take_all}
+use lib.Dec.{leb}
+use borrow.Author.Tests.{leb-true, leb-false}
+use mathlib.Core.Bool.{true, false}
+use mathlib.Core.Logic.{⊎_elim}
+use Rattle.scope_graph.proofs.Lists.{Two}
 use Rattle.scope_graph.specs.Path.{HopOf}
 use Rattle.scope_graph.specs.Turns.{Turned}
 use Rattle.text_field.specs.Number.{number_text}
-use Rattle.text_field.specs.Buffer.{Buf, puts}
-use Rattle.text_field.proofs.BufferLaws.{puts_then}
 use Rattle.text_field.proofs.NumberLaws.{length_below}
 use Rattle.block.specs.Layout.{LETTER}
 use Rattle.block.specs.Block.{scope_of, label_of, turn_of, hop_of, letter_cell}
@@ -20,14 +23,6 @@ use Rattle.follow.specs.Text.{letter_of, hops_text, row_text}
 use Rattle.follow.specs.declared.Path.{Path}
 use Rattle.follow.specs.Walk.{path_hops, letter_bytes}
 use Rattle.follow.specs.Steps.{hops_size, path_size}
-
--- a text that was written, by another name
-pub puts_as : (b c : Buf) (xs ys : List ℕ) → c ≡ puts b xs → ys ≡ xs → c ≡ puts b ys
-puts_as b c xs ys e f = e ∙ ap (puts b) (sym f)
-
--- what is written by one call and then by another
-pub puts_both : (b c d : Buf) (xs ys zs : List ℕ) → c ≡ puts b xs → d ≡ puts c ys → zs ≡ xs ++ ys → d ≡ puts b zs
-puts_both b c d xs ys zs e f g = puts_as b d (xs ++ ys) zs (puts_then b c d xs ys e f) g
 
 map_append : {A B : Type 0} (f : A → B) (xs ys : List A) → map f (xs ++ ys) ≡ map f xs ++ map f ys
 map_append f [] ys = refl
@@ -51,14 +46,23 @@ module _ (hops : List ℕ) where
   unfolding first_hops
   first_step_lem i x h e = rw (add-one i, take-suc hops i 0 h, e) (map_append hop_of (take i hops) (get_or hops i 0 ∷ []))
 
-  -- behind the last place there are no more
-  pub first_end : (i depth : ℕ) → length hops ≤ i → i ≤ depth → first_hops hops i ≡ first_hops hops depth
+  -- all that are held
+  pub all_hops : (i : ℕ) → length hops ≤ i → first_hops hops i ≡ map hop_of hops
   unfolding first_hops
-  first_end i depth h g = rw (take_all i hops h, take_all depth hops (omega arith))
+  all_hops i h = rw (take_all i hops h)
 
   first_more : (depth x : ℕ) → depth < length hops → first_hops (set hops depth x) (suc depth) ≡ first_hops hops depth ++ (hop_of x ∷ [])
   unfolding first_hops
   first_more depth x h = rw (take-suc-set hops depth x h) (map_append hop_of (take depth hops) (x ∷ []))
+
+-- a path's hops, no more than it has places
+pub held_hops : (p : Path) (k : ℕ) → length p.hops ≡ 64 → k ≡ min p.depth 64 → map hop_of (take k p.hops) ≡ path_hops p
+unfolding path_hops
+held_hops p k h e =
+    ⊎_elim
+    (λ (y : leb p.depth 64 ≡ true). let same : k ≡ p.depth = omega (arith, leb-true p.depth 64 y) in rw same)
+    (λ (y : leb p.depth 64 ≡ false). let past = leb-false p.depth 64 y in rw (take_all k p.hops (omega arith), take_all p.depth p.hops (omega arith)))
+    (Two (leb p.depth 64))
 
 -- the path's cells hold a hop whole
 hop_narrow : (x : ℕ) → hop_of (x % 65536) ≡ hop_of x
@@ -115,10 +119,6 @@ module _ (letters : List ℕ) where
       → hops_text letters (first_hops hops (i + 1)) ≡ hops_text letters (first_hops hops i) ++ hops_text letters (hop_of x ∷ [])
   hops_step hops i x h e = ap (hops_text letters) (first_step_lem hops i x h e) ∙ hops_append (first_hops hops i) (hop_of x ∷ [])
 
-  pub hops_end : (p : Path) (i : ℕ) → length p.hops ≤ i → i ≤ p.depth
-      → hops_text letters (path_hops p) ≡ hops_text letters (first_hops p.hops i)
-  hops_end p i h g = ap (hops_text letters) (path_is p ∙ sym (first_end p.hops i p.depth h g))
-
   -- a row, in its three parts
   pub row_parts : (mark start : ℕ) (hops : List (HopOf Turned))
       → row_text letters mark start hops ≡ (front_text mark start ++ hops_text letters hops) ++ (10 ∷ [])
@@ -164,9 +164,6 @@ module _ (hops : List ℕ) where
       each (x ∷ xs) = omega (arith, each xs, length_below 1 (x % 64) (omega arith))
 
 module _ (p : Path) where
-  pub size_end : (i : ℕ) → length p.hops ≤ i → i ≤ p.depth → hops_size (first_hops p.hops i) ≡ hops_size (path_hops p)
-  size_end i h g = ap hops_size (first_end p.hops i p.depth h g ∙ sym (path_is p))
-
   pub path_most : hops_size (path_hops p) ≤ 3 * length p.hops
   path_most = rw (path_is p) (size_most p.hops p.depth)
 

@@ -20,9 +20,11 @@ use Rattle.search.specs.Board.{cut_here}
 use Rattle.search.specs.Tables.{plain_end, table_order, table_board}
 use Rattle.search.specs.Steps.{worth_state}
 use Rattle.search.proofs.HopLaws.{NextHop}
+use Rattle.search.specs.Conditions.{Known}
+use Rattle.search.specs.declared.Learnt.{Learnt}
 use Rattle.search.specs.declared.Node.{Node}
 use Rattle.search.proofs.LaterLaws.{step_by_label, step_highest}
-use Rattle.follow.specs.Steps.{end_cut, Skipped, NextFollowed}
+use Rattle.follow.specs.Steps.{end_cut, Told, Skipped, NextFollowed}
 
 module _ (block ask onward : List ℕ) (n : Node) (p : ℕ) where
   -- none yet
@@ -75,18 +77,12 @@ module _ (block ask onward : List ℕ) (n : Node) (p : ℕ) where
     none = on_none block n.scope p;
   }
 
--- the step of edge number i, by its cell, as the code asks about it
-pub step_cut_lem : (block ask : List ℕ) (n : Node) (i x goal : ℕ) (cut : Bool) → x ≡ edge_cell block i → goal ≡ ask_goal ask
-    → cut ≡ cut_here (table_board block goal) (table_order block) n.left (has_scope n.free) n.scope n.state (by (hop_of x).step)
-    → end_cut block ask n (by (hop_of (edge_cell block i)).step) ≡ cut
-step_cut_lem block ask n i x goal cut e g says = sym (rw (e, g) at says)
-
--- the same where all turns are 0: it is cut as its label is
-pub label_cut : (block ask : List ℕ) (n : Node) (i x goal : ℕ) (cut : Bool) → Bounds block → turn_cell block ≡ 0 → x ≡ edge_cell block i → goal ≡ ask_goal ask
-    → cut ≡ cut_here (table_board block goal) (table_order block) n.left (has_scope n.free) n.scope n.state (plain_end (end_of (label_of x + 1)))
-    → end_cut block ask n (by (hop_of (edge_cell block i)).step) ≡ cut
-label_cut block ask n i x goal cut bounds none e g says = step_cut_lem block ask n i x goal cut e g (by_cases cut refl)
+-- what is learnt by asking about a step's label, where all turns are 0
+pub label_told : (block ask : List ℕ) (n : Node) (x : ℕ) (learnt : Learnt) → Bounds block → turn_cell block ≡ 0 → Known block (ask_goal ask) n learnt.known
+    → learnt.cut ≡ cut_here (table_board block (ask_goal ask)) (table_order block) n.left (has_scope n.free) n.scope n.state (plain_end (end_of (label_of x + 1)))
+    → Told block ask n x learnt
+label_told block ask n x learnt bounds none known says = record { known = known; cut = sym (by_cases learnt.cut refl) }
   where
-    by_cases : (b : Bool) → cut ≡ b → cut ≡ cut_here (table_board block goal) (table_order block) n.left (has_scope n.free) n.scope n.state (by (hop_of x).step)
-    by_cases true c = c ∙ sym (step_by_label block goal n x (sym says ∙ c))
-    by_cases false c = c ∙ sym (step_highest block goal n x bounds (omega (arith, none)) (sym says ∙ c))
+    by_cases : (b : Bool) → learnt.cut ≡ b → learnt.cut ≡ end_cut block ask n (by (hop_of x).step)
+    by_cases true c = c ∙ sym (step_by_label block (ask_goal ask) n x (sym says ∙ c))
+    by_cases false c = c ∙ sym (step_highest block (ask_goal ask) n x bounds (omega (arith, none)) (sym says ∙ c))

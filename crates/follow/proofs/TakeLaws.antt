@@ -141,6 +141,12 @@ several_is None e = absurd (false≢true e)
 several_is (One a m) e = absurd (false≢true e)
 several_is Several e = refl
 
+pub not_several : (seen : Seen) → (seen ≡ Several → ⊥) → is_several seen ≡ false
+unfolding is_several
+not_several None other = refl
+not_several (One a m) other = refl
+not_several Several other = absurd (other refl)
+
 -- all rows noted; several stay several
 unfoldable pub noted_all : Seen → List Taken → Seen
 noted_all seen [] = seen
@@ -279,23 +285,7 @@ module _
       answer_past x = rw (count, note) (sym (take_past b (out, t) row on (fits_false b.limit t.bytes (length row.text) (rw size at x))))
 
       module _ (still : t.over ≡ false) (limit : fits b.limit t.bytes k ≡ true) where
-        taken : (o : List ℕ) → o ≡ keep_row b.kept out t.bytes row.text
+        pub answer_within : (o : List ℕ) → o ≡ keep_row b.kept out t.bytes row.text
             → ◌≡◌ {A = State} (o, record { bytes = t.bytes + k; entries = e; over = false; seen = n }) (take_row b (out, t) row)
         unfolding within
-        taken o x = rw (count, note, size, x) (sym (take_within b (out, t) row still (fits_true b.limit t.bytes (length row.text) (rw size at limit))))
-
-        pub answer_unkept : fits b.kept t.bytes k ≡ false
-            → ◌≡◌ {A = State} (out, record { bytes = t.bytes + k; entries = e; over = false; seen = n }) (take_row b (out, t) row)
-        answer_unkept x =
-            taken out (sym (keep_no b.kept out t.bytes row.text (inl (fits_false b.kept t.bytes (length row.text) (rw size at x)))))
-
-        pub answer_full : fits (length out) t.bytes k ≡ false
-            → ◌≡◌ {A = State} (out, record { bytes = t.bytes + k; entries = e; over = false; seen = n }) (take_row b (out, t) row)
-        answer_full x =
-            taken out (sym (keep_no b.kept out t.bytes row.text (inr (fits_false (length out) t.bytes (length row.text) (rw size at x)))))
-
-        pub answer_written : fits b.kept t.bytes k ≡ true → fits (length out) t.bytes k ≡ true → (o : List ℕ) (n' : ℕ)
-            → ◌≡◌ {A = Buf} (o, n') (puts (out, t.bytes) row.text)
-            → ◌≡◌ {A = State} (o, record { bytes = t.bytes + k; entries = e; over = false; seen = n }) (take_row b (out, t) row)
-        answer_written x y o n' w =
-            taken o (ap (λ (c : Buf). c.0) w ∙ sym (keep_yes b.kept out t.bytes row.text (fits_true b.kept t.bytes (length row.text) (rw size at x)) (fits_true (length out) t.bytes (length row.text) (rw size at y))))
+        answer_within o x = rw (count, note, size, x) (sym (take_within b (out, t) row still (fits_true b.limit t.bytes (length row.text) (rw size at limit))))

@@ -13,7 +13,9 @@ use Rattle.block.specs.Ask.{ask_goal}
 use Rattle.search.specs.Board.{without, cut_here, hop_hits}
 use Rattle.search.specs.Tables.{plain_end, table_order, table_board}
 use Rattle.search.specs.Steps.{worth_state}
+use Rattle.search.specs.Conditions.{Known}
 use Rattle.search.specs.declared.Node.{Node}
+use Rattle.search.specs.declared.Learnt.{Learnt}
 use Rattle.follow.specs.declared.Aim.{Aim}
 use Rattle.follow.specs.declared.Task.TheVariants.{Place}
 use Rattle.follow.specs.Tally.{Taken}
@@ -53,6 +55,11 @@ module _ (block table ask : List ℕ) (aim : Aim) (hops : List (HopOf Turned)) (
 abbrev pub end_cut : List ℕ → List ℕ → Node → End Turned → Bool
 end_cut block ask n e =
     cut_here (table_board block (ask_goal ask)) (table_order block) n.left (has_scope n.free) n.scope n.state e
+
+-- what was learnt by asking about the step of the edge with this cell: whether it is cut
+pub record Told (block ask : List ℕ) (n : Node) (x : ℕ) (learnt : Learnt) : Type 0 where
+  pub known : Known block (ask_goal ask) n learnt.known
+  pub cut : end_cut block ask n (by (hop_of x).step) ≡ learnt.cut
 
 -- From edge p of the node's scope on up to edge r, each hop is worth nothing or its step is cut.
 pub record Skipped (block ask onward : List ℕ) (n : Node) (p r : ℕ) : Type 0 where

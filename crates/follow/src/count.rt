@@ -1,18 +1,16 @@
 // Rows are counted, measured against a limit, and their declarations compared.
-ghost use Rattle.std.specs.Prelude.{◌≡◌, List, ℕ};
+ghost use Rattle.std.specs.Prelude.{◌≡◌, true, ◌+◌, ◌<◌, List, ℕ};
 ghost use Rattle.follow.specs.Tally.{State, noted, is_several, fits, more, take_row, is_done, is_broken};
 ghost use Rattle.follow.specs.Walk.{place_row};
 
 use crate::{Bounds, Seen, Tally};
 
-// Do k bytes from place n on end at m or before it?
+// Do k bytes from place n on end at m or before it? Then their end is a place.
 pub fn is_room(m: usize, n: usize, k: usize) -> bool
     ensures room { result ≡ fits m n k }
+    ensures end { result ≡ true → n + k < 18446744073709551616 }
 {
-    if m < k {
-        return false;
-    }
-    n <= m - k
+    k <= m && n <= m - k
 }
 
 // One entry more, up to the most.
@@ -28,16 +26,8 @@ pub fn note(seen: Seen, at: u64, mark: u64) -> Seen
 {
     match seen {
         Seen::None => Seen::One(at, mark),
-        Seen::One(a, m) => {
-            if a != at {
-                return Seen::Several;
-            }
-            if m != mark {
-                return Seen::Several;
-            }
-            Seen::One(a, m)
-        },
-        Seen::Several => Seen::Several,
+        Seen::One(a, m) if a == at && m == mark => seen,
+        _ => Seen::Several,
     }
 }
 
@@ -45,36 +35,21 @@ pub fn note(seen: Seen, at: u64, mark: u64) -> Seen
 fn is_several(seen: Seen) -> bool
     ensures answer { result ≡ is_several seen }
 {
-    match seen {
-        Seen::None => false,
-        Seen::One(_, _) => false,
-        Seen::Several => true,
-    }
+    matches!(seen, Seen::Several)
 }
 
 // May the walk stop?
 pub fn is_done(b: Bounds, tally: Tally) -> bool
     ensures done { result ≡ is_done b tally }
 {
-    if !tally.over {
-        return false;
-    }
-    if b.most <= tally.entries {
-        return true;
-    }
-    let seen = tally.seen;
-    is_several(seen)
+    tally.over && (b.most <= tally.entries || is_several(tally.seen))
 }
 
 // Did it stop before a difference was seen, so that rows which were not taken may differ?
 pub fn is_broken(b: Bounds, tally: Tally) -> bool
     ensures broken { result ≡ is_broken b tally }
 {
-    if !is_done(b, tally) {
-        return false;
-    }
-    let seen = tally.seen;
-    !is_several(seen)
+    is_done(b, tally) && !is_several(tally.seen)
 }
 
 // One place, where places are sought: a row of one byte against no room. Nothing is written.
@@ -85,11 +60,10 @@ pub fn put_place(bounds: Bounds, tally: Tally) -> Tally
     if is_done(bounds, tally) {
         return tally;
     }
-    let before = tally.seen;
     Tally {
         bytes: tally.bytes,
         entries: one_more(bounds.most, tally.entries),
         over: true,
-        seen: note(before, 0, 0),
+        seen: note(tally.seen, 0, 0),
     }
 }

@@ -1,7 +1,7 @@
 // The walk over followed places: it takes the rows of a query's entries, or finds a place.
 #![tactic(auto)]
 
-use block::{ask_goal, ask_start, scope_count, taken};
+use block::{ASKSIZE, SIZE, ask_goal, ask_start, scope_count, taken};
 use search::{ALL, Node, live_table};
 
 mod count;
@@ -10,9 +10,8 @@ mod nodes;
 mod rows;
 
 ghost use Rattle.std.specs.Prelude.{◌≡◌, ◌≤◌, ◌<◌, length};
-ghost use Rattle.block.specs.Layout.{IsBlock};
 ghost use Rattle.block.specs.Block.{Bounds as BlockBounds};
-ghost use Rattle.block.specs.Ask.{IsAsk, ask_start, ask_goal};
+ghost use Rattle.block.specs.Ask.{ask_start, ask_goal};
 ghost use Rattle.search.specs.Conditions.{free_at, LiveAt, WorthAt};
 ghost use Rattle.follow.specs.Tally.{State};
 ghost use Rattle.follow.specs.Walk.{walked, followed_in};
@@ -49,6 +48,15 @@ pub struct Aim {
     pub bounds: Bounds,
 }
 
+// What stays the same along a walk: the board, the graph's table, the ask, and what is sought.
+#[derive(Clone, Copy)]
+pub(crate) struct Setting<'a> {
+    pub block: &'a [u64; SIZE],
+    pub table: &'a [u64],
+    pub ask: &'a [u64; ASKSIZE],
+    pub aim: Aim,
+}
+
 // The declarations that the rows so far are of: none, one, by its scope and mark, or several. All
 // are of the name sought.
 #[derive(Clone, Copy)]
@@ -78,17 +86,15 @@ pub struct Path {
 // The walk from the query's start, in state 0. `worth` holds the places worth entering on the way
 // to what is sought; it is the caller's, so that walks with the same one share it.
 pub fn walk(
-    block: &[u64],
+    block: &[u64; SIZE],
     table: &[u64],
-    ask: &[u64],
+    ask: &[u64; ASKSIZE],
     worth: &[u64],
     aim: Aim,
     out: &mut [u8],
     tally: Tally,
 ) -> Tally
-    requires block { IsBlock block.now }
     requires bounds { BlockBounds block.now }
-    requires ask { IsAsk ask.now }
     requires start { ask_start ask.now < 64 }
     requires live { LiveAt block.now (ask_goal ask.now) (free_at (ask_start ask.now)) ask.now }
     requires table { 64 ≤ length worth.now }
@@ -104,12 +110,15 @@ pub fn walk(
         return tally;
     }
     let start = ask_start(ask);
-    follow_at(
+    let on = Setting {
         block,
         table,
         ask,
-        worth,
         aim,
+    };
+    follow_at(
+        &on,
+        worth,
         Path {
             hops: [0; 64],
             depth: 0,
@@ -128,16 +137,14 @@ pub fn walk(
 // The question of its own: is some place of these scopes and states followed, and the end not cut
 // there?
 pub fn is_followed(
-    block: &[u64],
+    block: &[u64; SIZE],
     table: &[u64],
-    ask: &[u64],
+    ask: &[u64; ASKSIZE],
     scopes: u64,
     states: u64,
     end: u64,
 ) -> bool
-    requires block { IsBlock block.now }
     requires bounds { BlockBounds block.now }
-    requires ask { IsAsk ask.now }
     requires start { ask_start ask.now < 64 }
     requires live { LiveAt block.now (ask_goal ask.now) (free_at (ask_start ask.now)) ask.now }
     ensures answer { result ≡ followed_in block.now table.now ask.now scopes states end }

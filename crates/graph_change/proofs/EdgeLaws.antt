@@ -6,15 +6,14 @@ use mathlib.Core.List.{List, [], ◌∷◌}
 use native.Mathlib.Omega.{arith}
 use borrow.Author.Tests.{eq-eqb, ne_eqb}
 use lib.Dec.{eqb}
-use lib.ListN.{length, drop, length-drop}
+use lib.ListN.{length, get_or, drop, length-drop}
 use lib.Seq.{drop-drop, get_or-drop}
 use Rattle.graph_rows.specs.Format.{edge_section}
 use Rattle.graph_rows.specs.Admission.{Row, value, row_of, same_source, same_edge, repeats}
 use Rattle.graph_rows.specs.Way.{starts_with}
 use Rattle.graph_rows.specs.Decode.{kept_if, rows_among, rows_in}
 use Rattle.graph_table.specs.Sections.{first_row}
-use Rattle.graph_table.specs.Values.{edge_row}
-use Rattle.graph_table.specs.declared.rows.EdgeRow.{EdgeRow}
+use Rattle.graph_table.proofs.Leading.{first_within}
 use Rattle.graph_change.specs.Place.{is_edge}
 
 -- Is the edge of the row among the cells?
@@ -65,22 +64,24 @@ module _ (row : Row) where
     among_end h = among_few (drop p t) (rw (length-drop p t) h)
 
     -- the row at the place, value by value
-    module _ (i : Bool) (is : i ≡ starts_with edge_section (drop p t)) where
-      pub edge_none : i ≡ false → false ≡ is_edge row (drop p t)
-      unfolding is_edge
-      edge_none other = rw (sym is ∙ other)
+    pub edge_none : starts_with edge_section (drop p t) ≡ false → is_edge row (drop p t) ≡ false
+    unfolding is_edge
+    edge_none other = rw other
 
-      module _ (so : i ≡ true) (edge : EdgeRow) (here : edge ≡ edge_row t p) where
-        edge_is : is_edge row (drop p t) ≡ ((eqb edge.from (value row 0) && eqb edge.label (value row 1)) && eqb edge.to (value row 2))
-        unfolding is_edge same_edge same_source row_of
-        edge_is = rw (sym is ∙ so, here, get_or-drop p t 1 0, get_or-drop p t 2 0, get_or-drop p t 3 0)
+    module _ (so : starts_with edge_section (drop p t) ≡ true) where
+      edge_is : is_edge row (drop p t) ≡ ((eqb (get_or t (p + 1) 0) (value row 0) && eqb (get_or t (p + 2) 0) (value row 1)) && eqb (get_or t (p + 3) 0) (value row 2))
+      unfolding is_edge same_edge same_source row_of
+      edge_is = rw (so, get_or-drop p t 1 0, get_or-drop p t 2 0, get_or-drop p t 3 0)
 
-        pub other_from : ¬ (edge.from ≡ value row 0) → false ≡ is_edge row (drop p t)
-        other_from n = sym (edge_is ∙ rw (ne_eqb edge.from (value row 0) n))
+      pub other_from : ¬ (get_or t (p + 1) 0 ≡ value row 0) → is_edge row (drop p t) ≡ false
+      other_from n = edge_is ∙ rw (ne_eqb (get_or t (p + 1) 0) (value row 0) n)
 
-        module _ (from : edge.from ≡ value row 0) where
-          pub other_label : ¬ (edge.label ≡ value row 1) → false ≡ is_edge row (drop p t)
-          other_label n = sym (edge_is ∙ rw (eq-eqb edge.from (value row 0) from, ne_eqb edge.label (value row 1) n))
+      pub other_label : get_or t (p + 1) 0 ≡ value row 0 → ¬ (get_or t (p + 2) 0 ≡ value row 1) → is_edge row (drop p t) ≡ false
+      other_label from n = edge_is ∙ rw (eq-eqb (get_or t (p + 1) 0) (value row 0) from, ne_eqb (get_or t (p + 2) 0) (value row 1) n)
 
-          pub by_to : edge.label ≡ value row 1 → eqb edge.to (value row 2) ≡ is_edge row (drop p t)
-          by_to label = sym (edge_is ∙ rw (eq-eqb edge.from (value row 0) from, eq-eqb edge.label (value row 1) label))
+      pub by_to : get_or t (p + 1) 0 ≡ value row 0 → get_or t (p + 2) 0 ≡ value row 1 → is_edge row (drop p t) ≡ eqb (get_or t (p + 3) 0) (value row 2)
+      by_to from label = edge_is ∙ rw (eq-eqb (get_or t (p + 1) 0) (value row 0) from, eq-eqb (get_or t (p + 2) 0) (value row 1) label)
+
+pub ruleset edge_steps = (edge_none, other_from, other_label, by_to)
+
+pub ruleset among_steps = (first_within, among_all, among_hit, among_next, among_end)

@@ -9,7 +9,7 @@ use Rattle.graph_rows.specs.Admission.{Row, row_of, key_less, same_source, same_
 use Rattle.graph_rows.specs.Way.{starts_with}
 use Rattle.graph_rows.specs.Decode.{kept_if, rows_among, rows_in}
 use Rattle.graph_table.specs.Sections.{leading, start_of}
-use Rattle.graph_change.specs.declared.place.Place.TheVariants.{There, Free}
+use Rattle.std.specs.declared.result.Result.TheVariants.{Ok, Err}
 use Rattle.graph_change.specs.Cells.{spliced}
 use Rattle.graph_change.specs.Place.{same_key, is_before, leading_rows, place_for, has_key, placed, place_in}
 use Rattle.graph_change.specs.Changed.{with_row, without_at, without_row, with_rows}
@@ -42,11 +42,11 @@ unfolding open_pairs sections section_at row_of key_less leading start_of splice
 only_in = refl
 
 -- a row that is there is found, stands twice if it is put in, and is taken out
-is_there : place_in open_section (row 3 1) (table (opened 1 0 ++ opened 3 1)) ≡ There 13
+is_there : place_in open_section (row 3 1) (table (opened 1 0 ++ opened 3 1)) ≡ Ok 13
 unfolding open_pairs sections section_at row_of key_less leading start_of starts_with is_before leading_rows place_for same_key has_key placed place_in
 is_there = refl
 
-is_free : place_in open_section (row 2 1) (table (opened 1 0 ++ opened 3 1)) ≡ Free 13
+is_free : place_in open_section (row 2 1) (table (opened 1 0 ++ opened 3 1)) ≡ Err 13
 unfolding open_pairs sections section_at row_of key_less leading start_of starts_with is_before leading_rows place_for same_key has_key placed place_in
 is_free = refl
 
@@ -88,7 +88,7 @@ turn_first = refl
 abbrev one_edge : List ℕ
 one_edge = 2 ∷ 5 ∷ 2 ∷ 0 ∷ 1 ∷ 2 ∷ 0 ∷ []
 
-turn_free : place_in edge_section (2 ∷ 0 ∷ 1 ∷ 7 ∷ 0 ∷ []) one_edge ≡ Free 7
+turn_free : place_in edge_section (2 ∷ 0 ∷ 1 ∷ 7 ∷ 0 ∷ []) one_edge ≡ Err 7
 unfolding edges sections section_at row_of key_less leading start_of starts_with is_before leading_rows place_for same_key has_key placed place_in
 turn_free = refl
 

@@ -19,7 +19,7 @@ use Rattle.graph_rows.specs.Formed.{cells_of, cells_from, table_of, replaced}
 use Rattle.graph_rows.proofs.DecodePlaces.{row_first}
 use Rattle.graph_rows.specs.Way.{starts_with}
 use Rattle.graph_table.specs.Sections.{start_of}
-use Rattle.graph_change.specs.declared.place.Place.TheVariants.{There, Free}
+use Rattle.std.specs.declared.result.Result.TheVariants.{Ok, Err}
 use Rattle.graph_change.specs.Cells.{spliced}
 use Rattle.graph_change.specs.Place.{same_key, is_before, leading_rows, place_for, has_key, placed, place_in}
 use Rattle.graph_change.specs.Changed.{inserted, removed, with_row, without_at, without_row, with_rows}
@@ -294,12 +294,12 @@ module _ (form : ℕ) (rows : ℕ → List Row) (five : FiveValues rows) (k : �
         let o = one_in below below_five refl t in
         (o.0, subst (λ (r : List Row). o.0 ∈ r) (sym parts.whole) (Memᴰ.append_right above o.1), o.2)
 
-    placed_free : (t : Bool) (p q : ℕ) → placed t p ≡ Free q → t ≡ false
+    placed_free : (t : Bool) (p q : ℕ) → placed t p ≡ Err q → t ≡ false
     unfolding placed
     placed_free true p q e = absurd (let z : ◌≡◌ {A = ℕ} 0 1 = cc in omega arith)
     placed_free false p q e = refl
 
-    placed_there : (t : Bool) (p q : ℕ) → placed t p ≡ There q → t ≡ true
+    placed_there : (t : Bool) (p q : ℕ) → placed t p ≡ Ok q → t ≡ true
     unfolding placed
     placed_there true p q e = refl
     placed_there false p q e = absurd (let z : ◌≡◌ {A = ℕ} 0 1 = cc in omega arith)

@@ -9,8 +9,8 @@ use Rattle.graph_rows.specs.Order.{order_fault}
 use Rattle.graph_rows.specs.Tested.{form_in}
 use Rattle.graph_rows.specs.Decode.{rows_in}
 use Rattle.graph_rows.specs.Formed.{cells_of, table_of, scopes_in, FormedRow, FormedSection, FormedTable, replaced, MayJoin}
-use Rattle.graph_change.specs.declared.place.Place.{Place}
-use Rattle.graph_change.specs.declared.place.Place.TheVariants.{There, Free}
+use Rattle.std.specs.declared.result.Result.{Result}
+use Rattle.std.specs.declared.result.Result.TheVariants.{Ok, Err}
 use Rattle.graph_change.specs.Cells.{spliced}
 use Rattle.graph_change.specs.Place.{same_key, place_in}
 use Rattle.graph_change.specs.Changed.{inserted, removed, inserted_all, with_row, without_row, with_rows}
@@ -75,9 +75,9 @@ RowsPut = (form : ℕ) (rows : ℕ → List Row) → FiveValues rows → (k : �
     → with_rows k (cells_of k new) (table_of form rows) ≡ table_of form (replaced k new rows)
 
 -- What a place says of the rows of a section: no row has the key, or one has.
-pub record Found (key : List ℕ) (row : Row) (rows : List Row) (place : Place) : Type 0 where
-  pub free : (p : ℕ) → place ≡ Free p → NoneLike key row rows
-  pub there : (p : ℕ) → place ≡ There p → (a : Row) × (a ∈ rows) × (same_key key a row ≡ true)
+pub record Found (key : List ℕ) (row : Row) (rows : List Row) (place : Result ℕ ℕ) : Type 0 where
+  pub free : (p : ℕ) → place ≡ Err p → NoneLike key row rows
+  pub there : (p : ℕ) → place ≡ Ok p → (a : Row) × (a ∈ rows) × (same_key key a row ≡ true)
 
 abbrev pub PlaceFound : Type 0
 PlaceFound = (form : ℕ) (rows : ℕ → List Row) → FiveValues rows → (k : ℕ) → k < 9 → (row : Row) → Ascending (section_at k).key (rows k)
@@ -85,9 +85,9 @@ PlaceFound = (form : ℕ) (rows : ℕ → List Row) → FiveValues rows → (k :
 
 -- The place itself serves: a row put where `find` says none stands makes, of any cells, what
 -- `insert` makes, and a row taken out where it says one stands makes what `remove` makes.
-pub record PlaceServes (k : ℕ) (row : Row) (cells : List ℕ) (place : Place) : Type 0 where
-  pub free : (p : ℕ) → place ≡ Free p → spliced p 0 (k ∷ row) cells ≡ with_row k row cells
-  pub there : (p : ℕ) → place ≡ There p → spliced p 6 [] cells ≡ without_row k row cells
+pub record PlaceServes (k : ℕ) (row : Row) (cells : List ℕ) (place : Result ℕ ℕ) : Type 0 where
+  pub free : (p : ℕ) → place ≡ Err p → spliced p 0 (k ∷ row) cells ≡ with_row k row cells
+  pub there : (p : ℕ) → place ≡ Ok p → spliced p 6 [] cells ≡ without_row k row cells
 
 abbrev pub PlaceExact : Type 0
 PlaceExact = (k : ℕ) (row : Row) (cells : List ℕ) → PlaceServes k row cells (place_in k row cells)

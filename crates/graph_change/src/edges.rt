@@ -9,6 +9,7 @@ ghost use Rattle.graph_change.specs.Place.{is_edge};
 use graph_table::{EDGES, ROW, edge_row, first_row, in_section};
 
 // Is the row at place p an edge with the from, label and to of the row given?
+#[tactic(auto, using(crate::proofs::EdgeLaws::edge_steps))]
 fn is_edge(cells: &[u64], p: usize, row: [u64; 5]) -> bool
     requires whole { p + 6 ≤ length cells.now }
     ensures answer { result ≡ is_edge row (drop p cells.now) }
@@ -17,26 +18,20 @@ fn is_edge(cells: &[u64], p: usize, row: [u64; 5]) -> bool
         return false;
     }
     let edge = edge_row(cells, p);
-    if edge.from != row[0] {
-        return false;
-    }
-    if edge.label != row[1] {
-        return false;
-    }
-    edge.to == row[2]
+    edge.from == row[0] && (edge.label == row[1] && edge.to == row[2])
 }
 
 // Has an edge of the table the from, label and to of the row given, at whatever turn? Then the
 // table with that row too is refused by 4.
+#[tactic(auto, using(crate::proofs::EdgeLaws::among_steps))]
 pub fn has_edge(cells: &[u64], row: [u64; 5]) -> bool
     ensures answer { result ≡ repeats (rows_in edge_section cells.now) row }
 {
-    let mut at = first_row(cells);
-    while ROW <= cells.len() - at {
-        if is_edge(cells, at, row) {
+    let first = first_row(cells);
+    for i in 0..(cells.len() - first) / ROW {
+        if is_edge(cells, first + i * ROW, row) {
             return true;
         }
-        at += ROW;
     }
     false
 }

@@ -11,4 +11,4 @@ mod place;
 
 pub use change::{insert, put_at, remove, replace, take_at};
 pub use edges::has_edge;
-pub use place::{Place, find};
+pub use place::find;

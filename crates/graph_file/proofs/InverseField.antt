@@ -9,10 +9,8 @@ use lib.Dec.{eqb, leb}
 use lib.ListN.{length, get_or, take, drop}
 use lib.Seq.{drop-append_seam}
 use borrow.Author.Tests.{ltb-true, leb-true, le-leb, eqb-true, eq-eqb, ne_eqb, not-true}
-use Rattle.text_field.specs.declared.NumberRead.{NumberRead}
-use Rattle.text_field.specs.declared.NumberRead.TheVariants.{Number, NoNumber}
-use Rattle.text_field.specs.declared.NameRead.{NameRead}
-use Rattle.text_field.specs.declared.NameRead.TheVariants.{Name, NoName}
+use Rattle.std.specs.declared.option.Option.{Option}
+use Rattle.std.specs.declared.option.Option.TheVariants.{Some, None}
 use Rattle.text_field.specs.Bytes.{within, is_capital, is_lower, is_digit, is_name_byte}
 use Rattle.text_field.specs.Number.{number_text, number_here, number_meaning}
 use Rattle.text_field.specs.Name.{name_text, name_here, is_name_cells, name_meaning}
@@ -57,15 +55,15 @@ unfolding byte_taken
 byte_found true x text r e = let q = done_same (record { values = x ∷ []; rest = drop 1 text }) r e in (refl, sym (ap (λ (z : Reading). z.values) q), sym (ap (λ (z : Reading). z.rest) q))
 byte_found false x text r e = absurd (not_done 2 r e)
 
-number_count : (n : NumberRead) (text : List ℕ) (r : Reading) → number_taken n text ≡ done r → length r.values ≡ 1
+number_count : (n : Option (ℕ × ℕ)) (text : List ℕ) (r : Reading) → number_taken n text ≡ done r → length r.values ≡ 1
 unfolding number_taken number_meaning and_then
-number_count (Number v w) text r e = sym (ap (λ (z : Reading). length z.values) (done_same (record { values = v ∷ []; rest = drop w text }) r e))
-number_count NoNumber text r e = absurd (not_done 2 r e)
+number_count (Some (v, w)) text r e = sym (ap (λ (z : Reading). length z.values) (done_same (record { values = v ∷ []; rest = drop w text }) r e))
+number_count None text r e = absurd (not_done 2 r e)
 
-name_count : (n : NameRead) (text : List ℕ) (r : Reading) → name_taken n text ≡ done r → length r.values ≡ 2
+name_count : (n : Option (ℕ × ℕ × ℕ)) (text : List ℕ) (r : Reading) → name_taken n text ≡ done r → length r.values ≡ 2
 unfolding name_taken name_meaning and_then
-name_count (Name h l w) text r e = sym (ap (λ (z : Reading). length z.values) (done_same (record { values = h ∷ l ∷ []; rest = drop w text }) r e))
-name_count NoName text r e = absurd (not_done 2 r e)
+name_count (Some (h, l, w)) text r e = sym (ap (λ (z : Reading). length z.values) (done_same (record { values = h ∷ l ∷ []; rest = drop w text }) r e))
+name_count None text r e = absurd (not_done 2 r e)
 
 byte_count : (t : Bool) (x : ℕ) (text : List ℕ) (r : Reading) → byte_taken t x text ≡ done r → length r.values ≡ 1
 byte_count t x text r e = ap length (byte_found t x text r e).1
@@ -105,32 +103,32 @@ record NumberFound (text : List ℕ) (r : Reading) (v : ℕ) : Type 0 where
   whole : text ≡ number_text v ++ r.rest
   formed : leb v 99999 ≡ true
 
-found_number : (n : NumberRead) (text : List ℕ) (r : Reading) (v : ℕ) → number_here text ≡ n → number_taken n text ≡ done r → v ≡ get_or r.values 0 0
+found_number : (n : Option (ℕ × ℕ)) (text : List ℕ) (r : Reading) (v : ℕ) → number_here text ≡ n → number_taken n text ≡ done r → v ≡ get_or r.values 0 0
     → NumberFound text r v
 unfolding number_taken number_meaning and_then
-found_number (Number u w) text r v h e p =
+found_number (Some (u, w)) text r v h e p =
     let q = done_same (record { values = u ∷ []; rest = drop w text }) r e
     in let s = number_found text u w h
     in let d : drop w text ≡ r.rest = ap (λ (z : Reading). z.rest) q
     in let x : u ≡ v = ap (λ (z : Reading). get_or z.values 0 0) q ∙ sym p
     in record { whole = s.whole ∙ rw (x, d); formed = le-leb v 99999 (rw x at s.small) }
-found_number NoNumber text r v h e p = absurd (not_done 2 r e)
+found_number None text r v h e p = absurd (not_done 2 r e)
 
 record NameFound (text : List ℕ) (r : Reading) (v w : ℕ) : Type 0 where
   whole : text ≡ name_text v w ++ r.rest
   formed : is_name_cells v w ≡ true
 
-found_name : (n : NameRead) (text : List ℕ) (r : Reading) (v w : ℕ) → name_here text ≡ n → name_taken n text ≡ done r → v ≡ get_or r.values 0 0
+found_name : (n : Option (ℕ × ℕ × ℕ)) (text : List ℕ) (r : Reading) (v w : ℕ) → name_here text ≡ n → name_taken n text ≡ done r → v ≡ get_or r.values 0 0
     → w ≡ get_or r.values 1 0 → NameFound text r v w
 unfolding name_taken name_meaning and_then
-found_name (Name a b n) text r v w h e p p' =
+found_name (Some (a, b, n)) text r v w h e p p' =
     let q = done_same (record { values = a ∷ b ∷ []; rest = drop n text }) r e
     in let s = name_found text a b n h
     in let d : drop n text ≡ r.rest = ap (λ (z : Reading). z.rest) q
     in let x : a ≡ v = ap (λ (z : Reading). get_or z.values 0 0) q ∙ sym p
     in let y : b ≡ w = ap (λ (z : Reading). get_or z.values 1 0) q ∙ sym p'
     in record { whole = s.whole ∙ rw (x, y, d); formed = rw (x, y) at s.cells }
-found_name NoName text r v w h e p p' = absurd (not_done 2 r e)
+found_name None text r v w h e p p' = absurd (not_done 2 r e)
 
 -- a byte that is a capital is the text's first
 front : (text : List ℕ) → is_capital (first text) ≡ true → text ≡ first text ∷ drop 1 text

@@ -1,6 +1,6 @@
 -- A row takes a line: reading makes no more rows than it passes lines, so that a table with room
 -- for the lines that are left has room for the rows. Assumes nothing.
-use Prim.Native.Nat.{ℕ, zero, suc, ◌+◌, ◌-◌, ◌*◌, ◌≤◌, ◌<◌}
+use Prim.Native.Nat.{ℕ, zero, suc, ◌+◌, ◌*◌, ◌≤◌, ◌<◌}
 use mathlib.Core.Path.{◌≡◌, refl, sym, ap}
 use mathlib.Core.Bool.{Bool, true, false}
 use mathlib.Core.Logic.{inl, inr, ⊎_elim}
@@ -8,18 +8,17 @@ use mathlib.Core.List.{List, [], ◌∷◌, map}
 use native.Mathlib.Omega.{arith}
 use borrow.Author.Tests.{eqb-true}
 use lib.Dec.{eqb}
-use lib.ListN.{length, take, drop}
+use lib.ListN.{drop}
 use lib.Seq.{sets}
-use Rattle.text_field.specs.declared.NumberRead.{NumberRead}
-use Rattle.text_field.specs.declared.NumberRead.TheVariants.{Number, NoNumber}
-use Rattle.text_field.specs.declared.NameRead.{NameRead}
-use Rattle.text_field.specs.declared.NameRead.TheVariants.{Name, NoName}
+use Rattle.std.specs.declared.option.Option.{Option}
+use Rattle.std.specs.declared.option.Option.TheVariants.{Some, None}
 use Rattle.text_field.specs.Bytes.{is_capital, is_lower}
 use Rattle.text_field.specs.Number.{number_meaning, number_here}
 use Rattle.text_field.specs.Name.{name_meaning, name_here}
 use Rattle.text_field.specs.Outcome.{done, and_then}
 use Rattle.text_field.proofs.OutcomeLaws.{done_same, not_done}
 use Rattle.graph_rows.specs.declared.rows.Counts.{Counts}
+use Rattle.graph_file.specs.declared.line.Line.{Line}
 use Rattle.graph_rows.specs.Format.{Content, state, scope, mark, count, letter, label, end, name, kind, plain, turn, Item, byte, field, has_kinds, has_turns, edge_shape, declaration_shape, query_shape, section_at, shapes_of, shape_at}
 use Rattle.graph_rows.specs.Admission.{Row, blank, begun, taken, place}
 use Rattle.graph_file.specs.Line.{Reading, number_taken, name_taken, byte_taken, end_taken, first, read_field, read_item, place_of, read_items}
@@ -27,11 +26,10 @@ use Rattle.graph_rows.specs.Way.{starts_with, Piece, Stage, after_row, one_row, 
 use Rattle.graph_file.specs.File.{read_names, read_row, reading}
 use Rattle.graph_rows.specs.Table.{sofar_at}
 use Rattle.graph_file.specs.NameSought.{line_count}
-use Rattle.graph_file.specs.Reader.{stage_at, RowsRoom, TextRoom}
+use Rattle.graph_file.specs.Reader.{line_outcome, stage_at, RowsRoom, TextRoom}
 use Rattle.graph_rows.specs.Counting.{room_before}
 use Rattle.graph_rows.proofs.DecodeWay.{and_then_done, done_is, either_done, row_split, section_split}
 use Rattle.graph_rows.proofs.CountLaws.{room_next, room_below}
-use Rattle.graph_file.proofs.SectionLaws.{part_is}
 use Rattle.graph_file.proofs.SoughtLaws.{count_step}
 
 -- a later part has no more lines
@@ -47,15 +45,15 @@ Later text r = (n : ℕ) × (drop n text ≡ r.rest)
 later_lines : (text : List ℕ) (r : Reading) → Later text r → line_count r.rest ≤ line_count text
 later_lines text r l = rw (sym l.1) (drop_lines l.0 text)
 
-number_later : (x : NumberRead) (text : List ℕ) (r : Reading) → number_taken x text ≡ done r → Later text r
+number_later : (x : Option (ℕ × ℕ)) (text : List ℕ) (r : Reading) → number_taken x text ≡ done r → Later text r
 unfolding number_taken number_meaning and_then
-number_later (Number v n) text r e = (n, ap (λ (z : Reading). z.rest) (done_same _ r e))
-number_later NoNumber text r e = absurd (not_done 2 r e)
+number_later (Some (v, n)) text r e = (n, ap (λ (z : Reading). z.rest) (done_same _ r e))
+number_later None text r e = absurd (not_done 2 r e)
 
-name_later : (x : NameRead) (text : List ℕ) (r : Reading) → name_taken x text ≡ done r → Later text r
+name_later : (x : Option (ℕ × ℕ × ℕ)) (text : List ℕ) (r : Reading) → name_taken x text ≡ done r → Later text r
 unfolding name_taken name_meaning and_then
-name_later (Name h l n) text r e = (n, ap (λ (z : Reading). z.rest) (done_same _ r e))
-name_later NoName text r e = absurd (not_done 2 r e)
+name_later (Some (h, l, n)) text r e = (n, ap (λ (z : Reading). z.rest) (done_same _ r e))
+name_later None text r e = absurd (not_done 2 r e)
 
 byte_later : (ok : Bool) (v : ℕ) (text : List ℕ) (r : Reading) → byte_taken ok v text ≡ done r → Later text r
 unfolding byte_taken
@@ -119,6 +117,10 @@ items_lines letters (i ∷ items) row text r e =
     let f = item_lines letters i text s.0 s.1 in
     let g = items_lines letters items (sets row (place_of i) s.0.values) s.0.rest r s.2 in
     omega arith
+
+pub line_passed : (letters : List ℕ) (items : List Item) (row : Row) (s text : List ℕ) (l : Line) → line_outcome (Some l) text ≡ read_items letters items row s → line_count (drop l.next text) ≤ line_count s
+unfolding line_outcome
+line_passed letters items row s text l e = omega (arith, items_lines letters items row s (record { values = l.row; rest = drop l.next text }) (sym e))
 
 -- each section's row ends its line, in every form
 edge_ends : (turns : Bool) → line_ends (edge_shape turns).row ≡ 1
@@ -214,15 +216,15 @@ pub room_here : (k n m rows size : ℕ) (s rest : List ℕ) → RowsRoom k n s s
     → rows + line_count rest ≤ line_count s → m + 6 ≤ size
 room_here k n m rows size s rest room e h l = ⊎_elim (λ a. omega arith) (λ a. omega arith) room
 
-pub room_later : (k n size : ℕ) (s : List ℕ) (at : ℕ) → RowsRoom k n s size → RowsRoom k n (drop at s) size
-room_later k n size s at room = ⊎_elim (λ a. inl a) (λ a. inr (omega (arith, drop_lines at s))) room
+pub room_later : (k n size : ℕ) (s rest : List ℕ) → line_count rest ≤ line_count s → RowsRoom k n s size → RowsRoom k n rest size
+room_later k n size s rest l room = ⊎_elim (λ a. inl a) (λ a. inr (omega arith)) room
 
-pub room_section : (k n old size : ℕ) (text : List ℕ) (at : ℕ) → TextRoom text old → size ≡ old → k < 9 → n ≤ room_before k → n + 6 * line_count (drop at text) ≤ 1 + 6 * line_count text
-    → RowsRoom k n (take (length text - at) (drop at text)) size
-room_section k n old size text at room e h b l =
+pub room_section : (k n old size : ℕ) (text rest : List ℕ) → TextRoom text old → size ≡ old → k < 9 → n ≤ room_before k → n + 6 * line_count rest ≤ 1 + 6 * line_count text
+    → RowsRoom k n rest size
+room_section k n old size text rest room e h b l =
     ⊎_elim
     (λ a. inl (omega (arith, room_next k, room_below (k + 1) (omega arith))))
-    (λ a. inr (let f : line_count (take (length text - at) (drop at text)) ≡ line_count (drop at text) = ap line_count (part_is text at) in omega arith))
+    (λ a. inr (omega arith))
     room
 
 -- room is a matter of the table's size alone

@@ -4,18 +4,17 @@ use mathlib.Core.Path.{◌≡◌, refl, sym, ap, subst, ◌∙◌}
 use mathlib.Core.List.{List, [], ◌∷◌, ◌++◌}
 use mathlib.Core.Bool.{Bool, true, false}
 use native.Mathlib.Omega.{arith}
-use native.Mathlib.Numerals.{add-one}
 use borrow.Author.Tests.{eq-eqb, ne_eqb, lt-ltb, le-ltb, leb-true, leb-false}
 use lib.Dec.{eqb, ltb, leb}
 use lib.ListN.{length, get_or, take, drop, length-drop, drop_of_length-le}
-use Rattle.text_field.proofs.NameLaws.{name_found}
+use Rattle.std.specs.List.{count_by}
+use Rattle.std.proofs.Common.{cond}
+use Rattle.std.proofs.lemmas.List.Recursion.{is_count_by}
+use Rattle.text_field.proofs.NameLaws.{name_parts, name_found}
 use Rattle.text_field.proofs.LineLaws.{bare_first, bare_tail, line_told, no_line_told}
-use lib.Seq.{drop-cons, drop-drop, drop-length, length-take-le}
-use Rattle.text_field.specs.declared.lines.LineRead.TheVariants.{Line, NoLine}
-use Rattle.text_field.specs.declared.NumberRead.{NumberRead}
-use Rattle.text_field.specs.declared.NumberRead.TheVariants.{Number, NoNumber}
-use Rattle.text_field.specs.declared.NameRead.{NameRead}
-use Rattle.text_field.specs.declared.NameRead.TheVariants.{Name, NoName}
+use lib.Seq.{drop-drop, drop-length, length-take-le}
+use Rattle.std.specs.declared.option.Option.{Option}
+use Rattle.std.specs.declared.option.Option.TheVariants.{Some, None}
 use Rattle.text_field.specs.Number.{number_here, number_meaning}
 use Rattle.text_field.specs.Name.{name_here, name_placed, name_meaning}
 use Rattle.text_field.specs.Bytes.{is_capital, is_lower}
@@ -29,8 +28,7 @@ use Rattle.graph_rows.specs.Way.{starts_with, Stage}
 use Rattle.graph_rows.specs.Admission.{place}
 use Rattle.graph_file.specs.File.{form_of, read_stage}
 use Rattle.graph_rows.specs.Table.{sofar_at}
-use Rattle.graph_file.specs.Reader.{stage_at, part_outcome}
-use Rattle.graph_rows.specs.Tested.{refused_or}
+use Rattle.graph_file.specs.Reader.{stage_at}
 use Rattle.graph_file.specs.NameSought.{after_lines, line_count, name_part, rest_of, is_name_field, from_name, query_from, from_within, from_sought, name_front, name_sought, place_from, place_sought}
 use Rattle.graph_file.specs.Sought.{SoughtThere}
 
@@ -66,51 +64,49 @@ after_step (suc k) b s h = by_byte (eqb b 10)
     by_byte true = let e : k ≡ suc k - 1 = omega arith in ap (λ (n : ℕ). after_lines n s) e
     by_byte false = let e : suc k ≡ suc k - 0 = omega arith in ap (λ (n : ℕ). after_lines n s) e
 
-pub placed_name : (x : NameRead) (at h l a : ℕ) → Name h l a ≡ name_placed at x → (w : ℕ) × (x ≡ Name h l w) × (a ≡ at + w)
+pub placed_name : (x : Option (ℕ × ℕ × ℕ)) (at h l a : ℕ) → Some (h, l, a) ≡ name_placed at x → (w : ℕ) × (x ≡ Some (h, l, w)) × (a ≡ at + w)
 unfolding name_placed
-placed_name (Name h' l' w) at h l a e =
-    let p : h ≡ h' = cc in let q : l ≡ l' = cc in let r : a ≡ at + w = cc in (w, rw (p, q), r)
-placed_name NoName at h l a e = absurd (let z : ◌≡◌ {A = ℕ} 0 1 = cc in omega arith)
+placed_name (Some (h', l', w)) at h l a e =
+    let o = name_parts h l a h' l' (at + w) e
+    in (w, rw (o.high, o.low), o.next)
+placed_name None at h l a e = absurd (let z : ◌≡◌ {A = ℕ} 0 1 = cc in omega arith)
 
-pub unplaced_name : (x : NameRead) (at : ℕ) → NoName ≡ name_placed at x → x ≡ NoName
+pub unplaced_name : (x : Option (ℕ × ℕ × ℕ)) (at : ℕ) → None ≡ name_placed at x → x ≡ None
 unfolding name_placed
-unplaced_name (Name h l w) at e = absurd (let z : ◌≡◌ {A = ℕ} 0 1 = cc in omega arith)
-unplaced_name NoName at e = refl
+unplaced_name (Some (h, l, w)) at e = absurd (let z : ◌≡◌ {A = ℕ} 0 1 = cc in omega arith)
+unplaced_name None at e = refl
 
 -- an empty last part stands at the end
 at_end : (s x : List ℕ) → x ≡ [] → length s ≡ length s - length x
 at_end s x e = let z : length x ≡ 0 = ap length e in omega (arith, z)
 
 -- the name at a place
-pub no_name_there : (s : List ℕ) (at : ℕ) → NoName ≡ name_placed at (name_here (drop at s)) → at ≡ at + length (name_front (drop at s))
+pub no_name_there : (s : List ℕ) (at : ℕ) → None ≡ name_placed at (name_here (drop at s)) → at ≡ at + length (name_front (drop at s))
 unfolding name_front name_part
 no_name_there s at e =
-    let z : length (name_front (drop at s)) ≡ 0 = ap (λ (x : NameRead). length (name_part x (drop at s))) (unplaced_name _ at e)
+    let z : length (name_front (drop at s)) ≡ 0 = ap (λ (x : Option (ℕ × ℕ × ℕ)). length (name_part x (drop at s))) (unplaced_name _ at e)
     in omega (arith, z)
 
-pub name_there : (s : List ℕ) (at high low after : ℕ) → Name high low after ≡ name_placed at (name_here (drop at s)) → after ≡ at + length (name_front (drop at s))
+pub name_there : (s : List ℕ) (at high low after : ℕ) → Some (high, low, after) ≡ name_placed at (name_here (drop at s)) → after ≡ at + length (name_front (drop at s))
 unfolding name_front name_part
 name_there s at high low after e =
     let p = placed_name (name_here (drop at s)) at high low after e
     in let k = name_found (drop at s) high low p.0 p.1
-    in p.2 ∙ ap (λ (n : ℕ). at + n) (sym (ap (λ (x : NameRead). length (name_part x (drop at s))) p.1 ∙ length-take-le p.0 (drop at s) k.inside))
+    in p.2 ∙ ap (λ (n : ℕ). at + n) (sym (ap (λ (x : Option (ℕ × ℕ × ℕ)). length (name_part x (drop at s))) p.1 ∙ length-take-le p.0 (drop at s) k.inside))
 
--- for the loops over a text
-pub count_small : (b : ℕ) → line_count (b ∷ []) ≤ 1
+-- as many lines as bytes that end one
+pub count_ends : (t : List ℕ) → line_count t ≡ count_by (λ b. eqb b 10) t
 unfolding line_count
-count_small b = by_byte (eqb b 10)
+count_ends t = is_count_by line_count (λ b. eqb b 10) refl step t
   where
-    by_byte : (t : Bool) → (elim t as (λ _. ℕ) [ true ↦ suc 0 | false ↦ 0 ]) ≤ 1
-    by_byte true = omega arith
-    by_byte false = omega arith
+    step : (b : ℕ) (s : List ℕ) → line_count (b ∷ s) ≡ cond (eqb b 10) (1 + line_count s) (line_count s)
+    step b s = by (eqb b 10)
+      where
+        by : (t : Bool) → (elim t as (λ _. ℕ) [ true ↦ suc (line_count s) | false ↦ line_count s ]) ≡ cond t (1 + line_count s) (line_count s)
+        by true = omega arith
+        by false = refl
 
-pub count_next : (t : List ℕ) (i : ℕ) → i < length t → line_count (drop i t) ≡ line_count (get_or t i 0 ∷ []) + line_count (drop (i + 1) t)
-count_next t i h = ap line_count (drop-cons t i 0 h) ∙ count_step (get_or t i 0) (drop (suc i) t) ∙ ap (λ (n : ℕ). line_count (get_or t i 0 ∷ []) + line_count (drop n t)) (sym (add-one i))
-
-pub count_done : (t : List ℕ) (i : ℕ) → length t ≤ i → line_count (drop i t) ≡ 0
-unfolding line_count
-count_done t i h = ap line_count (drop_of_length-le t {i = i} h)
-
+-- for the loop over a text's lines
 pub after_stop : (k : ℕ) (s x : List ℕ) → k ≡ 0 → after_lines k s ≡ x → s ≡ x
 after_stop k s x h e = sym (after_zero s) ∙ ap (λ (n : ℕ). after_lines n s) (sym h) ∙ e
 
@@ -129,14 +125,14 @@ module _ (k : ℕ) (more : 0 < k) (t : List ℕ) (at : ℕ) (x : List ℕ) (left
   one_more_lem : k ≡ suc (k - 1)
   one_more_lem = omega arith
 
-  pub after_line : (stop next : ℕ) → Line stop next ≡ line_placed at (line_here (drop at t)) → after_lines (k - 1) (drop next t) ≡ x
+  pub after_line : (stop next : ℕ) → Some (stop, next) ≡ line_placed at (line_here (drop at t)) → after_lines (k - 1) (drop next t) ≡ x
   after_line stop next e =
       let l = (line_told t at stop next).0 (sym e) in
       sym (line_passed (k - 1) (take (stop - at) (drop at t)) (drop next t) l.bare)
       ∙ ap (after_lines (suc (k - 1))) (sym l.whole)
       ∙ ap (λ (n : ℕ). after_lines n (drop at t)) (sym one_more_lem) ∙ left
 
-  pub after_last_line : NoLine ≡ line_placed at (line_here (drop at t)) → drop (length t) t ≡ x
+  pub after_last_line : None ≡ line_placed at (line_here (drop at t)) → drop (length t) t ≡ x
   after_last_line e =
       drop-length t
       ∙ sym (none_passed (k - 1) (drop at t) ((no_line_told t at).0 (sym e)))
@@ -153,15 +149,15 @@ none_last s = (length s, sym (drop-length s))
 last_trans : (x y s : List ℕ) → LastOf x y → LastOf y s → LastOf x s
 last_trans x y s (v, e) (w, f) = (w + v, e ∙ ap (drop v) f ∙ drop-drop v w s)
 
-number_last : (x : NumberRead) (t : List ℕ) → LastOf (rest_of (number_taken x t)) t
+number_last : (x : Option (ℕ × ℕ)) (t : List ℕ) → LastOf (rest_of (number_taken x t)) t
 unfolding rest_of number_taken number_meaning and_then
-number_last (Number v w) t = (w, refl)
-number_last NoNumber t = none_last t
+number_last (Some (v, w)) t = (w, refl)
+number_last None t = none_last t
 
-name_last : (x : NameRead) (t : List ℕ) → LastOf (rest_of (name_taken x t)) t
+name_last : (x : Option (ℕ × ℕ × ℕ)) (t : List ℕ) → LastOf (rest_of (name_taken x t)) t
 unfolding rest_of name_taken name_meaning and_then
-name_last (Name h l w) t = (w, refl)
-name_last NoName t = none_last t
+name_last (Some (h, l, w)) t = (w, refl)
+name_last None t = none_last t
 
 byte_last : (b : Bool) (v : ℕ) (t : List ℕ) → LastOf (rest_of (byte_taken b v t)) t
 unfolding rest_of byte_taken
@@ -252,12 +248,12 @@ front_within : (x : List ℕ) → (take (length (name_front x)) x ≡ name_front
 unfolding name_front name_part
 front_within x = by_name (name_here x) refl
   where
-    by_name : (r : NameRead) → name_here x ≡ r → (take (length (name_part r x)) x ≡ name_part r x) × (length (name_part r x) ≤ length x)
-    by_name (Name h l w) e =
+    by_name : (r : Option (ℕ × ℕ × ℕ)) → name_here x ≡ r → (take (length (name_part r x)) x ≡ name_part r x) × (length (name_part r x) ≤ length x)
+    by_name (Some (h, l, w)) e =
         let k = name_found x h l w e
         in let z : length (take w x) ≡ w = length-take-le w x k.inside
         in (ap (λ (n : ℕ). take n x) z, subst (λ (n : ℕ). n ≤ length x) (sym z) k.inside)
-    by_name NoName e = (refl, omega arith)
+    by_name None e = (refl, omega arith)
 
 -- a place by its two numbers
 pub same_place : (p : NamePlace) (a b : ℕ) → (a ≡ p.from) × (b ≡ p.to) → record { from = a; to = b } ≡ p
@@ -265,13 +261,13 @@ same_place p a b (e, f) = rw (e, f) refl
 
 -- the answer of the search for a name in a line
 pub place_after : (form : ℕ) (s : List ℕ) (n k from to : ℕ) → drop k s ≡ after_lines n s → from ≡ length s - length (from_name (shape_at form query_section).row (drop k s)) → to ≡ from + length (name_front (drop from s))
-    → (from ≡ (place_from s (from_name (shape_at form query_section).row (after_lines n s))).from) × (to ≡ (place_from s (from_name (shape_at form query_section).row (after_lines n s))).to)
+    → record { from = from; to = to } ≡ place_from s (from_name (shape_at form query_section).row (after_lines n s))
 unfolding place_from
 place_after form s n k from to d e f =
     let x = from_name (shape_at form query_section).row (after_lines n s)
     in let z : from ≡ length s - length x = e ∙ ap (λ (y : List ℕ). length s - length (from_name (shape_at form query_section).row y)) d
     in let y : drop from s ≡ x = ap (λ (m : ℕ). drop m s) z ∙ last_place_lem x s (line_last form n s)
-    in (z, f ∙ ap (λ (y : List ℕ). from + length (name_front y)) y ∙ ap (λ (m : ℕ). m + length (name_front x)) z)
+    in same_place (place_from s x) from to (z, f ∙ ap (λ (y : List ℕ). from + length (name_front y)) y ∙ ap (λ (m : ℕ). m + length (name_front x)) z)
 
 -- The part of the text at the place sought is the name sought.
 pub sought_there : SoughtThere
@@ -293,29 +289,21 @@ nowhere text x e =
     in let y : length (name_front x) ≡ 0 = ap (λ (u : List ℕ). length (name_front u)) e
     in (z, z ∙ omega (arith, y))
 
-module _ (r : Part) (table text : List ℕ) (q : ℕ) (e : part_outcome r table text ≡ read_stage text) where
-  pub file_refused : (r.refusal ≡ 0 → ⊥) → (length text ≡ (place_sought text q).from) × (length text ≡ (place_sought text q).to)
-  unfolding part_outcome refused_or from_sought from_within place_sought
-  file_refused h = nowhere text (from_sought text q) (go r.refusal h e)
-    where
-      go : (k : ℕ) → (k ≡ 0 → ⊥) → refused_or k (stage_at table r.cells r.counts (drop r.next text)) ≡ read_stage text → from_within (read_stage text) text q ≡ []
-      go zero h e = absurd (h refl)
-      go (suc k) h e = rw (← e)
+-- after a refusal there is no query to look for
+pub file_refused : (text : List ℕ) (q n : ℕ) → refused n ≡ read_stage text → (length text ≡ (place_sought text q).from) × (length text ≡ (place_sought text q).to)
+unfolding from_sought from_within place_sought
+file_refused text q n e = nowhere text (from_sought text q) (rw (← e))
 
-  file_read : r.refusal ≡ 0 → from_sought text q ≡ query_from (form_of text) r.counts.rows text q
-  unfolding part_outcome refused_or from_sought from_within stage_at sofar_at
-  file_read h = go r.refusal h e
-    where
-      go : (k : ℕ) → k ≡ 0 → refused_or k (stage_at table r.cells r.counts (drop r.next text)) ≡ read_stage text
-          → from_within (read_stage text) text q ≡ query_from (form_of text) r.counts.rows text q
-      go zero h e = rw (← e)
-      go (suc k) h e = absurd (omega arith)
+module _ (r : Part) (table text : List ℕ) (q : ℕ) (e : done (stage_at table r.cells r.counts (drop r.next text)) ≡ read_stage text) where
+  file_read : from_sought text q ≡ query_from (form_of text) r.counts.rows text q
+  unfolding from_sought from_within stage_at sofar_at
+  file_read = rw (← e)
 
-  pub query_refused : r.refusal ≡ 0 → r.counts.rows ≤ q → (length text ≡ (place_sought text q).from) × (length text ≡ (place_sought text q).to)
+  pub query_refused : r.counts.rows ≤ q → (length text ≡ (place_sought text q).from) × (length text ≡ (place_sought text q).to)
   unfolding query_from place_sought
-  query_refused h k = nowhere text (from_sought text q) (file_read h ∙ rw (le-ltb q r.counts.rows k, query_from))
+  query_refused k = nowhere text (from_sought text q) (file_read ∙ rw (le-ltb q r.counts.rows k, query_from))
 
-  pub query_read : r.refusal ≡ 0 → q < r.counts.rows → (k : ℕ) → k ≡ line_count text - r.counts.rows + q
+  pub query_read : q < r.counts.rows → (k : ℕ) → k ≡ line_count text - r.counts.rows + q
       → place_from text (from_name (shape_at (form_of text) query_section).row (after_lines k text)) ≡ place_sought text q
   unfolding query_from place_sought
-  query_read h l k z = ap (place_from text) (sym (file_read h ∙ rw (lt-ltb q r.counts.rows l, query_from, z)))
+  query_read l k z = ap (place_from text) (sym (file_read ∙ rw (lt-ltb q r.counts.rows l, query_from, z)))

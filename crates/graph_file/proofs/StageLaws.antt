@@ -9,7 +9,7 @@ use Rattle.graph_rows.specs.declared.rows.Counts.{Counts}
 use Rattle.graph_rows.specs.Admission.{Row, value, row_of, taken}
 use Rattle.graph_rows.specs.Table.{rows_at, letters_at, pairs_at, rows_back, sofar_at}
 use Rattle.graph_rows.specs.Counting.{Placed, counts_after}
-use Rattle.graph_rows.proofs.TakenLaws.{sofar_taken}
+use Rattle.graph_rows.proofs.TakenLaws.{no_counts, sofar_taken}
 use Rattle.graph_rows.proofs.RowLaws.{row_cells}
 use Rattle.graph_rows.proofs.PutLaws.{five}
 
@@ -82,3 +82,7 @@ module _ (k n : ℕ) (t : List ℕ) (row : Row) (c : Counts) (p : Placed k n c) 
   made_grown =
       let e : length (take n t) ≡ n = length-take-le n t fits in
       rw (← append_assoc (take n t) (k ∷ row) (drop (n + 6) t)) (take_at (take n t ++ (k ∷ row)) (drop (n + 6) t) (n + 6) (length-append (take n t) (k ∷ row) ∙ omega arith))
+
+-- the counts before any row, by what a default says of each
+pub none_counted : (c : Counts) → (c.labels ≡ 0) × ((c.pairs ≡ 0) × ((c.scopes ≡ 0) × (c.rows ≡ 0))) → c ≡ no_counts
+none_counted c z = λ i. record { labels = z.0 i; pairs = z.1.0 i; scopes = z.1.1.0 i; rows = z.1.1.1 i }

@@ -1,92 +1,35 @@
 -- Laws of writing a row's line. Assumes nothing.
-use Prim.Native.Nat.{ℕ, zero, suc, ◌+◌, ◌-◌, ◌*◌, ◌/◌, ◌%◌, ◌≤◌, ◌<◌}
-use mathlib.Core.Path.{◌≡◌, refl, sym, ap, ◌∙◌}
+use Prim.Native.Nat.{ℕ, zero, suc, ◌+◌, ◌-◌, ◌*◌, ◌%◌, ◌≤◌, ◌<◌}
+use mathlib.Core.Path.{◌≡◌, refl, sym, ap}
 use mathlib.Core.List.{List, [], ◌∷◌, ◌++◌, map}
 use native.Mathlib.Omega.{arith}
 use lib.ListN.{length, get_or, drop, get_or-eq_default}
 use lib.Seq.{get_or-drop, drop-drop}
-use Rattle.text_field.specs.Number.{number_text}
-use Rattle.text_field.specs.Name.{name_text}
-use Rattle.text_field.specs.Buffer.{Buf, put, puts}
-use Rattle.text_field.proofs.BufferLaws.{puts_one}
-use Rattle.graph_rows.specs.Format.{turn, byte}
-use Rattle.graph_rows.specs.Admission.{Row, value, row_of}
+use Rattle.graph_rows.specs.Format.{Item, byte}
+use Rattle.graph_rows.specs.Admission.{Row, row_of}
 use Rattle.graph_file.specs.Line.{end_byte, field_text, item_text, line_text}
-use Rattle.graph_rows.specs.Table.{content_of, item_of, format_bytes, items_at, rows_at, letters_at}
-use Rattle.graph_rows.proofs.FormatLaws.{item_byte, item_field, items_step, line_more, line_last}
+use Rattle.text_field.specs.Number.{number_text}
+use mathlib.Core.Logic.{◌⊎◌, inl, inr}
+use Rattle.graph_rows.specs.declared.items.Content as held
+use Rattle.graph_rows.specs.declared.items.Content.TheVariants.{Letter, Kind}
+use Rattle.graph_rows.specs.Table.{content_meaning, item_of, line_of, rows_at, letters_at}
 use Rattle.graph_rows.proofs.RowLaws.{letters_length}
-use mathlib.Core.Bool.{true, false, ◌||◌}
-use mathlib.Core.Logic.{⊎_elim}
-use borrow.Author.Tests.{ltb-true, ltb-false, eqb-true, eqb-false}
-use Rattle.scope_graph.proofs.Lists.{or_cases, Two}
-use Rattle.graph_rows.proofs.ColumnLaws.{content_turn}
-use Rattle.graph_rows.proofs.DecodeOrder.{or_false}
-use lib.Dec.{eqb, ltb}
+use Rattle.graph_file.proofs.LineLaws.{NumberContent, code_more}
 
--- the first four contents are numbers
-pub text_number : (v w : ℕ) (letters : List ℕ) (n : ℕ) → n < 4 → number_text v ≡ field_text letters (content_of n) v w
-unfolding field_text content_of
-text_number v w letters zero h = refl
-text_number v w letters (suc zero) h = refl
-text_number v w letters (suc (suc zero)) h = refl
-text_number v w letters (suc (suc (suc zero))) h = refl
-text_number v w letters (suc (suc (suc (suc n)))) h = absurd (omega arith)
+-- the text of a number, and of a letter or a kind
+module _ (letters : List ℕ) (k : held.Content) (v w : ℕ) where
+  pub text_number : NumberContent k → number_text v ≡ field_text letters (content_meaning k) v w
+  unfolding field_text content_meaning
+  text_number (inl e) = rw e
+  text_number (inr (inl e)) = rw e
+  text_number (inr (inr (inl e))) = rw e
+  text_number (inr (inr (inr (inl e)))) = rw e
+  text_number (inr (inr (inr (inr e)))) = rw e
 
--- these and the turn are the contents whose text is a number
-pub number_text_lem : (letters : List ℕ) (n v w : ℕ) → (ltb n 4 || ltb 9 n) ≡ true → number_text v ≡ field_text letters (content_of n) v w
-unfolding field_text
-number_text_lem letters n v w h =
-    ⊎_elim (λ l. text_number v w letters n (ltb-true n 4 l))
-    (λ l. sym (rw (content_turn n (let g = ltb-true 9 n l in omega arith))))
-    (or_cases (ltb n 4) (ltb 9 n) h)
-
--- any other but a name and the plain kind has one byte
-pub one_byte : (n : ℕ) → (ltb n 4 || ltb 9 n) ≡ false → (n ≡ 7 → ⊥) → (n ≡ 9 → ⊥) → (4 ≤ n) × (n < 9) × (n ≡ 7 → ⊥)
-one_byte n h s p =
-    let c = or_false (ltb n 4) (ltb 9 n) h in
-    let least = ltb-false n 4 c.0 in
-    let most = ltb-false 9 n c.1 in
-    (least, omega arith, s)
-
--- one byte that is the text
-pub put_text : (b b' : Buf) (x y : ℕ) (l : List ℕ) → b' ≡ put b x → x ≡ y → y ∷ [] ≡ l → b' ≡ puts b l
-put_text b b' x y l e f g = e ∙ puts_one b x ∙ ap (λ (z : ℕ). puts b (z ∷ [])) f ∙ ap (puts b) g
-
--- the other contents by number
-module _ (letters : List ℕ) (n v w : ℕ) where
-  pub text_letter : n ≡ 4 → (v % 256) ∷ [] ≡ field_text letters (content_of n) v w
-  unfolding field_text content_of
-  text_letter e = sym (rw e)
-
-  pub text_label : n ≡ 5 → (get_or letters v 0 % 256) ∷ [] ≡ field_text letters (content_of n) v w
-  unfolding field_text content_of
-  text_label e = sym (rw e)
-
-  pub text_end : n ≡ 6 → end_byte letters v ∷ [] ≡ field_text letters (content_of n) v w
-  unfolding field_text content_of
-  text_end e = sym (rw e)
-
-  pub text_name : n ≡ 7 → name_text v w ≡ field_text letters (content_of n) v w
-  unfolding field_text content_of
-  text_name e = sym (rw e)
-
-  pub text_kind : n ≡ 8 → (v % 256) ∷ [] ≡ field_text letters (content_of n) v w
-  unfolding field_text content_of
-  text_kind e = sym (rw e)
-
-  -- a letter or a kind is its own byte
-  pub text_own : (4 ≤ n) × (n < 9) × (n ≡ 7 → ⊥) → (n ≡ 5 → ⊥) → (n ≡ 6 → ⊥) → (v % 256) ∷ [] ≡ field_text letters (content_of n) v w
-  text_own q five six =
-      let least = q.0 in let most = q.1 in let seven = q.2 in
-      ⊎_elim (λ e. text_letter (eqb-true n 4 e)) (λ e. let four : n ≡ 4 → ⊥ = eqb-false n 4 e in text_kind (omega arith)) (Two (eqb n 4))
-
-  pub text_plain : n ≡ 9 → [] ≡ field_text letters (content_of n) v w
-  unfolding field_text content_of
-  text_plain e = sym (rw e)
-
-  pub text_turn : content_of n ≡ turn → number_text v ≡ field_text letters (content_of n) v w
-  unfolding field_text
-  text_turn e = sym (rw e)
+  pub text_byte : (k ≡ Letter) ⊎ (k ≡ Kind) → (v % 256) ∷ [] ≡ field_text letters (content_meaning k) v w
+  unfolding field_text content_meaning
+  text_byte (inl e) = rw e
+  text_byte (inr e) = rw e
 
 -- the letter of label i, and none past the last
 pub letter_at : (n f i : ℕ) (t : List ℕ) → i < n → get_or t (f + 6 * i + 1) 0 ≡ get_or (letters_at n (drop f t)) i 0
@@ -111,25 +54,16 @@ module _ (letters : List ℕ) where
   end_letter zero n = absurd (n refl)
   end_letter (suc v) n = let e : suc v - 1 ≡ v = omega arith in rw e
 
--- an item's text
-module _ (letters : List ℕ) (row : Row) (x : ℕ) where
-  pub text_byte : x < 128 → x ∷ [] ≡ item_text letters row (item_of x)
-  unfolding item_text
-  text_byte h = sym (rw (item_byte x h))
+-- a line's text from the code in place i of the format's codes on
+pub text_more : (letters codes : List ℕ) (i : ℕ) (row : Row) (item : Item) → i < length codes → (get_or codes i 0 ≡ 10 → ⊥) → item ≡ item_of (get_or codes i 0)
+    → line_text letters (line_of (drop i codes)) row ≡ item_text letters row item ++ line_text letters (line_of (drop (i + 1) codes)) row
+unfolding line_text
+text_more letters codes i row item h n is = rw (code_more codes i h n, is)
 
-  pub text_field : 128 ≤ x → field_text letters (content_of ((x - 128) / 8)) (value row (x % 8)) (value row (x % 8 + 1)) ≡ item_text letters row (item_of x)
-  unfolding item_text
-  text_field h = sym (rw (item_field x h))
-
--- a line's text from the item of code x on, and at its end
-module _ (letters : List ℕ) (row : Row) (o x : ℕ) (e : x ≡ get_or format_bytes o 10) where
-  pub text_more : (x ≡ 10 → ⊥) → line_text letters (items_at o) row ≡ item_text letters row (item_of x) ++ line_text letters (items_at (o + 1)) row
-  unfolding line_text
-  text_more n = rw (items_step o, ← e, line_more x (items_at (o + 1)) n)
-
-  pub text_last : x ≡ 10 → line_text letters (items_at o) row ≡ 10 ∷ []
-  unfolding line_text item_text
-  text_last n = rw (items_step o, ← e, line_last x (items_at (o + 1)) n)
+-- and at its end
+pub text_last : (letters : List ℕ) (items : List Item) (row : Row) → items ≡ byte 10 ∷ [] → line_text letters items row ≡ (10 ∷ []) ++ []
+unfolding line_text item_text
+text_last letters items row e = rw e
 
 -- a line of bytes is these bytes
 pub text_bytes_lem : (letters s : List ℕ) (row : Row) → line_text letters (map byte s) row ≡ s

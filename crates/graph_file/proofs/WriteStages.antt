@@ -9,6 +9,8 @@ use native.Mathlib.Numerals.{add-one}
 use lib.ListN.{length, drop, length-drop}
 use lib.Seq.{drop-drop}
 use Rattle.text_field.specs.Buffer.{Buf, puts}
+use Rattle.text_field.specs.declared.writer.Writer.{Writer}
+use Rattle.text_field.specs.Writing.{buf}
 use Rattle.text_field.specs.Outcome.{Outcome, refused, done, and_then}
 use Rattle.text_field.proofs.OutcomeLaws.{done_same, not_done, went, passed}
 use Rattle.graph_rows.specs.declared.rows.Counts.{Counts}
@@ -60,9 +62,9 @@ pub first_passes : (o : Outcome Stage) (h : Stage → Outcome Stage) → Passes 
 first_passes o h p = let w = went o h p.0 p.1 in (w.gained, w.before)
 
 -- nothing more is poured
-pub pour_here : (r : Put) (t out : List ℕ) → done (put_at r t out) ≡ pour (out, r.next) (done (stage_from (sofar_at t r.cells r.counts) (drop r.cells t)))
+pub pour_here : (r : Put) (t : List ℕ) (to : Writer) → done (put_at r t to) ≡ pour (buf to) (done (stage_from (sofar_at t r.cells r.counts) (drop r.cells t)))
 unfolding pour poured put_at stage_from puts
-pour_here r t out = refl
+pour_here r t to = refl
 
 -- the rows of section k: after d.rows of them, the turns left
 module _ (form k m : ℕ) (t : List ℕ) (d : Counts) (few : d.rows ≤ (section_at k).most) where
@@ -76,10 +78,10 @@ module _ (form k m : ℕ) (t : List ℕ) (d : Counts) (few : d.rows ≤ (section
   unfolding turns
   left_now = let e : suc (section_at k).most - d.rows ≡ suc ((section_at k).most - d.rows) = omega arith in rw e
 
-  pub rows_stop : (out : List ℕ) (n : ℕ) → starts_with k (drop m t) ≡ false → done (put_at (record { next = n; cells = m; counts = d }) t out) ≡ pour (out, n) (through_rows (writing form) (suc (section_at k).most - d.rows) k (stage_from (sofar_at t m d) (drop m t)))
+  pub rows_stop : (to : Writer) → starts_with k (drop m t) ≡ false → done (put_at (record { cells = m; counts = d }) t to) ≡ pour (buf to) (through_rows (writing form) (suc (section_at k).most - d.rows) k (stage_from (sofar_at t m d) (drop m t)))
   unfolding here writing stage_from
-  rows_stop out n h =
-      pour_here (record { next = n; cells = m; counts = d }) t out ∙ ap (pour (out, n)) (sym (left_now ∙ rows_off (writing form) turns k here h))
+  rows_stop to h =
+      pour_here (record { cells = m; counts = d }) t to ∙ ap (pour (buf to)) (sym (left_now ∙ rows_off (writing form) turns k here h))
 
   -- a row follows: it is written, and the rest of the rows passes
   module _ (follows : starts_with k (drop m t) ≡ true) (passes : Passes (through_rows (writing form) (suc (section_at k).most - d.rows) k (stage_from (sofar_at t m d) (drop m t)))) where
@@ -123,17 +125,17 @@ module _ (form k m : ℕ) (t : List ℕ) (d : Counts) (few : d.rows ≤ (section
     row_room = admitted_room form k (sofar_at t m d) (row_of (drop m t)) taken_row.0
 
     -- the row's line was put, and the next row's place reached
-    module _ (placed : Placed k m d) (v : ℕ) (first : v ≡ value (row_of (drop m t)) 0) (out out' : List ℕ) (n n' : ℕ)
-        (put : ◌≡◌ {A = Buf} (out', n') (puts (out, n) (line_text (letters_at d.labels (drop 1 t)) (items_at (row_place form k)) (row_of (drop m t))))) where
+    module _ (placed : Placed k m d) (v : ℕ) (first : v ≡ value (row_of (drop m t)) 0) (b : Buf) (to : Writer)
+        (put : buf to ≡ puts b (line_text (letters_at d.labels (drop 1 t)) (items_at (row_place form k)) (row_of (drop m t)))) where
       there : Poured
-      there = put_at (record { next = n'; cells = m + 6; counts = counts_after k d v }) t out'
+      there = put_at (record { cells = m + 6; counts = counts_after k d v }) t to
 
-      row_poured : done there ≡ pour (out, n) (one_row (writing form) k here)
+      row_poured : done there ≡ pour b (one_row (writing form) k here)
       unfolding there put_at here row line piece pour poured after_row stage_from
       row_poured =
-          sym (ap (pour (out, n)) taken_row.1 ∙ rw first (λ i. done (record { sofar = sym (sofar_taken k m t d placed) i; buffer = written i; rest = drop-drop 6 m t i })))
+          sym (ap (pour b) taken_row.1 ∙ rw first (λ i. done (record { sofar = sym (sofar_taken k m t d placed) i; buffer = written i; rest = drop-drop 6 m t i })))
         where
-          written : ◌≡◌ {A = Buf} (puts (out, n) (line_text (letters_at d.labels (drop 1 t)) (shape_at form k).row (row_of (drop m t)))) (out', n')
+          written : puts b (line_text (letters_at d.labels (drop 1 t)) (shape_at form k).row (row_of (drop m t))) ≡ buf to
           written = sym (put ∙ rw (row_items form k))
 
       left_then : suc (section_at k).most - (counts_after k d v).rows ≡ turns
@@ -142,11 +144,11 @@ module _ (form k m : ℕ) (t : List ℕ) (d : Counts) (few : d.rows ≤ (section
 
       pub rows_pass : Passes (through_rows (writing form) (suc (section_at k).most - (counts_after k d v).rows) k (stage_from (sofar_at t (m + 6) (counts_after k d v)) (drop (m + 6) t)))
       unfolding there put_at
-      rows_pass = rw left_then (passes_on (through_rows (writing form) turns k) (onward_rows (writing form) turns k) there (out, n) (one_row (writing form) k here) row_poured both_pass)
+      rows_pass = rw left_then (passes_on (through_rows (writing form) turns k) (onward_rows (writing form) turns k) there b (one_row (writing form) k here) row_poured both_pass)
 
-      pub rows_again : pour (out', n') (through_rows (writing form) (suc (section_at k).most - (counts_after k d v).rows) k (stage_from (sofar_at t (m + 6) (counts_after k d v)) (drop (m + 6) t))) ≡ pour (out, n) (through_rows (writing form) (suc (section_at k).most - d.rows) k (stage_from (sofar_at t m d) (drop m t)))
+      pub rows_again : pour (buf to) (through_rows (writing form) (suc (section_at k).most - (counts_after k d v).rows) k (stage_from (sofar_at t (m + 6) (counts_after k d v)) (drop (m + 6) t))) ≡ pour b (through_rows (writing form) (suc (section_at k).most - d.rows) k (stage_from (sofar_at t m d) (drop m t)))
       unfolding there put_at here
-      rows_again = rw left_then (pour_on (through_rows (writing form) turns k) (onward_rows (writing form) turns k) there (out, n) (one_row (writing form) k here) row_poured ∙ ap (pour (out, n)) (sym turn))
+      rows_again = rw left_then (pour_on (through_rows (writing form) turns k) (onward_rows (writing form) turns k) there b (one_row (writing form) k here) row_poured ∙ ap (pour b) (sym turn))
 
 pub rows_start : (form k : ℕ) (g : Stage) (c : Counts) → c.rows ≡ 0 → through_rows (writing form) (suc (section_at k).most - c.rows) k g ≡ through_rows (writing form) (suc (section_at k).most) k g
 rows_start form k g c z = let e : suc (section_at k).most - c.rows ≡ suc (section_at k).most = omega arith in rw e
@@ -196,24 +198,29 @@ module _ (form k : ℕ) (t : List ℕ) (p : ℕ) (c : Counts) where
     pub sections_first : Passes (through_section (writing form) k (stage_from (sofar_at t p c) (drop p t)))
     sections_first = first_passes _ (through_sections (writing form) (9 - (k + 1)) (k + 1)) two_pass
 
-    module _ (b : Buf) (r : Put) (out : List ℕ) (e : done (put_at r t out) ≡ pour b (through_section (writing form) k (stage_from (sofar_at t p c) (drop p t)))) where
+    module _ (b : Buf) (r : Put) (to : Writer) (e : done (put_at r t to) ≡ pour b (through_section (writing form) k (stage_from (sofar_at t p c) (drop p t)))) where
       pub sections_pass : Passes (through_sections (writing form) (9 - (k + 1)) (k + 1) (stage_from (sofar_at t r.cells r.counts) (drop r.cells t)))
       unfolding put_at
-      sections_pass = passes_on (through_sections (writing form) (9 - (k + 1)) (k + 1)) (onward_sections (writing form) (9 - (k + 1)) (k + 1)) (put_at r t out) b _ e two_pass
+      sections_pass = passes_on (through_sections (writing form) (9 - (k + 1)) (k + 1)) (onward_sections (writing form) (9 - (k + 1)) (k + 1)) (put_at r t to) b _ e two_pass
 
-      pub sections_again : pour (out, r.next) (through_sections (writing form) (9 - (k + 1)) (k + 1) (stage_from (sofar_at t r.cells r.counts) (drop r.cells t))) ≡ pour b (through_sections (writing form) (9 - k) k (stage_from (sofar_at t p c) (drop p t)))
+      pub sections_again : pour (buf to) (through_sections (writing form) (9 - (k + 1)) (k + 1) (stage_from (sofar_at t r.cells r.counts) (drop r.cells t))) ≡ pour b (through_sections (writing form) (9 - k) k (stage_from (sofar_at t p c) (drop p t)))
       unfolding put_at
-      sections_again = pour_on (through_sections (writing form) (9 - (k + 1)) (k + 1)) (onward_sections (writing form) (9 - (k + 1)) (k + 1)) (put_at r t out) b _ e ∙ ap (pour b) (sym next_section)
+      sections_again = pour_on (through_sections (writing form) (9 - (k + 1)) (k + 1)) (onward_sections (writing form) (9 - (k + 1)) (k + 1)) (put_at r t to) b _ e ∙ ap (pour b) (sym next_section)
 
   -- after the last one nothing is left
-  pub sections_end : 9 ≤ k → Passes (through_sections (writing form) (9 - k) k (stage_from (sofar_at t p c) (drop p t))) → (out : List ℕ) (n : ℕ)
-      → done (put_at (record { next = n; cells = p; counts = c }) t out) ≡ pour (out, n) (through_sections (writing form) (9 - k) k (stage_from (sofar_at t p c) (drop p t)))
+  pub sections_end : 9 ≤ k → Passes (through_sections (writing form) (9 - k) k (stage_from (sofar_at t p c) (drop p t))) → (to : Writer)
+      → done (put_at (record { cells = p; counts = c }) t to) ≡ pour (buf to) (through_sections (writing form) (9 - k) k (stage_from (sofar_at t p c) (drop p t)))
   unfolding through_sections
-  sections_end h passes out n =
+  sections_end h passes to =
       let z : 9 - k ≡ 0 = omega arith in
       let e : through_sections (writing form) 0 k (stage_from (sofar_at t p c) (drop p t)) ≡ done passes.0 = ap (λ (j : ℕ). through_sections (writing form) j k (stage_from (sofar_at t p c) (drop p t))) (sym z) ∙ passes.1 in
       let q = passed (not (is_empty (stage_from (sofar_at t p c) (drop p t)).rest)) 2 (done (stage_from (sofar_at t p c) (drop p t))) passes.0 e in
-      pour_here (record { next = n; cells = p; counts = c }) t out ∙ ap (pour (out, n)) (q.1 ∙ sym passes.1)
+      pour_here (record { cells = p; counts = c }) t to ∙ ap (pour (buf to)) (q.1 ∙ sym passes.1)
+
+-- what was poured of a stage is what it made
+pub made_poured : (r : Put) (t : List ℕ) (b : Buf) (to : Writer) (g : Stage) → done (put_at r t to) ≡ pour b (done g) → buf to ≡ puts b g.made
+unfolding put_at pour poured
+made_poured r t b to g e = ap (λ (x : Poured). x.buffer) (done_same (put_at r t to) (poured b g) e)
 
 -- before any row
 sofar_none : (t : List ℕ) → sofar_at t 1 no_counts ≡ nothing
@@ -241,16 +248,10 @@ module _ (t : List ℕ) (graph : table_refusal t ≡ 0) where
       let e : write_text t ≡ done w.0.made = rw (w.2, write_text, w.1) in
       e ∙ ap done (sym (ap made_in e))
 
-  text_made : text_in t ≡ whole_passes.0.made
-  unfolding text_in made_in write_text made_of and_then table_refusal whole_passes
+  pub text_made : text_in t ≡ graph_passes.0.made
+  unfolding text_in made_in write_text made_of and_then table_refusal whole_passes graph_passes
   text_made =
       let g = not_refused (tested t) (tested_proper t) graph in
       let w = tests_pass t g.0 g.1 in
       let e : write_text t ≡ done w.0.made = rw (w.2, write_text, w.1) in
       ap made_in e
-
-  pub text_poured : (r : Put) (out u : List ℕ) → done (put_at r t u) ≡ pour (out, 0) (through_sections (writing (form_in t)) 9 0 (stage_from nothing (drop 1 t))) → ◌≡◌ {A = Buf} (u, r.next) (puts (out, 0) (text_in t))
-  unfolding put_at pour poured graph_passes
-  text_poured r out u e =
-      let q : put_at r t u ≡ poured (out, 0) whole_passes.0 = done_same _ _ (e ∙ ap (pour (out, 0)) graph_passes.1) in
-      ap (λ (x : Poured). x.buffer) q ∙ ap (puts (out, 0)) (sym text_made)

@@ -7,14 +7,15 @@ use native.Mathlib.Nat.{zero-add}
 use lib.ListN.{length, take, drop}
 use lib.Seq.{take_at}
 use Rattle.text_field.specs.Buffer.{Buf, puts}
-use Rattle.text_field.specs.Outcome.{Outcome, refused, done}
+use Rattle.text_field.specs.Outcome.{refused, done}
 use Rattle.text_field.specs.Answer.{answer, leaves}
 use Rattle.text_field.proofs.BufferLaws.{puts_fits}
-use Rattle.text_field.proofs.AnswerLaws.{answer_refused, leaves_refused, answer_short, answer_fits, leaves_fits}
+use Rattle.text_field.proofs.AnswerLaws.{answer_refused, leaves_refused, answer_short, leaves_short, answer_fits, leaves_fits}
 use Rattle.graph_rows.specs.Tested.{table_refusal}
 use Rattle.graph_file.specs.File.{write_text}
 use Rattle.graph_file.specs.Writer.{text_in}
 use Rattle.graph_rows.proofs.TestLaws.{refused_by_lem}
+use Rattle.graph_file.proofs.CopyLaws.{copied}
 use Rattle.graph_file.proofs.ForgetLaws.{same_refusal}
 use Rattle.graph_file.proofs.InverseFile.{written_short}
 use Rattle.graph_file.proofs.WriteStages.{text_written}
@@ -44,16 +45,14 @@ module _ (t : List ℕ) (graph : table_refusal t ≡ 0) where
     pub text_within : length u ≡ length z → n ≤ length u
     text_within h = omega (arith, text_length, short)
 
-    -- copied to a lent buffer that is too short for it, and to one that is not
-    module _ (lent out : List ℕ) (copied : out ≡ leaves (done (take n u)) lent) where
-      left_there : out ≡ leaves (write_text t) lent
-      left_there = copied ∙ ap (λ (l : List ℕ). leaves (done l) lent) text_front ∙ sym (ap (λ (o : Outcome (List ℕ)). leaves o lent) (text_written t graph))
+    -- a lent buffer that is too short for it, and one that it is copied to
+    pub told_small : (lent : List ℕ) → length lent < n → (refused 9 ≡ answer (write_text t) (length lent)) × (lent ≡ leaves (write_text t) lent)
+    told_small lent h =
+        (answer_short (write_text t) (text_in t) (text_written t graph) (length lent) (omega (arith, text_length)), leaves_short (write_text t) (text_in t) (text_written t graph) lent (omega (arith, text_length)))
 
-      pub told_small : length lent < n → (refused 9 ≡ answer (write_text t) (length lent)) × (out ≡ leaves (write_text t) lent)
-      told_small h = (answer_short (write_text t) (text_in t) (text_written t graph) (length lent) (omega (arith, text_length)), left_there)
-
-      pub told_copied : n ≤ length lent → (done n ≡ answer (write_text t) (length lent)) × (out ≡ leaves (write_text t) lent)
-      told_copied h = (answer_fits (write_text t) (text_in t) (text_written t graph) (length lent) n (sym text_length) h, left_there)
+    pub told_copied : (lent front : List ℕ) → front ≡ take n u → n ≤ length lent → (done n ≡ answer (write_text t) (length lent)) × (front ++ drop n lent ≡ leaves (write_text t) lent)
+    told_copied lent front e h =
+        (answer_fits (write_text t) (text_in t) (text_written t graph) (length lent) n (sym text_length) h, copied (write_text t) (text_in t) lent front n (text_written t graph) (e ∙ text_front) (sym text_length) h)
 
     -- the lent buffer itself has room for every text
     pub told_long : (done n ≡ answer (write_text t) (length z)) × (u ≡ leaves (write_text t) z)

@@ -2,8 +2,7 @@
 -- file"). Assumes nothing: these are definitions.
 use Rattle.std.specs.Prelude.{ℕ, zero, suc, ◌+◌, ◌%◌, List, [], ◌∷◌, ◌++◌, Bool, true, false, eqb, get_or, drop}
 use Rattle.std.proofs.lemmas.List.Edits.{sets}
-use Rattle.text_field.specs.declared.NumberRead.{NumberRead}
-use Rattle.text_field.specs.declared.NameRead.{NameRead}
+use Rattle.std.specs.declared.option.Option.{Option}
 use Rattle.text_field.specs.Bytes.{is_capital, is_lower}
 use Rattle.text_field.specs.Number.{number_meaning, number_text, number_here}
 use Rattle.text_field.specs.Name.{name_meaning, name_text, name_here}
@@ -18,12 +17,12 @@ pub record Reading : Type 0 where
   pub rest : List ℕ
 
 -- a number and the text behind it; without a number the line is not of its form, which is 2
-unfoldable pub number_taken : NumberRead → List ℕ → Outcome Reading
+unfoldable pub number_taken : Option (ℕ × ℕ) → List ℕ → Outcome Reading
 number_taken n text =
     and_then (number_meaning 2 n) (λ f. done (record { values = f.value ∷ []; rest = drop f.next text }))
 
 -- a name's two cells and the text behind it, or 2
-unfoldable pub name_taken : NameRead → List ℕ → Outcome Reading
+unfoldable pub name_taken : Option (ℕ × ℕ × ℕ) → List ℕ → Outcome Reading
 name_taken n text =
     and_then (name_meaning 2 n) (λ f. done (record { values = f.high ∷ f.low ∷ []; rest = drop f.next text }))
 

@@ -1,8 +1,8 @@
 -- Which bytes of the file are the name that a query seeks (document 01, "The gym file", its end).
 -- Assumes nothing: these are definitions.
 use Rattle.std.specs.Prelude.{ℕ, zero, suc, ◌+◌, ◌-◌, List, [], ◌∷◌, Bool, true, false, eqb, ltb, length, take}
-use Rattle.text_field.specs.declared.NameRead.{NameRead}
-use Rattle.text_field.specs.declared.NameRead.TheVariants.{Name, NoName}
+use Rattle.std.specs.declared.option.Option.{Option}
+use Rattle.std.specs.declared.option.Option.TheVariants.{Some, None}
 use Rattle.text_field.specs.Name.{name_here}
 use Rattle.graph_file.specs.declared.sought.NamePlace.{NamePlace}
 use Rattle.graph_rows.specs.Format.{Item, byte, field, values_of, shape_at, query_section}
@@ -23,9 +23,9 @@ line_count [] = 0
 line_count (x ∷ rest) = elim (eqb x 10) [ true ↦ suc (line_count rest) | false ↦ line_count rest ]
 
 -- the part at the front of the text that is a name
-unfoldable pub name_part : NameRead → List ℕ → List ℕ
-name_part (Name high low width) text = take width text
-name_part NoName text = []
+unfoldable pub name_part : Option (ℕ × ℕ × ℕ) → List ℕ → List ℕ
+name_part (Some (high, low, width)) text = take width text
+name_part None text = []
 
 unfoldable pub rest_of : Outcome Reading → List ℕ
 rest_of (refused n) = []

@@ -2,6 +2,8 @@
 -- nothing: these are definitions.
 use Rattle.std.specs.Prelude.{ℕ, ◌≡◌, List, [], drop}
 use Rattle.text_field.specs.Buffer.{Buf, puts}
+use Rattle.text_field.specs.declared.writer.Writer.{Writer}
+use Rattle.text_field.specs.Writing.{buf}
 use Rattle.text_field.specs.Outcome.{Outcome, refused, done}
 use Rattle.graph_file.specs.declared.writer.Put.{Put}
 use Rattle.graph_rows.specs.Admission.{Sofar}
@@ -25,9 +27,9 @@ unfoldable pub pour : Buf → Outcome Stage → Outcome Poured
 pour b (refused n) = refused n
 pour b (done g) = done (poured b g)
 
--- what a writing function returns: how far it has come in the table and in the buffer
-unfoldable pub put_at : Put → List ℕ → List ℕ → Poured
-put_at r table out = record { sofar = sofar_at table r.cells r.counts; buffer = (out, r.next); rest = drop r.cells table }
+-- what a writing function returns: how far it has come in the table, and the buffer
+unfoldable pub put_at : Put → List ℕ → Writer → Poured
+put_at r table to = record { sofar = sofar_at table r.cells r.counts; buffer = buf to; rest = drop r.cells table }
 
 -- it comes to its end without a refusal
 abbrev pub Passes : Outcome Stage → Type 0

@@ -1,7 +1,6 @@
 // A gym file's text, read into a graph table and written from one.
 #![tactic(auto)]
 
-mod cells;
 mod line;
 mod line_text;
 mod reader;
@@ -11,5 +10,5 @@ mod writer;
 
 pub use reader::{OWN_CELLS, SHORT_CELLS};
 pub use sought::{NamePlace, name_place, name_sought};
-pub use tables::{is_short, read, read_over};
+pub use tables::{is_short, read, read_over, with_graph};
 pub use writer::write;

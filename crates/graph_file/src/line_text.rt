@@ -1,18 +1,18 @@
 // The text of one line, by the items at a place of the format.
-ghost use Rattle.std.specs.Prelude.{◌≡◌, [], ◌∷◌, ◌||◌, ℕ, ◌%◌, ◌≤◌, ◌<◌, ltb, get_or, drop};
-ghost use Rattle.text_field.specs.Buffer.{Buf, puts};
+ghost use Rattle.std.specs.Prelude.{◌≡◌, ◌%◌, get_or, drop};
+ghost use Rattle.text_field.specs.Writing.{Wrote};
 ghost use Rattle.graph_file.specs.Line.{end_byte, field_text, item_text, line_text};
-ghost use Rattle.graph_rows.specs.Table.{content_of, item_of, format_bytes, items_at, letters_at};
+ghost use Rattle.graph_rows.specs.Table.{content_meaning, item_meaning, items_at, letters_at};
 
-use graph_rows::item;
-use text_field::{cell, put_byte, put_name, put_number};
+use graph_rows::{Content, Item, codes_from};
+use text_field::{Writer, get_or};
 
 // The letter of a label's number; 0 where there is no such label.
 fn letter_of(table: &[u64], labels: u32, v: u64) -> u64
     ensures answer { result ≡ get_or (letters_at labels (drop 1 table.now)) v 0 }
 {
     if v < labels as u64 {
-        return cell(table, 1 + 6 * (v as usize) + 1, 0);
+        return get_or(table, 1 + 6 * (v as usize) + 1, 0);
     }
     0
 }
@@ -34,95 +34,49 @@ fn end_byte(table: &[u64], labels: u32, v: u64) -> u8
     byte_of(letter_of(table, labels, v - 1))
 }
 
-// The byte of a field whose text is one byte: a letter, a label, an end or a kind.
-fn field_byte(table: &[u64], labels: u32, content: u8, v: u64) -> u8
-    requires one { (4 ≤ content) × (content < 9) × (content ≡ 7 → ⊥) }
-    ensures answer { (w : ℕ) → result ∷ [] ≡ field_text (letters_at labels (drop 1 table.now)) (content_of content) v w }
+// The text of a field, by what it holds.
+fn put_field(table: &[u64], labels: u32, content: Content, v: u64, w: u64, to: &mut Writer)
+    ensures wrote { Wrote to.old to.new
+        (field_text (letters_at labels (drop 1 table.now)) (content_meaning content) v w) }
 {
-    if content == 5 {
-        return byte_of(letter_of(table, labels, v));
-    }
-    if content == 6 {
-        return end_byte(table, labels, v);
-    }
-    byte_of(v)
-}
-
-// Is the text of such a field a number?
-fn is_number(content: u8) -> bool
-    ensures answer { result ≡ (ltb content 4 || ltb 9 content) }
-{
-    if content < 4 {
-        return true;
-    }
-    9 < content
-}
-
-// Puts the text of a field, by what it holds.
-fn put_field(
-    table: &[u64],
-    labels: u32,
-    content: u8,
-    v: u64,
-    w: u64,
-    out: &mut [u8],
-    n: usize,
-) -> usize
-    ensures written { ◌≡◌ {A = Buf} (out.new, result)
-        (puts (out.old, n)
-        (field_text (letters_at labels (drop 1 table.now)) (content_of content) v w)) }
-{
-    if is_number(content) {
-        return put_number(out, n, v);
-    }
     match content {
-        7 => put_name(out, n, v, w),
-        9 => n,
-        _ => put_byte(out, n, field_byte(table, labels, content, v)),
+        Content::State | Content::Scope | Content::Mark | Content::Count | Content::Turn => {
+            to.put_number(v);
+        },
+        Content::Letter | Content::Kind => to.put(byte_of(v)),
+        Content::Label => to.put(byte_of(letter_of(table, labels, v))),
+        Content::End => to.put(end_byte(table, labels, v)),
+        Content::Name => to.put_name(v, w),
+        Content::PlainKind => {},
     }
 }
 
-// The text of the item of a code in a row's line.
-fn put_item(table: &[u64], labels: u32, x: u8, row: &[u64], out: &mut [u8], n: usize) -> usize
-    ensures written { ◌≡◌ {A = Buf} (out.new, result)
-        (puts (out.old, n) (item_text (letters_at labels (drop 1 table.now)) row.now (item_of x))) }
+// The text of an item in a row's line.
+fn put_item(table: &[u64], labels: u32, item: Item, row: &[u64], to: &mut Writer)
+    ensures wrote { Wrote to.old to.new
+        (item_text (letters_at labels (drop 1 table.now)) row.now (item_meaning item)) }
 {
-    if x < 128 {
-        return put_byte(out, n, x);
+    match item {
+        Item::Byte(b) => to.put(b),
+        Item::Field(content, c) => {
+            let c = usize::from(c);
+            let v = get_or(row, c, 0);
+            let w = get_or(row, c + 1, 0);
+            put_field(table, labels, content, v, w, to);
+        },
     }
-    let c = (x % 8) as usize;
-    put_field(
-        table,
-        labels,
-        (x - 128) / 8,
-        cell(row, c, 0),
-        cell(row, c + 1, 0),
-        out,
-        n,
-    )
 }
 
 // The line of the items at a place of the format: a names line, or a row's line.
-pub fn put_line(
-    format: &[u8],
-    table: &[u64],
-    labels: u32,
-    o: usize,
-    row: &[u64],
-    out: &mut [u8],
-    n: usize,
-) -> usize
-    requires format { format.now ≡ format_bytes }
-    ensures written { ◌≡◌ {A = Buf} (out.new, result)
-        (puts (out.old, n) (line_text (letters_at labels (drop 1 table.now)) (items_at o) row.now)) }
+pub fn put_line(table: &[u64], labels: u32, o: usize, row: &[u64], to: &mut Writer)
+    ensures wrote { Wrote to.old to.new
+        (line_text (letters_at labels (drop 1 table.now)) (items_at o) row.now) }
 {
-    let mut i = o;
-    let mut k = n;
-    let mut x = item(format, i);
-    while x != 10 {
-        k = put_item(table, labels, x, row, out, k);
-        i += 1;
-        x = item(format, i);
+    for &x in codes_from(o) {
+        if x == b'\n' {
+            break;
+        }
+        put_item(table, labels, Item::of(x), row, to);
     }
-    put_byte(out, k, 10)
+    to.put(b'\n');
 }

@@ -7,6 +7,10 @@ use native.Mathlib.Omega.{arith}
 use borrow.Author.Tests.{lt-ltb, le-ltb, eq-eqb, ne_eqb, eqb-true, eqb-false}
 use lib.Dec.{eqb, ltb, eqb-zero-suc, eqb-suc-suc}
 use lib.ListN.{length, get_or, drop}
+use Rattle.std.specs.declared.option.Option.TheVariants.{Some}
+use Rattle.std.specs.Ordering.{is_lt, is_eq, is_some_and, nat_cmp, partial_ordering_then}
+use Rattle.std.proofs.Common.{Ordering, Less, Equal, Greater}
+use Rattle.std.proofs.lemmas.Bool.Decides.{nat_tests}
 use Rattle.text_field.proofs.ByteLaws.{clash}
 use Rattle.graph_rows.specs.declared.rows.Counts.{Counts}
 use Rattle.graph_rows.specs.Format.{Content, state, scope, mark, count, letter, label, end, name, kind, plain, turn, Item, byte, field, every_item, Sequence, ascending, apart, once, free, labels, pairs, transitions, accepts, scope_count, edges, declarations, open_pairs, queries, past_last, sections, section_at, shape_at, edge_section}
@@ -20,42 +24,44 @@ or_none : (t : Bool) → (t || false) ≡ t
 or_none true = refl
 or_none false = refl
 
-and_none : (t : Bool) → (t && false) ≡ false
-and_none true = refl
-and_none false = refl
-
--- the key at a place of the format, place by place: less, equal so far, greater, and at its end
-module _ (o x : ℕ) (a b : Row) (e : x ≡ get_or format_bytes o 10) (n : x ≡ 10 → ⊥) where
-  pub key_less_lem : value a (x % 8) < value b (x % 8) → key_less (key_at o) a b ≡ true
+-- the key at a place of the format, place by place: different, equal so far, and at its end
+module _ (o x c : ℕ) (a b : Row) (e : x ≡ get_or format_bytes o 10) (n : x ≡ 10 → ⊥) (place : c ≡ x % 8) where
+  pub key_differs : (value a c ≡ value b c → ⊥) → ltb (value a c) (value b c) ≡ key_less (key_at o) a b
   unfolding key_less
-  key_less_lem h = rw (keys_step o, ← e, key_more x (key_at (o + 1)) n, lt-ltb (value a (x % 8)) (value b (x % 8)) h)
+  key_differs h = rw (keys_step o, ← e, key_more x (key_at (o + 1)) n, ← place, ne_eqb (value a c) (value b c) h) (sym (or_none (ltb (value a c) (value b c))))
 
-  pub key_equal : value a (x % 8) ≡ value b (x % 8) → key_less (key_at (o + 1)) a b ≡ key_less (key_at o) a b
+  pub key_equal : value a c ≡ value b c → key_less (key_at (o + 1)) a b ≡ key_less (key_at o) a b
   unfolding key_less
-  key_equal h = sym (rw (keys_step o, ← e, key_more x (key_at (o + 1)) n, le-ltb (value a (x % 8)) (value b (x % 8)) (omega arith), eq-eqb (value a (x % 8)) (value b (x % 8)) h))
-
-  pub key_greater : value b (x % 8) ≤ value a (x % 8) → (value a (x % 8) ≡ value b (x % 8) → ⊥) → key_less (key_at o) a b ≡ false
-  unfolding key_less
-  key_greater h k = rw (keys_step o, ← e, key_more x (key_at (o + 1)) n, le-ltb (value a (x % 8)) (value b (x % 8)) h, ne_eqb (value a (x % 8)) (value b (x % 8)) k)
+  key_equal h = sym (rw (keys_step o, ← e, key_more x (key_at (o + 1)) n, ← place, le-ltb (value a c) (value b c) (omega arith), eq-eqb (value a c) (value b c) h))
 
 pub key_end : (o x : ℕ) (a b : Row) → x ≡ get_or format_bytes o 10 → x ≡ 10 → key_less (key_at o) a b ≡ false
 unfolding key_less
 key_end o x a b e n = rw (keys_step o, ← e, key_last x (key_at (o + 1)) n)
 
--- a key whose places are known: the rows differ at its first place, are equal there, and at its
--- last
-module _ (c : ℕ) (key : List ℕ) (a b : Row) where
-  pub less_here : (value a c ≡ value b c → ⊥) → ltb (value a c) (value b c) ≡ key_less (c ∷ key) a b
-  unfolding key_less
-  less_here h = rw (ne_eqb (value a c) (value b c) h) (sym (or_none (ltb (value a c) (value b c))))
+-- four comparisons in turn, as those of tuples are made
+first_of_four : (o₁ o₂ o₃ o₄ : Ordering) → is_some_and is_lt (partial_ordering_then (partial_ordering_then (partial_ordering_then (Some o₁) (Some o₂)) (Some o₃)) (Some o₄)) ≡ (is_lt o₁ || (is_eq o₁ && (is_lt o₂ || (is_eq o₂ && (is_lt o₃ || (is_eq o₃ && (is_lt o₄ || (is_eq o₄ && false))))))))
+first_of_four Less o₂ o₃ o₄ = refl
+first_of_four Greater o₂ o₃ o₄ = refl
+first_of_four Equal Less o₃ o₄ = refl
+first_of_four Equal Greater o₃ o₄ = refl
+first_of_four Equal Equal Less o₄ = refl
+first_of_four Equal Equal Greater o₄ = refl
+first_of_four Equal Equal Equal Less = refl
+first_of_four Equal Equal Equal Greater = refl
+first_of_four Equal Equal Equal Equal = refl
 
-  pub less_on : value a c ≡ value b c → key_less key a b ≡ key_less (c ∷ key) a b
-  unfolding key_less
-  less_on h = rw (le-ltb (value a c) (value b c) (omega arith), eq-eqb (value a c) (value b c) h)
+less_told : (x y : ℕ) → is_lt (nat_cmp x y) ≡ ltb x y
+less_told x y = grind (arith, nat_tests)
 
-pub less_last : (c : ℕ) (a b : Row) → ltb (value a c) (value b c) ≡ key_less (c ∷ []) a b
-unfolding key_less
-less_last c a b = sym (ap (λ (t : Bool). ltb (value a c) (value b c) || t) (and_none (eqb (value a c) (value b c))) ∙ or_none (ltb (value a c) (value b c)))
+equal_told : (x y : ℕ) → is_eq (nat_cmp x y) ≡ eqb x y
+equal_told x y = grind (arith, nat_tests)
+
+-- the edges' key tells as their tuples do
+pub edge_told : (a b : Row) → is_some_and is_lt (partial_ordering_then (partial_ordering_then (partial_ordering_then (Some (nat_cmp (value a 0) (value b 0))) (Some (nat_cmp (value a 1) (value b 1)))) (Some (nat_cmp (value a 3) (value b 3)))) (Some (nat_cmp (value a 2) (value b 2)))) ≡ key_less (section_at edge_section).key a b
+unfolding key_less section_at sections edges
+edge_told a b =
+    first_of_four (nat_cmp (value a 0) (value b 0)) (nat_cmp (value a 1) (value b 1)) (nat_cmp (value a 3) (value b 3)) (nat_cmp (value a 2) (value b 2))
+    ∙ rw (less_told (value a 0) (value b 0), equal_told (value a 0) (value b 0), less_told (value a 1) (value b 1), equal_told (value a 1) (value b 1), less_told (value a 3) (value b 3), equal_told (value a 3) (value b 3), less_told (value a 2) (value b 2), equal_told (value a 2) (value b 2))
 
 -- the rows before, where the section has none, and where it has some
 pub back_none : (n p : ℕ) (t : List ℕ) → n ≡ 0 → rows_back n p t ≡ []

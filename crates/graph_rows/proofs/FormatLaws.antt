@@ -1,14 +1,17 @@
 -- The fixed string holds the nine sections' names lines, rows and keys, at the places given.
 -- Assumes nothing.
-use Prim.Native.Nat.{ℕ, zero, suc, ◌+◌, ◌-◌, ◌/◌, ◌%◌, ◌≤◌, ◌<◌}
+use Prim.Native.Nat.{ℕ, min, zero, suc, ◌+◌, ◌-◌, ◌/◌, ◌%◌, ◌≤◌, ◌<◌}
 use mathlib.Core.Path.{◌≡◌, refl, sym, ap, ◌∙◌}
 use mathlib.Core.List.{List, [], ◌∷◌, map}
-use mathlib.Core.Bool.{Bool, true, false, ◌&&◌}
+use mathlib.Core.Bool.{Bool, true, false, not, ◌&&◌}
 use native.Mathlib.Omega.{arith}
 use native.Mathlib.Numerals.{add-one}
-use lib.Dec.{leb}
-use borrow.Author.Tests.{ne_eqb, lt-ltb, le-ltb, le-leb}
-use lib.ListN.{length, get_or, drop, get_or-map}
+use lib.Dec.{eqb, ltb, leb}
+use borrow.Author.Tests.{ne_eqb, ltb-true, ltb-false, eqb-true, eqb-false, lt-ltb, le-ltb, le-leb}
+use lib.ListN.{length, get_or, take, drop, get_or-map, length-drop, drop_of_length-le, get_or-eq_default}
+use lib.Seq.{get_or-drop, take-length}
+use Rattle.std.proofs.lemmas.List.{get_or_default}
+use Rattle.std.specs.List.{list_all, prefix_len}
 use Rattle.graph_rows.specs.Format.{Item, byte, field, values_of, every_item, Section, labels, pairs, transitions, accepts, scope_count, edges, declarations, open_pairs, queries, past_last, sections, section_at, has_kinds, has_turns, edge_shape, declaration_shape, query_shape, shapes_of, shape_at}
 use Rattle.graph_rows.specs.Values.{spares_place}
 use Rattle.graph_rows.specs.Table.{content_number, code, content_of, item_of, shape_bytes, has_range, kept_ranged, ranged, range_bytes, layout, layouts, format_bytes, line_step, line_of, items_at, key_step, key_of, key_at, place_by, names_place, row_place, range_place, key_place, filled_place}
@@ -135,22 +138,6 @@ least_at k = field_at (λ s. s.least) k
 pub sequence_at : (k i : ℕ) → k ≡ i → (section_at i).sequence ≡ (section_at k).sequence
 sequence_at k i e = ap (λ (j : ℕ). (section_at j).sequence) (sym e)
 
--- a number listed for each section, by the section's number; a number that is none of them
-pub number_of : (ns : List ℕ) (k i d : ℕ) → k ≡ i → get_or ns i d ≡ get_or ns k d
-number_of ns k i d e = rw e
-
-pub past_last_lem : (k : ℕ) → (k ≡ 0 → ⊥) → (k ≡ 1 → ⊥) → (k ≡ 2 → ⊥) → (k ≡ 3 → ⊥) → (k ≡ 4 → ⊥) → (k ≡ 5 → ⊥) → (k ≡ 6 → ⊥) → (k ≡ 7 → ⊥) → (k ≡ 8 → ⊥) → 9 ≤ k
-past_last_lem zero a b c d e f g h i = absurd (a refl)
-past_last_lem (suc zero) a b c d e f g h i = absurd (b refl)
-past_last_lem (suc (suc zero)) a b c d e f g h i = absurd (c refl)
-past_last_lem (suc (suc (suc zero))) a b c d e f g h i = absurd (d refl)
-past_last_lem (suc (suc (suc (suc zero)))) a b c d e f g h i = absurd (e refl)
-past_last_lem (suc (suc (suc (suc (suc zero))))) a b c d e f g h i = absurd (f refl)
-past_last_lem (suc (suc (suc (suc (suc (suc zero)))))) a b c d e f g h i = absurd (g refl)
-past_last_lem (suc (suc (suc (suc (suc (suc (suc zero))))))) a b c d e f g h i = absurd (h refl)
-past_last_lem (suc (suc (suc (suc (suc (suc (suc (suc zero)))))))) a b c d e f g h i = absurd (i refl)
-past_last_lem (suc (suc (suc (suc (suc (suc (suc (suc (suc k))))))))) a b c d e f g h i = omega arith
-
 -- the five places of a row, and those past them
 by_place : (A : ℕ → Type 0) → A 0 → A 1 → A 2 → A 3 → A 4 → ((d : ℕ) → 5 ≤ d → A d) → (d : ℕ) → A d
 by_place A a b c e f g zero = a
@@ -193,6 +180,21 @@ filled_at form (suc (suc (suc (suc (suc (suc (suc (suc (suc k))))))))) = λ d. s
 pub format_length : length format_bytes ≡ 260
 unfolding labels pairs transitions accepts scope_count edges declarations open_pairs queries past_last sections has_kinds has_turns edge_shape declaration_shape query_shape shapes_of content_number code shape_bytes has_range kept_ranged ranged range_bytes layout layouts format_bytes
 format_length = refl
+
+-- the string from a place on, or from its end
+pub from_place : (l : List ℕ) (o m : ℕ) → m ≡ min o (length l) → take (length l - m) (drop m l) ≡ drop o l
+from_place l o m e = rw (← length-drop m l, take-length (drop m l)) (by (ltb o (length l)) refl)
+  where
+    by : (t : Bool) → ltb o (length l) ≡ t → drop m l ≡ drop o l
+    by true h = let f = ltb-true o (length l) h in ap (λ (n : ℕ). drop n l) (omega arith)
+    by false h = let f = ltb-false o (length l) h in drop_of_length-le l {i = m} (omega arith) ∙ sym (drop_of_length-le l {i = o} f)
+
+-- the code at a place of the string's end part, and past it
+pub code_here : (codes : List ℕ) (o i : ℕ) → codes ≡ drop o format_bytes → i < length codes → get_or codes i 0 ≡ get_or format_bytes (o + i) 10
+code_here codes o i e h = get_or_default codes i 0 10 h ∙ ap (λ (l : List ℕ). get_or l i 10) e ∙ get_or-drop o format_bytes i 10
+
+pub code_none : (codes : List ℕ) (o i : ℕ) → codes ≡ drop o format_bytes → length codes ≤ i → 10 ≡ get_or format_bytes (o + i) 10
+code_none codes o i e h = sym (get_or-eq_default codes 10 {n = i} h) ∙ ap (λ (l : List ℕ). get_or l i 10) e ∙ get_or-drop o format_bytes i 10
 
 -- one item, and the line after it
 line_step_lem : (l : List ℕ) (o : ℕ) → line_of (drop o l) ≡ line_step (get_or l o 10) (line_of (drop (suc o) l))
@@ -242,20 +244,18 @@ pub key_last : (x : ℕ) (key : List ℕ) → x ≡ 10 → key_step x key ≡ []
 unfolding key_step
 key_last x key n = rw n
 
--- a test of every item at a place of the format goes on item by item
-every_step : (f : Item → Bool) (o x : ℕ) → x ≡ get_or format_bytes o 10 → (x ≡ 10 → ⊥) → every_item f (items_at o) ≡ (f (item_of x) && every_item f (items_at (o + 1)))
-unfolding every_item
-every_step f o x e n = rw (items_step o, ← e, line_more x (items_at (o + 1)) n)
-
-pub every_true : (f : Item → Bool) (o x : ℕ) → x ≡ get_or format_bytes o 10 → (x ≡ 10 → ⊥) → f (item_of x) ≡ true → every_item f (items_at (o + 1)) ≡ every_item f (items_at o)
-every_true f o x e n t = sym (every_step f o x e n ∙ rw t)
-
-pub every_false : (f : Item → Bool) (o x : ℕ) → x ≡ get_or format_bytes o 10 → (x ≡ 10 → ⊥) → f (item_of x) ≡ false → every_item f (items_at o) ≡ false
-every_false f o x e n t = every_step f o x e n ∙ rw t
-
-pub every_end : (f : Item → Bool) (o x : ℕ) → x ≡ get_or format_bytes o 10 → x ≡ 10 → f (byte 10) ≡ true → every_item f (items_at o) ≡ true
-unfolding every_item
-every_end f o x e n t = rw (items_step o, ← e, line_last x (items_at (o + 1)) n, t)
+-- a test of every item of a line, code by code up to the line's end
+pub every_code : (test : Item → Bool) → test (byte 10) ≡ true → (l : List ℕ) → list_all (λ x. test (item_of x)) (take (prefix_len (λ x. not (eqb x 10)) l) l) ≡ every_item test (line_of l)
+unfolding every_item line_of
+every_code test h [] = rw h
+every_code test h (x ∷ l) = by (eqb x 10) refl (every_code test h l)
+  where
+    by : (e : Bool) → eqb x 10 ≡ e → list_all (λ y. test (item_of y)) (take (prefix_len (λ y. not (eqb y 10)) l) l) ≡ every_item test (line_of l)
+        → list_all (λ y. test (item_of y)) (take (prefix_len (λ y. not (eqb y 10)) (x ∷ l)) (x ∷ l)) ≡ every_item test (line_step x (line_of l))
+    by true e ih = rw (line_last x (line_of l) (eqb-true x 10 e), e, h)
+    by false e ih =
+        let s : 1 + prefix_len (λ (y : ℕ). not (eqb y 10)) l ≡ suc (prefix_len (λ (y : ℕ). not (eqb y 10)) l) = omega arith in
+        rw (line_more x (line_of l) (eqb-false x 10 e), e, s) (ap (λ (b : Bool). test (item_of x) && b) ih)
 
 -- the item of a code
 pub item_byte : (x : ℕ) → x < 128 → item_of x ≡ byte x

@@ -2,12 +2,13 @@
 use Prim.Native.Nat.{ℕ, zero, suc, ◌+◌, ◌-◌, ◌*◌, ◌≤◌, ◌<◌}
 use mathlib.Core.Path.{◌≡◌, refl, sym, ap, ◌∙◌}
 use mathlib.Core.List.{List, [], ◌∷◌}
-use mathlib.Core.Bool.{Bool, true, false}
+use mathlib.Core.Bool.{Bool, ◌||◌}
 use native.Mathlib.Omega.{arith}
 use lib.ListN.{length, get_or, drop, drop_of_length-le, get_or-eq_default, take, length-drop}
 use lib.Seq.{get_or-drop, drop-drop}
 use native.Mathlib.Nat.{sub-zero, zero-add, add-zero}
 use borrow.Author.Tests.{eq-eqb, ne_eqb}
+use Rattle.std.specs.List.{list_any, range_with_len}
 use Rattle.graph_rows.specs.Admission.{Row, value, row_of, place}
 use Rattle.graph_rows.specs.Order.{some_row}
 use Rattle.graph_rows.specs.Table.{rows_at, letters_at}
@@ -93,27 +94,21 @@ letter_none x t n i h = rw (rows_end t 1 n i h)
 pub letter_start : (x : ℕ) (t : List ℕ) (n : ℕ) → 0 + place x (letters_at (n - 0) (drop (1 + 6 * 0) t)) ≡ place x (letters_at n (drop 1 t))
 letter_start x t n = rw (sub-zero n, zero-add (place x (letters_at n (drop 1 t))))
 
-pub rows_start : (t : List ℕ) (f n : ℕ) → rows_at (n - 0) (drop (f + 6 * 0) t) ≡ rows_at n (drop f t)
-rows_start t f n = rw (sub-zero n, add-zero f)
-
 pub letters_length : (n : ℕ) (t : List ℕ) → length (letters_at n t) ≡ n
 unfolding letters_at rows_at
 letters_length zero t = refl
 letters_length (suc n) t = ap suc (letters_length n (drop 6 t))
 
--- a test of some row of n from place f on goes on row by row
-module _ (test : Row → Bool) (t : List ℕ) (f n i : ℕ) where
-  pub some_hit : i < n → test (row_of (drop (f + 6 * i) t)) ≡ true → some_row test (rows_at (n - i) (drop (f + 6 * i) t)) ≡ true
-  unfolding some_row
-  some_hit h e = rw (rows_step t f n i h, e)
+-- a test of some row of n from the i-th on, which stand from place f on
+some_from : (test : Row → Bool) (t : List ℕ) (f n i : ℕ) → list_any (λ j. test (row_of (drop (f + 6 * j) t))) (range_with_len i n) ≡ some_row test (rows_at n (drop (f + 6 * i) t))
+unfolding some_row rows_at
+some_from test t f zero i = refl
+some_from test t f (suc n) i =
+    let d : f + 6 * (i + 1) ≡ f + 6 * i + 6 = omega arith in
+    ap (λ (b : Bool). test (row_of (drop (f + 6 * i) t)) || b) (some_from test t f n (i + 1) ∙ rw (d, ← drop-drop 6 (f + 6 * i) t))
 
-  pub some_miss : i < n → test (row_of (drop (f + 6 * i) t)) ≡ false → some_row test (rows_at (n - (i + 1)) (drop (f + 6 * (i + 1)) t)) ≡ some_row test (rows_at (n - i) (drop (f + 6 * i) t))
-  unfolding some_row
-  some_miss h e = sym (rw (rows_step t f n i h, e))
-
-  pub some_none : n ≤ i → some_row test (rows_at (n - i) (drop (f + 6 * i) t)) ≡ false
-  unfolding some_row
-  some_none h = rw (rows_end t f n i h)
+pub some_told : (test : Row → Bool) (t : List ℕ) (f n : ℕ) → list_any (λ j. test (row_of (drop (f + 6 * j) t))) (range_with_len 0 n) ≡ some_row test (rows_at n (drop f t))
+some_told test t f n = some_from test t f n 0 ∙ rw (add-zero f)
 
 pub row_of_five : (s : List ℕ) → length (row_of s) ≡ 5
 unfolding row_of

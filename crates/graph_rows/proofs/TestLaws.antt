@@ -9,6 +9,7 @@ use lib.Dec.{eqb, leb}
 use lib.ListN.{length, get_or, drop, length-drop, drop_of_length-le}
 use lib.Seq.{drop-drop, drop-cons, get_or-drop}
 use borrow.Author.Tests.{lt-ltb, le-ltb}
+use Rattle.std.specs.declared.result.Result.TheVariants.{Ok}
 use Rattle.text_field.specs.Outcome.{Outcome, refused, done, and_then, refuse_if}
 use Rattle.graph_rows.specs.declared.rows.Counts.{Counts}
 use Rattle.graph_rows.specs.declared.tested.Tested.{Tested}
@@ -18,7 +19,7 @@ use Rattle.graph_rows.specs.LookBack.{SortedSofar}
 use Rattle.graph_rows.specs.Order.{order_fault}
 use Rattle.graph_rows.specs.Values.{formed}
 use Rattle.graph_rows.specs.Way.{Piece, Stage, if_admitted, after_row, one_row, through_rows, after_names, enough, through_section, through_sections, at_start, ordered, whole, starts_with}
-use Rattle.graph_rows.specs.Tested.{test_row, test_names, testing, has_form, form_in, tested, refusal_in, table_refusal, stage_from, refused_or, test_outcome}
+use Rattle.graph_rows.specs.Tested.{test_row, test_names, testing, has_form, form_in, tested, refusal_in, table_refusal, stage_from, test_outcome}
 use Rattle.graph_rows.specs.Table.{rows_at, letters_at, pairs_at, rows_back, sofar_at}
 use Rattle.graph_rows.specs.Counting.{Placed, counts_after, counts_begun}
 use Rattle.graph_rows.proofs.DecodeWay.{row_split, refuse_if_done}
@@ -109,20 +110,6 @@ module _ (form k : ℕ) (t : List ℕ) (p : ℕ) (c : Counts) (z : 0 ≡ refusal
       let own : p + 6 - 6 ≡ p = omega arith in
       rw (add-one c.rows, own) (sorted_on k (sofar_at t p c) (row_of (drop p t)) (passed form k (sofar_at t p c) (row_of (drop p t)) allowed).follow s)
 
--- what a test returns, by its refusal
-module _ (r : Tested) (t : List ℕ) where
-  pub test_refused : (r.refusal ≡ 0 → ⊥) → test_outcome r t ≡ refused r.refusal
-  unfolding test_outcome
-  test_refused z = go r.refusal z
-    where
-      go : (n : ℕ) → (n ≡ 0 → ⊥) → refused_or n (stage_from (sofar_at t r.cells r.counts) (drop r.cells t)) ≡ refused n
-      go zero e = absurd (e refl)
-      go (suc n) e = unfold refused_or in refl
-
-  pub test_done : r.refusal ≡ 0 → test_outcome r t ≡ done (stage_from (sofar_at t r.cells r.counts) (drop r.cells t))
-  unfolding test_outcome refused_or
-  test_done z = rw z
-
 -- the rows of a section: refused at a row, a row taken, no row left
 module _ (form k m : ℕ) (t : List ℕ) (d : Counts) (few : d.rows ≤ (section_at k).most) where
   pub rows_turned : through_rows (testing form) (suc (section_at k).most - d.rows) k (stage_from (sofar_at t m d) (drop m t)) ≡ through_rows (testing form) (suc ((section_at k).most - d.rows)) k (stage_from (sofar_at t m d) (drop m t))
@@ -150,35 +137,33 @@ pub rows_start : (form k : ℕ) (g : Stage) (c : Counts) → c.rows ≡ 0 → th
 rows_start form k g c z = let e : suc (section_at k).most - c.rows ≡ suc (section_at k).most = omega arith in rw e
 
 -- a section: refused at a row, too few rows, enough
-module _ (form k : ℕ) (t : List ℕ) (p : ℕ) (c : Counts) (r : Tested) (e : test_outcome r t ≡ through_rows (testing form) (suc (section_at k).most) k (stage_from (sofar_at t p (counts_begun c)) (drop p t))) where
-  section_is : through_section (testing form) k (stage_from (sofar_at t p c) (drop p t)) ≡ and_then (test_outcome r t) (enough k)
+module _ (form k : ℕ) (t : List ℕ) (p : ℕ) (c : Counts) where
+  section_is : {o : Outcome Stage} → o ≡ through_rows (testing form) (suc (section_at k).most) k (stage_from (sofar_at t p (counts_begun c)) (drop p t)) → through_section (testing form) k (stage_from (sofar_at t p c) (drop p t)) ≡ and_then o (enough k)
   unfolding through_section testing test_names and_then after_names stage_from sofar_at begun counts_begun rows_back
-  section_is = ap (λ (o : Outcome Stage). and_then o (enough k)) (sym e)
+  section_is e = ap (λ (o : Outcome Stage). and_then o (enough k)) (sym e)
 
-  pub section_refused : (r.refusal ≡ 0 → ⊥) → test_outcome r t ≡ through_section (testing form) k (stage_from (sofar_at t p c) (drop p t))
+  pub section_refused : (n : ℕ) → refused n ≡ through_rows (testing form) (suc (section_at k).most) k (stage_from (sofar_at t p (counts_begun c)) (drop p t)) → refused n ≡ through_section (testing form) k (stage_from (sofar_at t p c) (drop p t))
   unfolding and_then
-  section_refused z = test_refused r t z ∙ sym (section_is ∙ rw (test_refused r t z))
+  section_refused n e = sym (section_is e)
 
-  module _ (z : r.refusal ≡ 0) where
+  module _ (r : Tested) (e : test_outcome (Ok r) t ≡ through_rows (testing form) (suc (section_at k).most) k (stage_from (sofar_at t p (counts_begun c)) (drop p t))) where
     pub section_few : r.counts.rows < (section_at k).least → refused 2 ≡ through_section (testing form) k (stage_from (sofar_at t p c) (drop p t))
-    unfolding and_then enough refuse_if stage_from sofar_at
-    section_few h = sym (section_is ∙ rw (test_done r t z, lt-ltb r.counts.rows (section_at k).least h))
+    unfolding test_outcome and_then enough refuse_if stage_from sofar_at
+    section_few h = sym (section_is e ∙ rw (lt-ltb r.counts.rows (section_at k).least h))
 
-    pub section_enough : (section_at k).least ≤ r.counts.rows → test_outcome r t ≡ through_section (testing form) k (stage_from (sofar_at t p c) (drop p t))
-    unfolding and_then enough refuse_if stage_from sofar_at
-    section_enough h = test_done r t z ∙ sym (section_is ∙ rw (test_done r t z, le-ltb r.counts.rows (section_at k).least h))
+    pub section_enough : (section_at k).least ≤ r.counts.rows → test_outcome (Ok r) t ≡ through_section (testing form) k (stage_from (sofar_at t p c) (drop p t))
+    unfolding test_outcome and_then enough refuse_if stage_from sofar_at
+    section_enough h = sym (section_is e ∙ rw (le-ltb r.counts.rows (section_at k).least h))
 
 -- the sections from section k on
 module _ (form k : ℕ) (t : List ℕ) (p : ℕ) (c : Counts) where
-  module _ (within : k < 9) (r : Tested) (e : test_outcome r t ≡ through_section (testing form) k (stage_from (sofar_at t p c) (drop p t))) where
-    pub sections_end : (r.refusal ≡ 0 → ⊥) → test_outcome r t ≡ through_sections (testing form) (9 - k) k (stage_from (sofar_at t p c) (drop p t))
-    sections_end z =
-        test_refused r t z
-        ∙ sym (sections_more (testing form) k _ within ∙ sections_refused (testing form) k (9 - (k + 1)) _ r.refusal (sym e ∙ test_refused r t z))
+  module _ (within : k < 9) where
+    pub sections_end : (n : ℕ) → refused n ≡ through_section (testing form) k (stage_from (sofar_at t p c) (drop p t)) → refused n ≡ through_sections (testing form) (9 - k) k (stage_from (sofar_at t p c) (drop p t))
+    sections_end n e = sym (sections_more (testing form) k _ within ∙ sections_refused (testing form) k (9 - (k + 1)) _ n (sym e))
 
-    pub sections_again : r.refusal ≡ 0 → through_sections (testing form) (9 - (k + 1)) (k + 1) (stage_from (sofar_at t r.cells r.counts) (drop r.cells t)) ≡ through_sections (testing form) (9 - k) k (stage_from (sofar_at t p c) (drop p t))
-    sections_again z =
-        sections_next (testing form) k (9 - (k + 1)) _ _ (sym e ∙ test_done r t z) ∙ sym (sections_more (testing form) k _ within)
+    pub sections_again : (r : Tested) → test_outcome (Ok r) t ≡ through_section (testing form) k (stage_from (sofar_at t p c) (drop p t)) → through_sections (testing form) (9 - (k + 1)) (k + 1) (stage_from (sofar_at t r.cells r.counts) (drop r.cells t)) ≡ through_sections (testing form) (9 - k) k (stage_from (sofar_at t p c) (drop p t))
+    unfolding test_outcome
+    sections_again r e = sections_next (testing form) k (9 - (k + 1)) _ _ (sym e) ∙ sym (sections_more (testing form) k _ within)
 
   -- after the last one something is left, or nothing
   pub sections_rest : 9 ≤ k → p < length t → refused 2 ≡ through_sections (testing form) (9 - k) k (stage_from (sofar_at t p c) (drop p t))
@@ -202,19 +187,19 @@ pub table_unformed : (t : List ℕ) → has_form t ≡ false → 2 ≡ table_ref
 unfolding table_refusal tested refuse_if refusal_in
 table_unformed t h = sym (rw h)
 
-module _ (t : List ℕ) (known : has_form t ≡ true) (r : Tested) (e : test_outcome r t ≡ through_sections (testing (form_in t)) 9 0 (stage_from nothing (drop 1 t))) where
-  table_is : tested t ≡ and_then (test_outcome r t) ordered
+module _ (t : List ℕ) (known : has_form t ≡ true) where
+  table_is : {o : Outcome Stage} → o ≡ through_sections (testing (form_in t)) 9 0 (stage_from nothing (drop 1 t)) → tested t ≡ and_then o ordered
   unfolding tested refuse_if whole at_start stage_from
-  table_is = rw (known, e)
+  table_is e = rw (known, e)
 
-  pub table_refused : (r.refusal ≡ 0 → ⊥) → r.refusal ≡ table_refusal t
+  pub table_refused : (n : ℕ) → refused n ≡ through_sections (testing (form_in t)) 9 0 (stage_from nothing (drop 1 t)) → n ≡ table_refusal t
   unfolding table_refusal and_then refusal_in
-  table_refused z = sym (rw (table_is, test_refused r t z))
+  table_refused n e = sym (rw (table_is e))
 
-  module _ (z : r.refusal ≡ 0) where
+  module _ (r : Tested) (e : test_outcome (Ok r) t ≡ through_sections (testing (form_in t)) 9 0 (stage_from nothing (drop 1 t))) where
     table_ordered : (b : Bool) → order_fault (pairs_at r.counts.labels r.counts.pairs t) ≡ b → tested t ≡ refuse_if b 6 (done (stage_from (sofar_at t r.cells r.counts) (drop r.cells t)))
-    unfolding and_then ordered stage_from sofar_at
-    table_ordered b f = table_is ∙ rw (test_done r t z, f)
+    unfolding test_outcome and_then ordered stage_from sofar_at
+    table_ordered b f = table_is e ∙ rw f
 
     pub table_fault : order_fault (pairs_at r.counts.labels r.counts.pairs t) ≡ true → 6 ≡ table_refusal t
     unfolding table_refusal refuse_if refusal_in

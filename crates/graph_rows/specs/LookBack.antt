@@ -7,6 +7,10 @@ use Rattle.scope_graph.specs.Listing.{Pairwise}
 use Rattle.graph_rows.specs.Format.{apart, section_at, edge_section}
 use Rattle.graph_rows.specs.Admission.{Row, value, key_less, same_source, repeats}
 
+-- what an edge row is sorted by, as the code compares it
+unfoldable pub edge_key : Row → ℕ × ℕ × ℕ × ℕ
+edge_key row = (value row 0, value row 1, value row 3, value row 2)
+
 -- Is the row's edge among those directly above that leave the same scope by the same label?
 unfoldable pub found_looking_back : List Row → Row → Bool
 found_looking_back [] row = false

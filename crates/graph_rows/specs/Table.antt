@@ -6,6 +6,10 @@ use Rattle.graph_rows.specs.declared.rows.Counts.{Counts}
 use Rattle.graph_rows.specs.declared.format.Layout.{Layout}
 use Rattle.graph_rows.specs.declared.format.Sequence as told
 use Rattle.graph_rows.specs.declared.format.Sequence.TheVariants.{Ascending, Apart, Once, Free}
+use Rattle.graph_rows.specs.declared.items.Content as held
+use Rattle.graph_rows.specs.declared.items.Content.TheVariants.{State, Scope, Mark, Count, Letter, Label, End, Name, Kind, PlainKind, Turn}
+use Rattle.graph_rows.specs.declared.items.Item as stands
+use Rattle.graph_rows.specs.declared.items.Item.TheVariants.{Byte, Field}
 use Rattle.graph_rows.specs.Format.{Content, state, scope, mark, count, letter, label, end, name, kind, plain, turn, Item, byte, field, Sequence, ascending, apart, once, free, Section, sections, section_at, Shape, edge_shape, declaration_shape, query_shape, shapes_of, old_form, has_kinds, has_turns}
 use Rattle.graph_rows.specs.Admission.{Row, value, row_of, Sofar}
 
@@ -45,6 +49,24 @@ content_of (suc (suc (suc (suc (suc (suc (suc (suc (suc (suc n)))))))))) = turn
 -- the item of a code
 unfoldable pub item_of : ℕ → Item
 item_of x = elim (ltb x 128) [ true ↦ byte x | false ↦ field (content_of ((x - 128) / 8)) (x % 8) ]
+
+-- what the code's enum says of what a field holds, and of an item
+unfoldable pub content_meaning : held.Content → Content
+content_meaning State = state
+content_meaning Scope = scope
+content_meaning Mark = mark
+content_meaning Count = count
+content_meaning Letter = letter
+content_meaning Label = label
+content_meaning End = end
+content_meaning Name = name
+content_meaning Kind = kind
+content_meaning PlainKind = plain
+content_meaning Turn = turn
+
+unfoldable pub item_meaning : stands.Item → Item
+item_meaning (Byte b) = byte b
+item_meaning (Field k c) = field (content_meaning k) c
 
 -- a section's lines in the fixed string: its names line and the codes of a row's items
 unfoldable pub shape_bytes : Shape → List ℕ

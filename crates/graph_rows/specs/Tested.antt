@@ -1,8 +1,12 @@
 -- Is a table of cells a graph? Each row is tested by 2, 5, 3 and 4 in turn, then the order pairs by
 -- 6, and nothing is written (document 01, "Who can cause a refusal"). The writer's tests are these.
 -- Assumes nothing: these are definitions.
-use Rattle.std.specs.Prelude.{ℕ, zero, suc, List, [], ◌∷◌, Bool, false, not, ltb, leb, length, get_or, drop}
+use Rattle.std.specs.Prelude.{ℕ, List, [], ◌∷◌, Bool, false, not, ltb, leb, length, get_or, drop}
 use Rattle.graph_rows.specs.Format.{shape_at, old_form, turn_form}
+use Rattle.std.specs.declared.result.Result.{Result}
+use Rattle.std.specs.declared.result.Result.TheVariants.{Ok, Err}
+use Rattle.text_field.specs.declared.refusal.Refusal.{Refusal}
+use Rattle.text_field.specs.Refusal.{number_of}
 use Rattle.text_field.specs.Outcome.{Outcome, refused, done, refuse_if}
 use Rattle.graph_rows.specs.Admission.{row_of, blank, Sofar}
 use Rattle.graph_rows.specs.Values.{formed}
@@ -52,11 +56,7 @@ table_refusal cells = refusal_in (tested cells)
 unfoldable pub stage_from : Sofar → List ℕ → Stage
 stage_from st rest = record { sofar = st; made = []; rest = rest }
 
--- a refusal, or 0 and the stage that was reached
-unfoldable pub refused_or : ℕ → Stage → Outcome Stage
-refused_or zero g = done g
-refused_or (suc n) g = refused (suc n)
-
--- what a testing function returns: its refusal, or how far it has come in the table
-unfoldable pub test_outcome : Tested → List ℕ → Outcome Stage
-test_outcome r table = refused_or r.refusal (stage_from (sofar_at table r.cells r.counts) (drop r.cells table))
+-- what a testing function returns: a refusal, or how far it has come in the table
+unfoldable pub test_outcome : Result Tested Refusal → List ℕ → Outcome Stage
+test_outcome (Ok r) table = done (stage_from (sofar_at table r.cells r.counts) (drop r.cells table))
+test_outcome (Err r) table = refused (number_of r)

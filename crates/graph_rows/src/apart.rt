@@ -1,10 +1,10 @@
 // Tests whether an edge row ascends and repeats no edge so far. A file has many edges, so their key
-// is compared place by place here, without looking its places up in the format.
+// is compared as a tuple here, without looking its places up in the format.
 ghost use Rattle.std.specs.Prelude.{◌≡◌, not, ◌&&◌, ◌+◌, ◌≤◌, length, drop};
 ghost use Rattle.graph_rows.specs.Format.{section_at, edge_section};
 ghost use Rattle.graph_rows.specs.Admission.{row_of, key_less, ascends, same_source, repeats};
 ghost use Rattle.graph_rows.specs.Table.{rows_back};
-ghost use Rattle.graph_rows.specs.LookBack.{found_looking_back, quick_repeats, Ascended};
+ghost use Rattle.graph_rows.specs.LookBack.{edge_key, found_looking_back, quick_repeats, Ascended};
 
 use crate::rows::{row_before, value_at};
 
@@ -18,27 +18,25 @@ const TO: usize = 2;
 
 const TURN: usize = 3;
 
-// Does the edge row at place q stand before the one at place p, by from, label, turn and to?
+// What an edge row is sorted by: from, label, turn and to.
+fn edge_key(table: &[u64], p: usize) -> (u64, u64, u64, u64)
+    requires room { p + 6 ≤ length table.now }
+    ensures answer { result ≡ edge_key (row_of (drop p table.now)) }
+{
+    (
+        value_at(table, p, FROM),
+        value_at(table, p, LABEL),
+        value_at(table, p, TURN),
+        value_at(table, p, TO),
+    )
+}
+
+// Does the edge row at place q stand before the one at place p?
 fn edge_less(table: &[u64], q: usize, p: usize) -> bool
     requires room { (q + 6 ≤ length table.now) × (p + 6 ≤ length table.now) }
     ensures answer { result ≡ key_less (section_at edge_section).key (row_of (drop q table.now)) (row_of (drop p table.now)) }
 {
-    let from = value_at(table, q, FROM);
-    let from_here = value_at(table, p, FROM);
-    if from != from_here {
-        return from < from_here;
-    }
-    let label = value_at(table, q, LABEL);
-    let label_here = value_at(table, p, LABEL);
-    if label != label_here {
-        return label < label_here;
-    }
-    let turn = value_at(table, q, TURN);
-    let turn_here = value_at(table, p, TURN);
-    if turn != turn_here {
-        return turn < turn_here;
-    }
-    value_at(table, q, TO) < value_at(table, p, TO)
+    edge_key(table, q) < edge_key(table, p)
 }
 
 // Does the edge row at place p ascend from the one before it? The first edge does.
@@ -69,8 +67,7 @@ fn stands_above(table: &[u64], p: usize, rows: u32) -> bool
     ensures answer { result ≡ found_looking_back (rows_back rows p table.now) (row_of (drop p table.now)) }
 {
     let mut q = p;
-    let mut left = rows;
-    while 0 < left {
+    for _ in 0..rows {
         q = row_before(q);
         if !same_source(table, q, p) {
             return false;
@@ -78,7 +75,6 @@ fn stands_above(table: &[u64], p: usize, rows: u32) -> bool
         if value_at(table, q, TO) == value_at(table, p, TO) {
             return true;
         }
-        left -= 1;
     }
     false
 }

@@ -1,10 +1,10 @@
 // The form of the gym file: what specs/Format.antt says of the nine sections, as one fixed string
 // with the places of its parts.
-ghost use Rattle.std.specs.Prelude.{◌≡◌, get_or};
+ghost use Rattle.std.specs.Prelude.{◌≡◌, get_or, drop};
 ghost use Rattle.graph_rows.specs.Format.{section_at, has_kinds, has_turns};
 ghost use Rattle.graph_rows.specs.Table.{format_bytes, place_by, names_place, row_place, range_place, key_place, filled_place, layout_of, sequence_meaning};
 
-use text_field::byte_at;
+use text_field::get_or;
 
 // The bytes of a file at most (document 01, "The gym file").
 pub const TEXT_BYTES: usize = 32768;
@@ -20,7 +20,8 @@ pub const TURNS: u64 = 100;
 pub const MOST_SCOPES: u64 = 64;
 
 // The forms of a file, by the number that is its table's first cell: without kinds, as document 01
-// has it, with kinds (document 02, K8), and with kinds and turns (K12).
+// has it, with kinds (document 02, K8), and with kinds and turns (K12). Forms and sections are
+// numbers here, and no enums: they are cells of the table that C lends, which may hold any number.
 pub const OLD_FORM: u64 = 0;
 
 pub const KIND_FORM: u64 = 1;
@@ -54,43 +55,36 @@ pub const PLAIN_KIND: u64 = 118;
 
 // For each section its names line, the items of its row, those of its fields that have a range, and
 // the places of its key, in a file of the old form; then the names lines and rows of declarations
-// and queries with kinds; then those of edges with turns, and their fields that have a range. A
-// byte from 128 on is a field: 128, eight times what it holds (0 state, 1 scope, 2 mark, 3 count, 4
-// letter, 5 label, 6 end, 7 name, 8 kind, 9 the plain kind, which has no text, 10 turn), and the
-// place of its value.
-const FORMAT: [u8; 260] =
-    *b"label\n\xa0\n\n\nless more\n\xb0 \xb1\n\xb0\xb1\n01\nstate label next\n\x80 \xa9 \x82\n\x80\xa9\x82\n01\naccept\n\x80\n\x80\n0\nscopes\n\x98\n\x98\n\nfrom label to\n\x88 \xa9 \x8a\n\x88\xa9\x8a\n0132\nat name mark\n\x88 \xc9\xba \x94\n\x88\x94\n01234\nat open\n\x88 \xb1\n\x88\xb1\n01\nstart seek\n\x88 \xc9\xba\n\x88\n\nat kind name mark\n\x88 \xc1 \xba \x94\nstart kind seek\n\x88 \xc1 \xba\nfrom label turn to\n\x88 \xa9 \xd3 \x8a\n\x88\xa9\xd3\x8a\n";
+// and queries with kinds; then those of edges with turns, and their fields that have a range. Items
+// stand there by their codes (Item::of).
+const FORMAT: &[u8; 260] =
+    b"label\n\xa0\n\n\nless more\n\xb0 \xb1\n\xb0\xb1\n01\nstate label next\n\x80 \xa9 \x82\n\x80\xa9\x82\n01\naccept\n\x80\n\x80\n0\nscopes\n\x98\n\x98\n\nfrom label to\n\x88 \xa9 \x8a\n\x88\xa9\x8a\n0132\nat name mark\n\x88 \xc9\xba \x94\n\x88\x94\n01234\nat open\n\x88 \xb1\n\x88\xb1\n01\nstart seek\n\x88 \xc9\xba\n\x88\n\nat kind name mark\n\x88 \xc1 \xba \x94\nstart kind seek\n\x88 \xc1 \xba\nfrom label turn to\n\x88 \xa9 \xd3 \x8a\n\x88\xa9\xd3\x8a\n";
 
 // How many rows each section may have, by its number: document 01 asks for this table.
-const LIMITS: [usize; 9] = [8, 36, 128, 16, 1, 512, 512, 576, 256];
+const LIMITS: &[usize; 9] = &[8, 36, 128, 16, 1, 512, 512, 576, 256];
 
 // How many rows each section must have: `scopes` one.
-const LEAST: [usize; 9] = [0, 0, 0, 0, 1, 0, 0, 0, 0];
+const LEAST: &[usize; 9] = &[0, 0, 0, 0, 1, 0, 0, 0, 0];
 
-// The format. A constant array is made anew wherever it is read, so whoever goes through a graph
-// asks for it once, and lends it to what looks at it.
-pub fn format_string() -> [u8; 260]
-    ensures answer { result ≡ format_bytes }
+// The format from a place on.
+pub fn codes_from(o: usize) -> &'static [u8]
+    ensures answer { result.now ≡ drop o format_bytes }
 {
-    FORMAT
+    &FORMAT[o.min(FORMAT.len())..]
 }
 
 // The byte at a place of the format; past its end an end of line.
-pub fn item(format: &[u8], o: usize) -> u8
-    requires format { format.now ≡ format_bytes }
+pub fn item(o: usize) -> u8
     ensures answer { result ≡ get_or format_bytes o 10 }
 {
-    byte_at(format, o, b'\n')
+    get_or(FORMAT, o, b'\n')
 }
 
 // Does a file of this form show kinds?
 pub fn has_kinds(form: u64) -> bool
     ensures answer { result ≡ has_kinds form }
 {
-    if form == KIND_FORM {
-        return true;
-    }
-    form == TURN_FORM
+    form == KIND_FORM || form == TURN_FORM
 }
 
 // Does a file of this form show turns?
@@ -112,15 +106,15 @@ pub fn names_place(form: u64, k: usize) -> usize
     ensures answer { result ≡ names_place form k }
 {
     match k {
-        0 => 0,
-        1 => 10,
-        2 => 30,
-        3 => 60,
-        4 => 73,
-        5 => place_by(has_turns(form), 85, 228),
-        6 => place_by(has_kinds(form), 114, 180),
-        7 => 143,
-        8 => place_by(has_kinds(form), 161, 206),
+        LABELS => 0,
+        PAIRS => 10,
+        TRANSITIONS => 30,
+        ACCEPTS => 60,
+        COUNT => 73,
+        EDGES => place_by(has_turns(form), 85, 228),
+        DECLARATIONS => place_by(has_kinds(form), 114, 180),
+        OPENS => 143,
+        QUERIES => place_by(has_kinds(form), 161, 206),
         _ => 260,
     }
 }
@@ -130,15 +124,15 @@ fn row_place(form: u64, k: usize) -> usize
     ensures answer { result ≡ row_place form k }
 {
     match k {
-        0 => 6,
-        1 => 20,
-        2 => 47,
-        3 => 67,
-        4 => 80,
-        5 => place_by(has_turns(form), 99, 247),
-        6 => place_by(has_kinds(form), 127, 198),
-        7 => 151,
-        8 => place_by(has_kinds(form), 172, 222),
+        LABELS => 6,
+        PAIRS => 20,
+        TRANSITIONS => 47,
+        ACCEPTS => 67,
+        COUNT => 80,
+        EDGES => place_by(has_turns(form), 99, 247),
+        DECLARATIONS => place_by(has_kinds(form), 127, 198),
+        OPENS => 151,
+        QUERIES => place_by(has_kinds(form), 172, 222),
         _ => 260,
     }
 }
@@ -148,15 +142,15 @@ fn range_place(form: u64, k: usize) -> usize
     ensures answer { result ≡ range_place form k }
 {
     match k {
-        0 => 8,
-        1 => 24,
-        2 => 53,
-        3 => 69,
-        4 => 82,
-        5 => place_by(has_turns(form), 105, 255),
-        6 => 134,
-        7 => 155,
-        8 => 177,
+        LABELS => 8,
+        PAIRS => 24,
+        TRANSITIONS => 53,
+        ACCEPTS => 69,
+        COUNT => 82,
+        EDGES => place_by(has_turns(form), 105, 255),
+        DECLARATIONS => 134,
+        OPENS => 155,
+        QUERIES => 177,
         _ => 260,
     }
 }
@@ -166,15 +160,15 @@ pub fn key_place(k: usize) -> usize
     ensures answer { result ≡ key_place k }
 {
     match k {
-        0 => 9,
-        1 => 27,
-        2 => 57,
-        3 => 71,
-        4 => 84,
-        5 => 109,
-        6 => 137,
-        7 => 158,
-        8 => 179,
+        LABELS => 9,
+        PAIRS => 27,
+        TRANSITIONS => 57,
+        ACCEPTS => 71,
+        COUNT => 84,
+        EDGES => 109,
+        DECLARATIONS => 137,
+        OPENS => 158,
+        QUERIES => 179,
         _ => 260,
     }
 }
@@ -183,14 +177,14 @@ pub fn key_place(k: usize) -> usize
 pub fn most(k: usize) -> usize
     ensures answer { result ≡ (section_at k).most }
 {
-    if k < 9 { LIMITS[k] } else { 0 }
+    get_or(LIMITS, k, 0)
 }
 
 // How many rows section k must have.
 pub fn least(k: usize) -> usize
     ensures answer { result ≡ (section_at k).least }
 {
-    if k < 9 { LEAST[k] } else { 0 }
+    get_or(LEAST, k, 0)
 }
 
 // How a section's rows follow one another: they ascend; they ascend and no edge stands twice; no
@@ -208,15 +202,15 @@ pub fn sequence_of(k: usize) -> Sequence
     ensures answer { sequence_meaning result ≡ (section_at k).sequence }
 {
     match k {
-        0 => Sequence::Once,
-        1 => Sequence::Ascending,
-        2 => Sequence::Ascending,
-        3 => Sequence::Ascending,
-        4 => Sequence::Free,
-        5 => Sequence::Apart,
-        6 => Sequence::Ascending,
-        7 => Sequence::Ascending,
-        8 => Sequence::Free,
+        LABELS => Sequence::Once,
+        PAIRS => Sequence::Ascending,
+        TRANSITIONS => Sequence::Ascending,
+        ACCEPTS => Sequence::Ascending,
+        COUNT => Sequence::Free,
+        EDGES => Sequence::Apart,
+        DECLARATIONS => Sequence::Ascending,
+        OPENS => Sequence::Ascending,
+        QUERIES => Sequence::Free,
         _ => Sequence::Free,
     }
 }
@@ -227,15 +221,15 @@ fn filled_place(form: u64, k: usize) -> usize
     ensures answer { result ≡ filled_place form k }
 {
     match k {
-        0 => 1,
-        1 => 2,
-        2 => 3,
-        3 => 1,
-        4 => 1,
-        5 => place_by(has_turns(form), 3, 4),
-        6 => 5,
-        7 => 2,
-        8 => 4,
+        LABELS => 1,
+        PAIRS => 2,
+        TRANSITIONS => 3,
+        ACCEPTS => 1,
+        COUNT => 1,
+        EDGES => place_by(has_turns(form), 3, 4),
+        DECLARATIONS => 5,
+        OPENS => 2,
+        QUERIES => 4,
         _ => 0,
     }
 }
@@ -257,16 +251,12 @@ pub struct Layout {
 pub fn layout_of(form: u64, k: usize) -> Layout
     ensures answer { result ≡ layout_of form k }
 {
-    let limit = most(k);
-    let line = row_place(form, k);
-    let range = range_place(form, k);
-    let filled = filled_place(form, k);
     Layout {
-        form: form,
+        form,
         section: k,
-        limit: limit,
-        line: line,
-        range: range,
-        filled: filled,
+        limit: most(k),
+        line: row_place(form, k),
+        range: range_place(form, k),
+        filled: filled_place(form, k),
     }
 }

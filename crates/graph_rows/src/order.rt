@@ -24,14 +24,7 @@ fn same_ends(a: u64, b: u64, pair: [u64; 5]) -> bool
 fn has_pair(table: &[u64], labels: u32, pairs: u32, a: u64, b: u64) -> bool
     ensures answer { result ≡ some_row (same_ends a b) (pairs_at labels pairs table.now) }
 {
-    let mut i: u32 = 0;
-    while i < pairs {
-        if same_ends(a, b, pair_at(table, labels, i)) {
-            return true;
-        }
-        i += 1;
-    }
-    false
+    (0..pairs).any(|i| same_ends(a, b, pair_at(table, labels, i)))
 }
 
 // After a pair a, b: is this a pair b, c such that there is no a, c?
@@ -46,14 +39,7 @@ fn has_gap(table: &[u64], labels: u32, pairs: u32, a: u64, b: u64) -> bool
     ensures answer { result ≡ some_row (gap (pairs_at labels pairs table.now) a b)
         (pairs_at labels pairs table.now) }
 {
-    let mut i: u32 = 0;
-    while i < pairs {
-        if is_gap(table, labels, pairs, a, b, pair_at(table, labels, i)) {
-            return true;
-        }
-        i += 1;
-    }
-    false
+    (0..pairs).any(|i| is_gap(table, labels, pairs, a, b, pair_at(table, labels, i)))
 }
 
 // Has the pair equal ends, or does a gap follow it?
@@ -69,12 +55,5 @@ fn is_fault(table: &[u64], labels: u32, pairs: u32, pair: [u64; 5]) -> bool
 pub fn order_fault(table: &[u64], labels: u32, pairs: u32) -> bool
     ensures answer { result ≡ order_fault (pairs_at labels pairs table.now) }
 {
-    let mut i: u32 = 0;
-    while i < pairs {
-        if is_fault(table, labels, pairs, pair_at(table, labels, i)) {
-            return true;
-        }
-        i += 1;
-    }
-    false
+    (0..pairs).any(|i| is_fault(table, labels, pairs, pair_at(table, labels, i)))
 }

@@ -6,14 +6,14 @@ ghost use Rattle.graph_rows.specs.Table.{letters_at};
 ghost use Rattle.graph_rows.specs.Counting.{counts_after};
 
 use crate::format::{COUNT, LABELS, PAIRS};
-use text_field::cell;
+use text_field::get_or;
 
 // The values of a row, which follow its section's number.
-const VALUES: usize = 5;
+pub const VALUES: usize = 5;
 
 // What has been counted of the rows so far: the labels, the order pairs, the scopes that the file
 // says it has, the rows of this section.
-#[derive(Clone, Copy)]
+#[derive(Clone, Copy, Default)]
 pub struct Counts {
     pub labels: u32,
     pub pairs: u32,
@@ -22,40 +22,26 @@ pub struct Counts {
 }
 
 // The counts after a row of section k whose first value is v.
+#[tactic(auto, unfolding(crate::specs::Counting::counts_after, crate::specs::Admission::counted))]
 pub fn counts_after(k: usize, c: Counts, v: u64) -> Counts
     requires few { (c.labels < 4096) × (c.pairs < 4096) × (c.rows < 4096) }
     ensures answer { result ≡ counts_after k c v }
 {
-    let rows = c.rows + 1;
-    if k == LABELS {
-        return Counts {
+    let c = Counts {
+        rows: c.rows + 1,
+        ..c
+    };
+    match k {
+        LABELS => Counts {
             labels: c.labels + 1,
-            pairs: c.pairs,
-            scopes: c.scopes,
-            rows: rows,
-        };
-    }
-    if k == PAIRS {
-        return Counts {
-            labels: c.labels,
+            ..c
+        },
+        PAIRS => Counts {
             pairs: c.pairs + 1,
-            scopes: c.scopes,
-            rows: rows,
-        };
-    }
-    if k == COUNT {
-        return Counts {
-            labels: c.labels,
-            pairs: c.pairs,
-            scopes: v,
-            rows: rows,
-        };
-    }
-    Counts {
-        labels: c.labels,
-        pairs: c.pairs,
-        scopes: c.scopes,
-        rows: rows,
+            ..c
+        },
+        COUNT => Counts { scopes: v, ..c },
+        _ => c,
     }
 }
 
@@ -72,7 +58,7 @@ pub fn value_at(table: &[u64], p: usize, c: usize) -> u64
 pub fn row_before(p: usize) -> usize
     ensures answer { result ≡ p - 6 }
 {
-    if p < 6 { 0 } else { p - 6 }
+    p.saturating_sub(6)
 }
 
 // The row whose section number stands at place p of the table.
@@ -82,24 +68,23 @@ pub fn row_at(table: &[u64], p: usize) -> [u64; 5]
     if table.len() <= p {
         return [0; 5];
     }
-    let a = cell(table, p + 1, 0);
-    let b = cell(table, p + 2, 0);
-    let c = cell(table, p + 3, 0);
-    let d = cell(table, p + 4, 0);
-    let e = cell(table, p + 5, 0);
-    [a, b, c, d, e]
+    [
+        get_or(table, p + 1, 0),
+        get_or(table, p + 2, 0),
+        get_or(table, p + 3, 0),
+        get_or(table, p + 4, 0),
+        get_or(table, p + 5, 0),
+    ]
 }
 
 // The number of the label whose letter is x; how many labels there are, if x is no label's.
 pub fn label_place(table: &[u64], labels: u32, x: u64) -> u32
     ensures answer { result ≡ place x (letters_at labels (drop 1 table.now)) }
 {
-    let mut i: u32 = 0;
-    while i < labels {
-        if cell(table, 1 + 6 * (i as usize) + 1, 0) == x {
+    for i in 0..labels {
+        if get_or(table, 1 + 6 * (i as usize) + 1, 0) == x {
             return i;
         }
-        i += 1;
     }
     labels
 }
@@ -110,9 +95,5 @@ pub fn put_row(table: &mut [u64], n: usize, k: u64, row: [u64; 5])
     ensures written { ◌≡◌ {A = Buf} (table.new, n + 6) (puts (table.old, n) (k ∷ row)) }
 {
     table[n] = k;
-    table[n + 1] = row[0];
-    table[n + 2] = row[1];
-    table[n + 3] = row[2];
-    table[n + 4] = row[3];
-    table[n + 5] = row[4];
+    table[n + 1..n + 6].copy_from_slice(&row);
 }

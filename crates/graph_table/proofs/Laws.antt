@@ -115,6 +115,8 @@ module _ (l : List ℕ) (s p : ℕ) where
     pub next_earlier : from < s → next_row l s p ≡ next_row l s (p + 6)
     next_earlier k = next_at_lem ∙ by_earlier s from (length l) p (next_row l s (p + 6)) k
 
+pub ruleset next_steps = (next_none, next_later, next_own, next_earlier)
+
 -- which of the three a row is
 pub compare : (s from : ℕ) → (s < from) ⊎ ((from ≡ s) ⊎ (from < s))
 compare s from = at (Two (ltb s from)) (Two (eqb from s))

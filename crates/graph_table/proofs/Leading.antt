@@ -84,6 +84,8 @@ module _ (c : ℕ) where
   pub leading_on : (j k : ℕ) (l : List ℕ) → j ≤ k → leading c k l ≡ leading c j l + leading c k (drop (leading c j l) l)
   leading_on j k l h = on_by (length l) j k l (omega arith) h
 
+pub ruleset leading_steps = (leading_next, leading_stop, leading_end)
+
 -- where a section's rows start
 pub start_from : (k : ℕ) (t : List ℕ) → start_of k t ≡ first_row t + leading 0 k (drop (first_row t) t)
 unfolding start_of first_row

@@ -1,8 +1,8 @@
 -- Laws of reading a row: does one stand there, which name has it? Assumes nothing.
 use mathlib.Core.Path.{◌≡◌, refl, sym, ap}
-use mathlib.Core.Bool.{true, false, and-false}
+use mathlib.Core.Bool.{Bool, true, false, ◌&&◌, and-false}
 use mathlib.Core.List.{List, [], ◌∷◌}
-use Prim.Native.Nat.{ℕ, suc, ◌≤◌, ◌<◌}
+use Prim.Native.Nat.{ℕ, zero, suc, ◌-◌, ◌≤◌, ◌<◌}
 use native.Mathlib.Omega.{arith}
 use borrow.Author.Tests.{eq-eqb, ne_eqb}
 use lib.Dec.{eqb}
@@ -13,7 +13,7 @@ use Rattle.graph_rows.specs.Admission.{Row, value, row_of}
 use Rattle.graph_rows.specs.Tested.{form_in}
 use Rattle.graph_rows.specs.Way.{starts_with}
 use Rattle.scope_graph.specs.Rows.{PackedName, same_name}
-use Rattle.scope_graph.specs.declared.Turn.TheVariants.{None}
+use Rattle.std.specs.declared.option.Option.TheVariants.{None}
 use Rattle.scope_graph.specs.declared.End.TheVariants.{Stop, Label}
 use Rattle.graph_rows.proofs.RowLaws.{row_cells}
 use Rattle.graph_table.specs.declared.names.Name.{Name}
@@ -40,9 +40,10 @@ pub row_end_stop : (cell : ℕ) → cell ≡ 0 → Stop ≡ row_end cell
 unfolding row_end
 row_end_stop cell e = rw e
 
-pub row_end_label : (cell n : ℕ) → cell ≡ suc n → Label n None ≡ row_end cell
+pub row_end_label : (cell : ℕ) → (cell ≡ 0 → ⊥) → Label (cell - 1) None ≡ row_end cell
 unfolding row_end
-row_end_label cell n e = rw e
+row_end_label zero h = absurd (h refl)
+row_end_label (suc n) h = ap (λ (k : ℕ). Label k None) (omega arith)
 
 -- a query's row by its five values
 abbrev pub row_query : Row → QueryRow
@@ -55,20 +56,15 @@ declaration_cells rows p = ap row_declared (sym (row_cells rows p))
 pub query_cells : (rows : List ℕ) (p : ℕ) → query_row rows p ≡ row_query (row_of (drop p rows))
 query_cells rows p = ap row_query (sym (row_cells rows p))
 
--- names are told apart by any of their three numbers
-module _ (a b : Name) where
-  pub names_high : (a.high ≡ b.high → ⊥) → same_name (packed a) (packed b) ≡ false
-  unfolding same_name
-  names_high h = rw (ne_eqb a.high b.high h) (and-false (eqb a.kind b.kind))
-
-  module _ (e : a.high ≡ b.high) where
-    pub names_low : (a.low ≡ b.low → ⊥) → same_name (packed a) (packed b) ≡ false
-    unfolding same_name
-    names_low h = rw (eq-eqb a.high b.high e, ne_eqb a.low b.low h) (and-false (eqb a.kind b.kind))
-
-    pub names_kind : a.low ≡ b.low → same_name (packed a) (packed b) ≡ eqb a.kind b.kind
-    unfolding same_name
-    names_kind h = rw (eq-eqb a.high b.high e, eq-eqb a.low b.low h) (and_true (eqb a.kind b.kind) true refl)
+-- Names are equal, field by field in their sequence, exactly if the rules have them as the same.
+pub names_told : (a b : Name) → (eqb a.high b.high && (eqb a.low b.low && eqb a.kind b.kind)) ≡ same_name (packed a) (packed b)
+unfolding same_name
+names_told a b = turned (eqb a.high b.high) (eqb a.low b.low) (eqb a.kind b.kind)
+  where
+    turned : (h l k : Bool) → (h && (l && k)) ≡ (k && (h && l))
+    turned true true k = sym (and_true k true refl)
+    turned true false k = sym (and-false k)
+    turned false l k = sym (and-false k)
 
 -- a row declares the name at a scope: by the scope, then by the name
 module _ (x : PackedName) (s : ℕ) (d : DeclarationRow) where
@@ -79,6 +75,8 @@ module _ (x : PackedName) (s : ℕ) (d : DeclarationRow) where
   pub declares_apart : (d.at ≡ s → ⊥) → declares x s d ≡ false
   unfolding declares
   declares_apart h = rw (ne_eqb d.at s h)
+
+pub ruleset declares_steps = (names_told, declares_there, declares_apart)
 
 -- a table's form, by its first cell
 module _ (cells : List ℕ) where
@@ -94,6 +92,8 @@ module _ (cells : List ℕ) where
   unfolding table_form form_in
   form_old h = rw (sym h, table_form)
 
+pub ruleset form_steps = (form_none, form_kinds, form_old)
+
 -- the number that a wanted form gets
 module _ (form : Form) (number : ℕ) where
   pub number_old : form ≡ Old → 0 ≡ form_number form number
@@ -107,6 +107,8 @@ module _ (form : Form) (number : ℕ) where
   pub number_kinds : form ≡ Kinds → false ≡ has_kinds number → 1 ≡ form_number form number
   unfolding form_number
   number_kinds e h = rw (e, sym h, form_number)
+
+pub ruleset number_steps = (number_old, number_kept, number_kinds)
 
 -- the first cell set to a form's number
 pub form_kept : (form : Form) (cells : List ℕ) → length cells ≡ 0 → cells ≡ with_form form cells

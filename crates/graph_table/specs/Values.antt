@@ -3,7 +3,7 @@
 -- Assumes nothing: these are definitions.
 use Rattle.std.specs.Prelude.{ℕ, zero, suc, ◌+◌, Bool, ◌&&◌, List, eqb, get_or}
 use Rattle.scope_graph.specs.Rows.{PackedName, same_name}
-use Rattle.scope_graph.specs.declared.Turn.TheVariants.{None}
+use Rattle.std.specs.declared.option.Option.TheVariants.{None}
 use Rattle.scope_graph.specs.declared.End.{End}
 use Rattle.scope_graph.specs.declared.End.TheVariants.{Stop, Label}
 use Rattle.scope_graph.specs.declared.Pair.{Pair}

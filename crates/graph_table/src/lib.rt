@@ -12,7 +12,7 @@ pub use edges::next_row;
 pub use graph_rows::{
     ACCEPTS, COUNT, DECLARATIONS, EDGES, LABELS, OPENS, PAIRS, QUERIES, TRANSITIONS, put_row,
 };
-pub use names::{Name, same_name};
+pub use names::Name;
 pub use rows::{
     DeclarationRow, EdgeRow, OpenRow, QueryRow, TransitionRow, declaration_row, declares, edge_row,
     first_value, in_section, open_row, pair_row, query_row, transition_row,

@@ -5,8 +5,8 @@ ghost use Rattle.std.specs.Prelude.{◌≡◌, ◌+◌, ◌≤◌, length, get_o
 ghost use Rattle.graph_rows.specs.Way.{starts_with};
 ghost use Rattle.graph_table.specs.Values.{packed, row_end, pair_row, transition_row, edge_row, declaration_row, open_row, query_row, declares};
 
-use crate::names::{Name, same_name};
-use scope_graph::{End, Pair, Turn};
+use crate::names::Name;
+use scope_graph::{End, Pair};
 
 // `state label next`
 #[derive(Clone, Copy)]
@@ -56,13 +56,15 @@ pub fn first_value(rows: &[u64], p: usize) -> u64
 }
 
 // An end by its cell: 0 is `$`, n + 1 is label n. The end of a row has no turn.
+#[tactic(auto, using(crate::proofs::RowLaws::row_end_stop, crate::proofs::RowLaws::row_end_label))]
 fn row_end(cell: u64) -> End
     ensures answer { result ≡ row_end cell }
 {
     if cell == 0 {
-        return End::Stop;
+        End::Stop
+    } else {
+        End::Label(cell - 1, None)
     }
-    End::Label(cell - 1, Turn::None)
 }
 
 // `less more`, in the form that document 01 binds for an order pair.
@@ -114,10 +116,11 @@ pub fn declaration_row(rows: &[u64], p: usize) -> DeclarationRow
 }
 
 // Does the row declare the name at the scope?
+#[tactic(auto, using(crate::proofs::RowLaws::declares_steps))]
 pub fn declares(row: DeclarationRow, s: u64, name: Name) -> bool
     ensures answer { result ≡ declares (packed name) s row }
 {
-    row.at == s && same_name(row.name, name)
+    row.at == s && row.name == name
 }
 
 pub fn open_row(rows: &[u64], p: usize) -> OpenRow
@@ -145,11 +148,9 @@ pub fn query_row(rows: &[u64], p: usize) -> QueryRow
 }
 
 // Does a row of section k stand at a place of the table?
+#[tactic(auto, using(crate::proofs::RowLaws::row_none, crate::proofs::RowLaws::row_test))]
 pub fn in_section(table: &[u64], at: usize, k: u64) -> bool
     ensures answer { result ≡ starts_with k (drop at table.now) }
 {
-    if table.len() <= at {
-        return false;
-    }
-    table[at] == k
+    table.get(at).is_some_and(|section| *section == k)
 }

@@ -21,51 +21,48 @@ pub enum Form {
 }
 
 // The form of the file that the table stands for, by its first cell.
+#[tactic(auto, using(crate::proofs::RowLaws::form_steps))]
 pub fn form_of(table: &[u64]) -> Form
     ensures answer { result ≡ table_form table.now }
 {
-    if table.len() == 0 {
-        return Form::Old;
+    match table.first() {
+        Some(number) if has_kinds(*number) => Form::Kinds,
+        _ => Form::Old,
     }
-    if has_kinds(table[0]) {
-        return Form::Kinds;
-    }
-    Form::Old
 }
 
 // The number that a table of a wanted form gets. One that shows kinds already keeps its own, so
 // that its turns stay (02, K12).
+#[tactic(auto, using(crate::proofs::RowLaws::number_steps))]
 fn form_number(form: Form, number: u64) -> u64
     ensures answer { result ≡ form_number form number }
 {
     match form {
         Form::Old => OLD_FORM,
-        Form::Kinds => {
-            if has_kinds(number) {
-                return number;
-            }
-            KIND_FORM
-        }
+        Form::Kinds if has_kinds(number) => number,
+        Form::Kinds => KIND_FORM,
     }
 }
 
 // The table gets the wanted form and keeps its rows. One without cells stays as it is.
+#[tactic(auto, using(crate::proofs::RowLaws::form_kept, crate::proofs::RowLaws::form_set))]
 pub fn set_form(table: &mut [u64], form: Form)
     ensures memory { table.new ≡ with_form form table.old }
 {
-    if table.len() == 0 {
-        return;
+    if let Some(first) = table.first_mut() {
+        *first = form_number(form, *first);
     }
-    table[0] = form_number(form, table[0]);
 }
 
 // From place p on, the place of the first row whose cell c is k or more; where the whole rows end,
 // if there is none.
+#[tactic(auto, using(crate::proofs::Leading::leading_steps))]
 pub fn rows_from(table: &[u64], c: usize, k: u64, p: usize) -> usize
     requires column { c < 6 }
     requires within { p ≤ length table.now }
     ensures answer { result ≡ p + leading c k (drop p table.now) }
 {
+    // No range of rows: where the look stops is the answer, also after the last whole row.
     let mut at = p;
     while ROW <= table.len() - at {
         if k <= table[at + c] {
@@ -77,10 +74,11 @@ pub fn rows_from(table: &[u64], c: usize, k: u64, p: usize) -> usize
 }
 
 // The place of the first row, behind the form.
+#[tactic(auto, using(crate::proofs::Leading::first_none, crate::proofs::Leading::first_some))]
 pub fn first_row(table: &[u64]) -> usize
     ensures answer { result ≡ first_row table.now }
 {
-    if table.len() == 0 { 0 } else { 1 }
+    if table.is_empty() { 0 } else { 1 }
 }
 
 // How many rows there are.

@@ -8,8 +8,8 @@ use lib.Dec.{eqb, ltb}
 use lib.ListN.{length, get_or, take}
 use lib.Seq.{take_all, length-take-le}
 use borrow.Author.Tests.{ltb-true, ltb-false, lt-ltb, ne_eqb}
-use Rattle.text_field.specs.declared.NumberRead.{NumberRead}
-use Rattle.text_field.specs.declared.NumberRead.TheVariants.{Number, NoNumber}
+use Rattle.std.specs.declared.option.Option.{Option}
+use Rattle.std.specs.declared.option.Option.TheVariants.{Some, None}
 use Rattle.text_field.specs.Number.{number_here}
 use Rattle.text_field.specs.Outcome.{Outcome, refused, done, and_then, refuse_if}
 use Rattle.text_field.proofs.NumberLaws.{number_found}
@@ -18,6 +18,8 @@ use Rattle.graph_rows.specs.Decode.{letters_of}
 use Rattle.graph_file.proofs.SectionLaws.{whole_long}
 use Rattle.path_rules.specs.Rules.{rules_of}
 use Rattle.path_rules.specs.declared.Rules.{Rules}
+use Rattle.std.specs.declared.result.Result.{Result}
+use Rattle.text_field.specs.declared.refusal.Refusal.{Refusal}
 use Rattle.path_rules.proofs.Ends.{rules_long}
 use Rattle.path_row.specs.Form.{row_here}
 use Rattle.comparison.specs.Compare.{compare_rows, compare_answer}
@@ -106,18 +108,18 @@ module _ (expression : List ℕ) where
     where
       by : (o : Outcome (List ℕ)) → and_then o (text_by (take word_bytes expression)) ≡ and_then o (text_by expression)
       by (refused n) = refl
-      by (done cells) = ap (λ (r : Rules). ruled_text r cells) (expression_read (letters_of cells))
+      by (done cells) = ap (λ (r : Result Rules Refusal). ruled_text r cells) (expression_read (letters_of cells))
 
 -- a query's number has five bytes at most
 query_long : (x : ℕ → Asked) (q : List ℕ) → 5 < length q → by_query x q ≡ usage
 unfolding query_asked by_query
 query_long x q h = by (number_here q) refl
   where
-    by : (n : NumberRead) → number_here q ≡ n → query_asked x n q ≡ usage
-    by (Number i w) e =
+    by : (n : Option (ℕ × ℕ)) → number_here q ≡ n → query_asked x n q ≡ usage
+    by (Some (i, w)) e =
         let n = (number_found q i w e).most in
         rw (ne_eqb w (length q) (λ (z : w ≡ length q). omega arith), query_asked)
-    by NoNumber e = refl
+    by None e = refl
 
 query_cut : (x : ℕ → Asked) (q : List ℕ) → by_query x (take word_bytes q) ≡ by_query x q
 query_cut x q = by (cut_or_whole word_bytes q)
@@ -150,10 +152,10 @@ module _ (input more : List ℕ) where
   unfolding answered
   rules_expression expression = rw (rules_read expression input)
 
-  query_row_lem : (n : NumberRead) (q row : List ℕ) → saying (query_asked (λ i. judge i (take word_bytes row)) n q) ≡ saying (query_asked (λ i. judge i row) n q)
+  query_row_lem : (n : Option (ℕ × ℕ)) (q row : List ℕ) → saying (query_asked (λ i. judge i (take word_bytes row)) n q) ≡ saying (query_asked (λ i. judge i row) n q)
   unfolding query_asked
-  query_row_lem NoNumber q row = refl
-  query_row_lem (Number i w) q row = by (eqb w (length q)) (judge_row i row)
+  query_row_lem None q row = refl
+  query_row_lem (Some (i, w)) q row = by (eqb w (length q)) (judge_row i row)
     where
       by : (t : Bool) → saying (judge i (take word_bytes row)) ≡ saying (judge i row)
           → saying (elim t as (λ _. Asked) [ true ↦ judge i (take word_bytes row) | false ↦ usage ]) ≡ saying (elim t as (λ _. Asked) [ true ↦ judge i row | false ↦ usage ])

@@ -1,112 +1,80 @@
 -- What the words ask for, test by test as the code makes them. Assumes nothing.
-use Prim.Native.Nat.{ℕ, zero, suc, ◌+◌, ◌-◌, ◌≤◌, ◌<◌}
+use Prim.Native.Nat.{ℕ, zero, suc, ◌+◌, ◌-◌}
 use mathlib.Core.Path.{◌≡◌, refl, sym, ap, ◌∙◌}
 use mathlib.Core.Bool.{Bool, true, false, ◌&&◌}
 use mathlib.Core.List.{List, [], ◌∷◌}
 use native.Mathlib.Omega.{arith}
 use lib.Dec.{eqb}
-use lib.ListN.{length, get_or, drop}
+use lib.ListN.{length, drop}
 use borrow.Author.Tests.{eq-eqb, ne_eqb}
-use Rattle.text_field.specs.declared.NumberRead.{NumberRead}
-use Rattle.text_field.specs.declared.NumberRead.TheVariants.{Number, NoNumber}
+use Rattle.std.specs.Option.{MatchOption}
+use Rattle.std.specs.Cmp.Lexicographic.{pointwise}
+use Rattle.std.specs.declared.option.Option.{Option}
+use Rattle.std.specs.declared.option.Option.TheVariants.{Some, None}
 use Rattle.text_field.specs.Number.{number_here, number_placed}
-use Rattle.text_field.proofs.Steps.{drop_next, drop_end}
-use Rattle.gym.specs.declared.words.Query.{Query}
+use Rattle.gym.specs.declared.words.Reply.{Reply}
+use Rattle.gym.specs.declared.words.Reply.TheVariants.{Usage}
+use Rattle.gym.specs.declared.words.Command.TheVariants.{One}
 use Rattle.gym.specs.Words.{Asked, list, old, new, compare, rules, renumber, was, dot, help, usage, Word, alone, with_one, with_two, query_asked, by_query, count_asked, readers_asked, back_asked, undot_asked, judge_asked, list_word, old_word, new_word, judge_word, compare_word, rules_word, count_word, readers_word, renumber_word, was_word, back_word, dot_word, undot_word, help_word, last_words, later_words, words, same_bytes, asked_of, asked}
-use Rattle.gym.specs.Handed.{arguments, handed, queried}
+use Rattle.gym.specs.Handed.{arguments, handed, queried, with_so_many, reply_meaning, meaning}
 
--- two texts byte by byte, from place i on
-module _ (a b : List ℕ) (i : ℕ) where
-  pub same_end_lem : length a ≤ i → length b ≤ i → true ≡ same_bytes (drop i a) (drop i b)
-  unfolding same_bytes
-  same_end_lem h k = rw (drop_end a i h, drop_end b i k)
-
-  module _ (h : i < length a) (k : i < length b) where
-    here : same_bytes (drop i a) (drop i b) ≡ (eqb (get_or a i 0) (get_or b i 0) && same_bytes (drop (i + 1) a) (drop (i + 1) b))
-    unfolding same_bytes
-    here = ap (λ (z : List ℕ). same_bytes z (drop i b)) (drop_next a i h) ∙ ap (same_bytes (get_or a i 0 ∷ drop (i + 1) a)) (drop_next b i k)
-
-    pub same_next : get_or a i 0 ≡ get_or b i 0 → same_bytes (drop i a) (drop i b) ≡ same_bytes (drop (i + 1) a) (drop (i + 1) b)
-    same_next e = here ∙ rw (eq-eqb (get_or a i 0) (get_or b i 0) e)
-
-    pub same_not : (get_or a i 0 ≡ get_or b i 0 → ⊥) → false ≡ same_bytes (drop i a) (drop i b)
-    same_not e = sym (here ∙ rw (ne_eqb (get_or a i 0) (get_or b i 0) e))
-
-pub same_length : (a b : List ℕ) → (length a ≡ length b → ⊥) → false ≡ same_bytes a b
+-- what `==` says of two texts
+same_is : (a b : List ℕ) → pointwise eqb a b ≡ same_bytes a b
 unfolding same_bytes
-same_length [] [] e = absurd (e refl)
-same_length [] (y ∷ b) e = refl
-same_length (x ∷ a) [] e = refl
-same_length (x ∷ a) (y ∷ b) e = by (eqb x y) (same_length a b (λ (p : length a ≡ length b). e (ap suc p)))
-  where
-    by : (t : Bool) → false ≡ same_bytes a b → false ≡ (t && same_bytes a b)
-    by true h = h
-    by false h = refl
+same_is [] [] = refl
+same_is [] (y ∷ b) = refl
+same_is (x ∷ a) [] = refl
+same_is (x ∷ a) (y ∷ b) = ap (λ (t : Bool). eqb x y && t) (same_is a b)
+
+pub same_told : (a b s : List ℕ) (t r : Bool) → s ≡ b → r ≡ t → r ≡ pointwise eqb a s → t ≡ same_bytes a b
+same_told a b s t r w e h = sym e ∙ h ∙ same_is a s ∙ ap (same_bytes a) w
 
 -- a word by the number of its arguments
-module _ (count : ℕ) (a b : List ℕ) where
-  pub alone_none : (x : Asked) → count ≡ 0 → x ≡ alone x (arguments count a b)
+pub so_many : (n wanted : ℕ) (x : Asked) → n ≡ wanted → with_so_many n wanted x ≡ x
+unfolding with_so_many
+so_many n wanted x e = rw (eq-eqb n wanted e, with_so_many)
+
+pub not_so_many : (n wanted : ℕ) (x : Asked) → (n ≡ wanted → ⊥) → with_so_many n wanted x ≡ usage
+unfolding with_so_many
+not_so_many n wanted x e = rw (ne_eqb n wanted e, with_so_many)
+
+module _ (a b : List ℕ) where
+  pub none_given : (n : ℕ) (x : Asked) → with_so_many n 0 x ≡ alone x (arguments n a b)
   unfolding alone arguments
-  alone_none x e = rw e
+  none_given zero x = so_many 0 0 x refl
+  none_given (suc n) x = not_so_many (suc n) 0 x (λ z. omega arith)
 
-  pub one_one : (x : List ℕ → Asked) → count ≡ 1 → x a ≡ with_one x (arguments count a b)
+  pub one_given : (n : ℕ) (x : List ℕ → Asked) → with_so_many n 1 (x a) ≡ with_one x (arguments n a b)
   unfolding with_one arguments
-  one_one x e = rw e
+  one_given zero x = not_so_many 0 1 (x a) (λ z. omega arith)
+  one_given (suc zero) x = so_many 1 1 (x a) refl
+  one_given (suc (suc n)) x = not_so_many (suc (suc n)) 1 (x a) (λ z. omega arith)
 
-  pub two_two : (x : List ℕ → List ℕ → Asked) → count ≡ 2 → x a b ≡ with_two x (arguments count a b)
+  pub two_given : (n : ℕ) (x : List ℕ → List ℕ → Asked) → with_so_many n 2 (x a b) ≡ with_two x (arguments n a b)
   unfolding with_two arguments
-  two_two x e = rw e
-
-pub alone_some : (count : ℕ) (a b : List ℕ) (x : Asked) → (count ≡ 0 → ⊥) → usage ≡ alone x (arguments count a b)
-unfolding alone arguments
-alone_some zero a b x e = absurd (e refl)
-alone_some (suc n) a b x e = refl
-
-pub one_not : (count : ℕ) (a b : List ℕ) (x : List ℕ → Asked) → (count ≡ 1 → ⊥) → usage ≡ with_one x (arguments count a b)
-unfolding with_one arguments
-one_not zero a b x e = refl
-one_not (suc zero) a b x e = absurd (e refl)
-one_not (suc (suc n)) a b x e = refl
-
-pub two_not : (count : ℕ) (a b : List ℕ) (x : List ℕ → List ℕ → Asked) → (count ≡ 2 → ⊥) → usage ≡ with_two x (arguments count a b)
-unfolding with_two arguments
-two_not zero a b x e = refl
-two_not (suc zero) a b x e = refl
-two_not (suc (suc zero)) a b x e = absurd (e refl)
-two_not (suc (suc (suc n))) a b x e = refl
-
--- of its arguments it is asked what they ask for, and nothing else
-pub one_same : (count : ℕ) (a b : List ℕ) (x y : List ℕ → Asked) → x a ≡ y a → with_one x (arguments count a b) ≡ with_one y (arguments count a b)
-unfolding with_one arguments
-one_same zero a b x y e = refl
-one_same (suc zero) a b x y e = e
-one_same (suc (suc n)) a b x y e = refl
-
-pub two_same : (count : ℕ) (a b : List ℕ) (x y : List ℕ → List ℕ → Asked) → x a b ≡ y a b → with_two x (arguments count a b) ≡ with_two y (arguments count a b)
-unfolding with_two arguments
-two_same zero a b x y e = refl
-two_same (suc zero) a b x y e = refl
-two_same (suc (suc zero)) a b x y e = e
-two_same (suc (suc (suc n))) a b x y e = refl
+  two_given zero x = not_so_many 0 2 (x a b) (λ z. omega arith)
+  two_given (suc zero) x = not_so_many 1 2 (x a b) (λ z. omega arith)
+  two_given (suc (suc zero)) x = so_many 2 2 (x a b) refl
+  two_given (suc (suc (suc n))) x = not_so_many (suc (suc (suc n))) 2 (x a b) (λ z. omega arith)
 
 -- the query's number, read from the argument's front
-module _ (a : List ℕ) (r : NumberRead) (e : r ≡ number_placed 0 (number_here (drop 0 a))) (x : ℕ → Asked) where
-  from_front : (x : NumberRead) → number_placed 0 x ≡ x
+module _ (a : List ℕ) (r : Option (ℕ × ℕ)) (e : r ≡ number_placed 0 (number_here (drop 0 a))) (x : ℕ → Asked) where
+  from_front : (x : Option (ℕ × ℕ)) → number_placed 0 x ≡ x
   unfolding number_placed
-  from_front (Number v w) = let z : 0 + w ≡ w = omega arith in rw z
-  from_front NoNumber = refl
+  from_front (Some (v, w)) = let z : 0 + w ≡ w = omega arith in rw z
+  from_front None = refl
 
   front : r ≡ number_here a
   front = e ∙ from_front (number_here a)
 
-  pub query_none : r ≡ NoNumber → usage ≡ by_query x a
+  pub query_none : r ≡ None → usage ≡ by_query x a
   unfolding query_asked by_query
   query_none h = rw (sym front, h)
 
-  module _ (i end : ℕ) (h : r ≡ Number i end) where
-    by_width : by_query x a ≡ query_asked x (Number i end) a
+  module _ (i end : ℕ) (h : r ≡ Some (i, end)) where
+    by_width : by_query x a ≡ query_asked x (Some (i, end)) a
     unfolding by_query
-    by_width = ap (λ (n : NumberRead). query_asked x n a) (sym front ∙ h)
+    by_width = ap (λ (n : Option (ℕ × ℕ)). query_asked x n a) (sym front ∙ h)
 
     pub query_long : (end ≡ length a → ⊥) → usage ≡ by_query x a
     unfolding query_asked
@@ -117,8 +85,11 @@ module _ (a : List ℕ) (r : NumberRead) (e : r ≡ number_placed 0 (number_here
     query_is k = sym (by_width ∙ rw (eq-eqb end (length a) k, query_asked))
 
 -- what is asked for, by the query that was found
-pub query_asks : (x : ℕ → Asked) (r q : Query) (y : Asked) → r ≡ q → queried x r ≡ y → queried x q ≡ y
-query_asks x r q y e h = ap (queried x) (sym e) ∙ h
+pub query_asks : (k : ℕ → Reply) (x : ℕ → Asked) (a b : List ℕ) (r : Option ℕ) (q : Reply) → MatchOption r (q ≡ Usage) (λ i. q ≡ k i)
+    → ((i : ℕ) → reply_meaning (k i) a b ≡ x i) → meaning (One q) a b ≡ queried x r
+unfolding queried meaning reply_meaning
+query_asks k x a b None q e f = rw e refl
+query_asks k x a b (Some i) q e f = ap (λ (y : Reply). reply_meaning y a b) e ∙ f i
 
 -- a word by its name: found, or looked for in the rest
 module _ (w : Word) (ws : List Word) (name : List ℕ) (more : List (List ℕ)) where

@@ -1,7 +1,7 @@
 -- What the words of a command ask for. Assumes nothing: these are definitions.
 use Rattle.std.specs.Prelude.{ℕ, List, [], ◌∷◌, Bool, true, false, ◌&&◌, eqb, length}
-use Rattle.text_field.specs.declared.NumberRead.{NumberRead}
-use Rattle.text_field.specs.declared.NumberRead.TheVariants.{Number, NoNumber}
+use Rattle.std.specs.declared.option.Option.{Option}
+use Rattle.std.specs.declared.option.Option.TheVariants.{Some, None}
 use Rattle.text_field.specs.Number.{number_here}
 use Rattle.gym.specs.Text.{bytes}
 
@@ -43,9 +43,9 @@ with_two x (a ∷ b ∷ []) = x a b
 with_two x (a ∷ b ∷ c ∷ more) = usage
 
 -- QUERY is a number of the file's form (01, "The gym file"), with nothing behind it
-unfoldable pub query_asked : (ℕ → Asked) → NumberRead → List ℕ → Asked
-query_asked x (Number i width) query = elim (eqb width (length query)) [ true ↦ x i | false ↦ usage ]
-query_asked x NoNumber query = usage
+unfoldable pub query_asked : (ℕ → Asked) → Option (ℕ × ℕ) → List ℕ → Asked
+query_asked x (Some (i, width)) query = elim (eqb width (length query)) [ true ↦ x i | false ↦ usage ]
+query_asked x None query = usage
 
 unfoldable pub by_query : (ℕ → Asked) → List ℕ → Asked
 by_query x query = query_asked x (number_here query) query

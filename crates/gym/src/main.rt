@@ -17,11 +17,11 @@ mod words;
 
 ghost use Rattle.std.specs.Prelude.{◌≡◌, length};
 ghost use Rattle.io.specs.Counts.{IsPrefixLen};
-ghost use Rattle.gym.specs.Said.{spoken, answered, said};
-ghost use Rattle.gym.specs.Handed.{handed, reply_meaning, descriptor as descriptor_of};
+ghost use Rattle.gym.specs.Said.{spoken, said};
+ghost use Rattle.gym.specs.Handed.{handed, reply_said, descriptor as descriptor_of};
 
 use printing::{INPUT, print_for};
-use replies::{ROOM, Stream, put_reply};
+use replies::{Given, ROOM, Stream, put_reply, stream_of};
 use second::{has_second, read_second, room};
 use std::env::FillError;
 use std::rt::Env;
@@ -43,16 +43,8 @@ fn descriptor(on: Stream) -> i32
 
 // The one function here that writes. What a call of C's writes cannot be promised, so what it is
 // handed is asked: all that is said, and on which stream. How much that is.
-fn emit<'s, 'o>(
-    q: Reply,
-    first: &'s [u8],
-    second: &'s [u8],
-    text: &'s [u8],
-    more: &'s [u8],
-    on: Stream,
-    piece: &'o [u8],
-) -> usize
-    requires due { spoken on piece.now ≡ answered (reply_meaning q first.now second.now) text.now more.now }
+fn emit(q: Reply, given: Given, on: Stream, piece: &[u8]) -> usize
+    requires due { spoken on piece.now ≡ reply_said q given }
     ensures answer { result ≡ length piece.now }
 {
     io::write_all(descriptor(on), piece);
@@ -60,40 +52,24 @@ fn emit<'s, 'o>(
 }
 
 // A reply, made in one piece; how much was handed over.
-fn print_reply<'s>(
-    q: Reply,
-    first: &'s [u8],
-    second: &'s [u8],
-    text: &'s [u8],
-    more: &'s [u8],
-) -> usize
-    ensures answer { result
-        ≡ length (answered (reply_meaning q first.now second.now) text.now more.now).text }
+fn print_reply(q: Reply, given: Given) -> usize
+    ensures answer { result ≡ length (reply_said q given.entry).text }
 {
     let mut out = [0u8; ROOM];
-    let put = put_reply(q, first, second, text, more, &mut out);
-    let on = put.on;
-    let size = put.size;
-    emit(q, first, second, text, more, on, &out[..size])
+    let size = put_reply(q, given, &mut out);
+    emit(q, given, stream_of(q), &out[..size])
 }
 
 // What is said for so many words, of which the first three are given, an input, and the second file
 // if they name one; how much was handed over.
-fn run<'s>(
-    count: usize,
-    name: &'s [u8],
-    first: &'s [u8],
-    second: &'s [u8],
-    text: &'s [u8],
-    more: &'s [u8],
-) -> usize
-    ensures answer { result
-        ≡ length (said (handed count name.now first.now second.now) text.now more.now).text }
+fn run(count: usize, name: &[u8], given: Given) -> usize
+    ensures answer { result ≡ length (said
+        (handed count name.now given.entry.first.now given.entry.second.now)
+        given.entry.text.now given.entry.more.now).text }
 {
-    let c = command_of(count, name, first);
-    match c {
-        Command::Listings => print_for(text),
-        Command::One(q) => print_reply(q, first, second, text, more),
+    match command_of(count, name, given.first) {
+        Command::Listings => print_for(given.text),
+        Command::One(q) => print_reply(q, given),
     }
 }
 
@@ -105,14 +81,7 @@ fn is_given(rt: &impl Env, i: usize) -> bool {
 
 // How many words were given; the program's own name is not counted.
 fn words_given(rt: &impl Env) -> usize {
-    let mut count: usize = 0;
-    for i in 1..usize::MAX {
-        if !is_given(rt, i) {
-            break;
-        }
-        count = i;
-    }
-    count
+    (1..usize::MAX).take_while(|i| is_given(rt, *i)).count()
 }
 
 // Word i, the program's own name being word 0: as much of it as fits.
@@ -131,24 +100,14 @@ fn read_file(c: Command, text: &mut [u8]) -> usize
     ensures answer { IsPrefixLen result text.new }
 {
     match c {
-        Command::Listings => io::read_full(0, text),
-        Command::One(q) => match q {
-            Reply::Help => 0,
-            Reply::Usage => 0,
-            _ => io::read_full(0, text),
-        },
+        Command::One(Reply::Help | Reply::Usage) => 0,
+        _ => io::read_full(0, text),
     }
 }
 
 // Reads the second file and then the gym file, and answers. The room for the second file is large,
 // so that only the words that have one clear it.
-fn run_with_second<'s>(
-    rt: &HostRuntime,
-    count: usize,
-    name: &'s [u8],
-    first: &'s [u8],
-    second: &'s [u8],
-) {
+fn run_with_second(rt: &HostRuntime, count: usize, name: &[u8], first: &[u8], second: &[u8]) {
     let mut more = room();
     let mut whole = false;
     let m = read_second(rt, 2, &mut more, &mut whole);
@@ -157,14 +116,32 @@ fn run_with_second<'s>(
     }
     let mut text = [0u8; INPUT];
     let size = read_file(command_of(count, name, first), &mut text);
-    run(count, name, first, second, &text[..size], &more[..m]);
+    run(
+        count,
+        name,
+        Given {
+            first,
+            second,
+            text: &text[..size],
+            more: &more[..m],
+        },
+    );
 }
 
 // Reads the gym file, and answers.
-fn run_without<'s>(count: usize, name: &'s [u8], first: &'s [u8], second: &'s [u8]) {
+fn run_without(count: usize, name: &[u8], first: &[u8], second: &[u8]) {
     let mut text = [0u8; INPUT];
     let size = read_file(command_of(count, name, first), &mut text);
-    run(count, name, first, second, &text[..size], &name[..0]);
+    run(
+        count,
+        name,
+        Given {
+            first,
+            second,
+            text: &text[..size],
+            more: &[],
+        },
+    );
 }
 
 fn main(rt: HostRuntime) {

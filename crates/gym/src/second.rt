@@ -34,14 +34,7 @@ pub fn room() -> [u8; MORE]
 
 // Does the command have a second file?
 pub fn has_second(c: Command) -> bool {
-    match c {
-        Command::Listings => false,
-        Command::One(q) => match q {
-            Reply::Back => true,
-            Reply::Undot => true,
-            _ => false,
-        },
-    }
+    matches!(c, Command::One(Reply::Back | Reply::Undot))
 }
 
 // What the C library says of an error: behind that std has its number.

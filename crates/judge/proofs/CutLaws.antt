@@ -7,7 +7,7 @@ use mathlib.Core.List.{List, [], ◌∷◌}
 use Prim.Native.Nat.{ℕ, zero, suc, ◌+◌, ◌-◌, ◌≤◌, ◌<◌}
 use native.Mathlib.Omega.{arith}
 use native.Mathlib.Numerals.{add-one}
-use lib.ListN.{get_or, drop}
+use lib.ListN.{length, get_or, drop}
 use Rattle.scope_graph.specs.Language.{End, stop, by}
 use Rattle.scope_graph.specs.Order.{end_of}
 use Rattle.scope_graph.specs.Path.{HopOf}
@@ -21,12 +21,11 @@ use Rattle.search.specs.Board.{without, cut_here}
 use Rattle.search.specs.Tables.{end_number, plain_end, table_order, table_board}
 use Rattle.search.proofs.RulesLists.{any_of_no}
 use Rattle.path_row.specs.declared.form.Step.{Step}
-use Rattle.path_row.specs.declared.taken.Steps.{Steps}
-use Rattle.path_row.specs.Form.{no_step, steps_taken}
+use Rattle.path_row.specs.Form.{no_step}
 use Rattle.path_row.specs.Numbering.{label_number}
 use Rattle.path_row.proofs.TurnLaws.{never_earlier}
 use Rattle.comparison.specs.Letters.{block_letters}
-use Rattle.judge.specs.declared.cut.Caught.{Caught}
+use Rattle.std.specs.declared.option.Option.TheVariants.{Some, None}
 use Rattle.judge.specs.LastCut.{caught_at, deeper, latest, later_of, leads_by, last_cut}
 use Rattle.judge.specs.Steps.{hop_to, step_hops, state_on, Behind, end_cut, row_last}
 use Rattle.judge.proofs.HopLaws.{free_is}
@@ -110,28 +109,18 @@ module _ (block : List ℕ) (goal : ℕ) (n : Node) where
         hop_beyond g ∙ rw (one, b.scope, b.state, free_is n m t r (n.left - 1) b)
 
 -- what the code keeps
-pub nothing_yet : (o : Option ℕ) → later_of (caught_at (record { found = false; place = 0 })) 0 o ≡ o
+pub nothing_yet : (o : Option ℕ) → later_of (caught_at None) 0 o ≡ o
 unfolding caught_at later_of
 nothing_yet none = refl
 nothing_yet (some n) = ap some (let z : 0 + n ≡ n = omega arith in z)
 
-pub kept_on : (c : Caught) (u : Bool) (place : ℕ) → u ≡ false → caught_at c ≡ latest (caught_at c) u place
+pub kept_on : (last : Option ℕ) (u : Bool) (place : ℕ) → u ≡ false → last ≡ latest last u place
 unfolding latest
-kept_on c u place e = rw e
+kept_on last u place e = rw e
 
-pub found_at : (c : Caught) → c.found ≡ true → caught_at c ≡ some c.place
-unfolding caught_at
-found_at c e = rw (e, caught_at)
-
-pub found_none_lem : (c : Caught) → c.found ≡ false → caught_at c ≡ none
-unfolding caught_at
-found_none_lem c e = rw (e, caught_at)
-
-pub kept_here : (last c : Caught) → c.found ≡ true → caught_at c ≡ latest (caught_at last) c.found c.place
-unfolding latest
-kept_here last c e =
-    let now : some c.place ≡ latest (caught_at last) c.found c.place = rw e in
-    found_at c e ∙ now
+pub kept_here : (last : Option ℕ) (u : Bool) (place : ℕ) → u ≡ true → caught_at (Some place) ≡ latest last u place
+unfolding latest caught_at
+kept_here last u place e = rw e
 
 module _ (last : Option ℕ) (i : ℕ) (u : Bool) where
   here_last : later_of last i (deeper none u) ≡ latest last u i
@@ -148,21 +137,21 @@ module _ (last : Option ℕ) (i : ℕ) (u : Bool) where
   on_later (some n) = ap some (let z : i + suc n ≡ (i + 1) + n = omega arith in z)
 
 -- along the steps from step i on, where `last` is kept of the places before it
-module _ (block : List ℕ) (goal : ℕ) (n : Node) (t : Steps) (i : ℕ) (last : Option ℕ) where
+module _ (block : List ℕ) (goal : ℕ) (n : Node) (ts : List Step) (i : ℕ) (last : Option ℕ) where
   abbrev pub lasts : Node → ℕ → Option ℕ
-  lasts m j = row_last block goal m (step_hops block (drop j (steps_taken t)) m.scope)
+  lasts m j = row_last block goal m (step_hops block (drop j ts) m.scope)
 
-  pub lasts_end : (u : Bool) → u ≡ end_cut block goal n (plain_end (end_of 0)) → t.count ≤ i → latest last u i ≡ later_of last i (lasts n i)
+  pub lasts_end : (u : Bool) → u ≡ end_cut block goal n (plain_end (end_of 0)) → length ts ≤ i → latest last u i ≡ later_of last i (lasts n i)
   lasts_end u f h =
-      sym (ap (later_of last i) (ap (row_last block goal n) (hops_end block t i n.scope h) ∙ stop_end block goal n ∙ ap (deeper none) (sym f)) ∙ here_last last i u)
+      sym (ap (later_of last i) (ap (row_last block goal n) (hops_end block ts i n.scope h) ∙ stop_end block goal n ∙ ap (deeper none) (sym f)) ∙ here_last last i u)
 
-  module _ (h : i < t.count) (y : Step) (e : y ≡ get_or (steps_taken t) i no_step) (l : ℕ) (k : l ≡ label_number (block_letters block) y.label)
+  module _ (h : i < length ts) (y : Step) (e : y ≡ get_or ts i no_step) (l : ℕ) (k : l ≡ label_number (block_letters block) y.label)
       (u : Bool) (c : u ≡ end_cut block goal n (by (hop_to block n.scope l y.scope).step)) (r : ℕ) (is : r ≡ state_on block n (hop_to block n.scope l y.scope)) where
     abbrev rest : List (HopOf Turned)
-    rest = step_hops block (drop (i + 1) (steps_taken t)) y.scope
+    rest = step_hops block (drop (i + 1) ts) y.scope
 
     opens : lasts n i ≡ row_last block goal n (hop_to block n.scope l y.scope ∷ rest)
-    opens = ap (row_last block goal n) (hops_on_lem block t i n.scope h y e l k)
+    opens = ap (row_last block goal n) (hops_on_lem block ts i n.scope h y e l k)
 
     no_more : row_last block goal n (hop_to block n.scope l y.scope ∷ rest) ≡ deeper none u → latest last u i ≡ later_of last i (lasts n i)
     no_more z = sym (ap (later_of last i) (opens ∙ z) ∙ here_last last i u)
@@ -177,5 +166,5 @@ module _ (block : List ℕ) (goal : ℕ) (n : Node) (t : Steps) (i : ℕ) (last 
         → later_of o (i + 1) (lasts m (i + 1)) ≡ later_of last i (lasts n i)
     lasts_on g z m b o oe =
         rw oe
-        (ap (λ (s : ℕ). later_of (latest last u i) (i + 1) (row_last block goal m (step_hops block (drop (i + 1) (steps_taken t)) s))) b.scope
+        (ap (λ (s : ℕ). later_of (latest last u i) (i + 1) (row_last block goal m (step_hops block (drop (i + 1) ts) s))) b.scope
         ∙ sym (ap (later_of last i) (opens ∙ hop_on_lem block goal n l y.scope rest u c r is g z m b) ∙ on_later last i u (row_last block goal m rest)))

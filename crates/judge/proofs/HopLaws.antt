@@ -125,7 +125,6 @@ module _ (n m : Node) (to r left : ℕ) (b : Behind n to r left m) where
   -- a closed table stays closed with fewer free scopes
   pub behind_ready : (block : List ℕ) (goal : ℕ) (live : List ℕ) → Ready block goal live n → to < 64 → r < 16 → Ready block goal live m
   behind_ready block goal live y h k = record {
-    size = y.size;
     bounds = y.bounds;
     table = y.table;
     inside = behind_inside h k;

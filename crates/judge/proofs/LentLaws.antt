@@ -18,17 +18,20 @@ use Rattle.path_row.proofs.LentLaws.{lent_all}
 use Rattle.board.specs.Queries.{query_at}
 use Rattle.comparison.proofs.LentLaws.{refuse_not}
 use Rattle.judge.specs.declared.standing.Judged.{Judged}
-use Rattle.judge.specs.declared.standing.Judged.TheVariants.{Refused}
+use Rattle.std.specs.declared.result.Result.{Result}
+use Rattle.std.specs.declared.result.Result.TheVariants.{Err}
+use Rattle.text_field.specs.declared.refusal.Refusal.{Refusal}
+use Rattle.text_field.specs.Refusal.{number_of}
 use Rattle.judge.specs.declared.text.JudgedRow.{JudgedRow}
 use Rattle.judge.specs.Judge.{meaning, as_rules_row, judge_of, judge_answer, HandsOut}
 
 -- a refusal hands out no steps
-pub hands_none : (o : Outcome Judgement) (row : List ℕ) (k : ℕ) (r : JudgedRow) → (r.answer ≡ Refused k) × (r.steps ≡ steps_held []) → refused k ≡ o → HandsOut o row r
+pub hands_none : (o : Outcome Judgement) (row : List ℕ) (k : Refusal) (r : JudgedRow) → (r.answer ≡ Err k) × (r.steps ≡ steps_held []) → refused (number_of k) ≡ o → HandsOut o row r
 unfolding meaning steps_lent
 hands_none o row k r (e, f) h = rw (← h) (record { answer = ap meaning e; steps = f })
 
 -- a row that was read and fits hands out its steps
-pub hands_all : (row : List ℕ) (p : PathRow) → row_here row ≡ done p → (o : Outcome Judgement) (c : Judgement) → o ≡ done c → (t : Steps) → t ≡ steps_held p.steps → (r : Judged) → meaning r ≡ o → HandsOut o row (record { answer = r; steps = t })
+pub hands_all : (row : List ℕ) (p : PathRow) → row_here row ≡ done p → (o : Outcome Judgement) (c : Judgement) → o ≡ done c → (t : Steps) → t ≡ steps_held p.steps → (r : Result Judged Refusal) → meaning r ≡ o → HandsOut o row (record { answer = r; steps = t })
 hands_all row p e o c w t held r h = record { answer = h; steps = held ∙ ap steps_held (sym (ap (λ (z : Outcome Judgement). steps_lent z row) w ∙ lent_all c row p e)) }
 
 -- an answer that is no refusal: the row is one, and its steps fit

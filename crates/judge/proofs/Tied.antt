@@ -20,7 +20,6 @@ use Rattle.scope_graph.specs.Agree.{Judgement, as_shadowed, with_steps, caught, 
 use Rattle.scope_graph.proofs.Lists.{and_left, and_both}
 use Rattle.scope_graph.proofs.Agree.{agree_promises}
 use Rattle.graph_rows.specs.Format.{count_section, declaration_section}
-use Rattle.text_field.specs.Outcome.{Outcome, done}
 use Rattle.graph_rows.specs.Admission.{Row, value, blank}
 use Rattle.graph_rows.specs.Decode.{rows_in, letters_of, rules_of, name_at, declaration_of, graph_of, scopes_of}
 use Rattle.block.specs.Sets.{has_scope}
@@ -43,11 +42,11 @@ use Rattle.path_row.specs.declared.form.Step.{Step}
 use Rattle.path_row.specs.Numbering.{hops_of, path_of}
 use Rattle.comparison.proofs.RowLaws.{steps_here}
 use Rattle.judge.specs.declared.standing.Judged.TheVariants.{Visible, Shadowed, Unreached}
-use Rattle.judge.specs.Judge.{meaning, as_rules_row}
-use Rattle.judge.specs.declared.cut.Caught.{Caught}
+use Rattle.judge.specs.Judge.{standing_in, as_rules_row}
+use Rattle.std.specs.declared.option.Option.{Option as CodeOption}
+use Rattle.std.specs.declared.option.Option.TheVariants.{Some, None}
 use Rattle.judge.specs.LastCut.{caught_at, last_cut}
 use Rattle.judge.specs.Steps.{is_marked, has_mark, step_hops, Begins, row_reached, row_last, judged_row}
-use Rattle.judge.proofs.CutLaws.{found_at, found_none_lem}
 use Rattle.judge.proofs.Deepest.{is_place, cut_some, caught_is}
 
 -- The marks of a name at a scope, row by row.
@@ -147,10 +146,10 @@ module _ (cells : List ℕ) (x : QueryRow) (mark from : ℕ) (ss : List Step) (a
   judged_is = rw row_is (ap (λ (z : Standing). with_mark rules_mark z) stands)
 
   -- what is told of a standing
-  abbrev told : Standing → Outcome Judgement
-  told z = done (with_steps z (caught L g q the_row.path))
+  abbrev told : Standing → Judgement
+  told z = with_steps z (caught L g q the_row.path)
 
-  tells : (z : Standing) → judged L g q the_row ≡ z → told z ≡ done (judged_row cells x mark from ss)
+  tells : (z : Standing) → judged L g q the_row ≡ z → told z ≡ judged_row cells x mark from ss
   unfolding judgement
   tells z e = ap told (sym e)
 
@@ -167,8 +166,8 @@ module _ (cells : List ℕ) (x : QueryRow) (mark from : ℕ) (ss : List Step) (a
       rw row_is (caught_is L laws g q range (agree_promises.language (rules_of cells)) (λ t. ltb t 64) all_free (record { start = from; hops = hs }) (rw row_is at t) n e)
 
   -- a row that starts elsewhere
-  pub starts_apart : (from ≡ x.start → ⊥) → meaning Unreached ≡ done (judged_row cells x mark from ss)
-  unfolding meaning with_steps
+  pub starts_apart : (from ≡ x.start → ⊥) → standing_in Unreached ≡ judged_row cells x mark from ss
+  unfolding standing_in with_steps
   starts_apart h =
       tells is_unreached (judged_is ∙ ap (λ (z : Bool). with_mark rules_mark (by_tests z rules_reached rules_cut)) (ne_eqb from x.start h)
       ∙ at rules_mark)
@@ -218,11 +217,11 @@ module _ (cells : List ℕ) (x : QueryRow) (mark from : ℕ) (ss : List Step) (a
       by_reached =
           judged_same ∙ both rules_mark rules_reached rules_cut ∙ ap (λ (z : Bool). by_tests true z rules_cut) (sym (e ∙ reached_is))
 
-      pub not_reached : u ≡ false → meaning Unreached ≡ done (judged_row cells x mark from ss)
-      unfolding meaning with_steps
+      pub not_reached : u ≡ false → standing_in Unreached ≡ judged_row cells x mark from ss
+      unfolding standing_in with_steps
       not_reached h = tells is_unreached (by_reached ∙ ap (λ (z : Bool). by_tests true z rules_cut) h)
 
-      module _ (h : u ≡ true) (w : Caught) (f : caught_at w ≡ row_last block goal n (step_hops block ts n.scope)) where
+      module _ (h : u ≡ true) (w : CodeOption ℕ) (f : caught_at w ≡ row_last block goal n (step_hops block ts n.scope)) where
         place_is : caught_at w ≡ rules_last
         unfolding row_last
         place_is =
@@ -246,12 +245,12 @@ module _ (cells : List ℕ) (x : QueryRow) (mark from : ℕ) (ss : List Step) (a
         reached_here : is_reached L g q the_row.path ≡ true
         reached_here = row_reached_lem same (and_left rules_reached rules_mark (sym (e ∙ reached_is) ∙ h))
 
-        pub is_cut : w.found ≡ true → meaning (Shadowed w.place) ≡ done (judged_row cells x mark from ss)
-        unfolding meaning with_steps is_place
-        is_cut k =
-            ap {B = Outcome Judgement} (λ (z : ℕ). done (as_shadowed z)) (sym (steps_are reached_here w.place (sym place_is ∙ found_at w k)))
-            ∙ tells is_shadowed (by_cut ∙ ap (λ (z : Option ℕ). by_tests true true (is_place z)) (found_at w k))
+        pub is_cut : (place : ℕ) → w ≡ Some place → standing_in (Shadowed place) ≡ judged_row cells x mark from ss
+        unfolding standing_in with_steps is_place caught_at
+        is_cut place k =
+            ap (λ (z : ℕ). as_shadowed z) (sym (steps_are reached_here place (sym place_is ∙ ap caught_at k)))
+            ∙ tells is_shadowed (by_cut ∙ ap (λ (z : CodeOption ℕ). by_tests true true (is_place (caught_at z))) k)
 
-        pub not_cut : w.found ≡ false → meaning Visible ≡ done (judged_row cells x mark from ss)
-        unfolding meaning with_steps is_place
-        not_cut k = tells is_visible (by_cut ∙ ap (λ (z : Option ℕ). by_tests true true (is_place z)) (found_none_lem w k))
+        pub not_cut : w ≡ None → standing_in Visible ≡ judged_row cells x mark from ss
+        unfolding standing_in with_steps is_place caught_at
+        not_cut k = tells is_visible (by_cut ∙ ap (λ (z : CodeOption ℕ). by_tests true true (is_place (caught_at z))) k)

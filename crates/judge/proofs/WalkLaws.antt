@@ -6,7 +6,9 @@ use mathlib.Core.Logic.{◌⊎◌, inl, inr}
 use mathlib.Core.List.{List, [], ◌∷◌}
 use Prim.Native.Nat.{ℕ, ◌+◌, ◌≤◌, ◌<◌}
 use native.Mathlib.Omega.{arith}
-use lib.ListN.{get_or, drop}
+use native.Mathlib.Numerals.{add-one}
+use lib.ListN.{length, get_or, drop, drop_of_length-le}
+use lib.Seq.{drop-cons}
 use Rattle.scope_graph.specs.Path.{HopOf}
 use Rattle.scope_graph.specs.Turns.{Turned}
 use Rattle.scope_graph.proofs.Lists.{Two}
@@ -19,25 +21,23 @@ use Rattle.search.specs.Tables.{table_board}
 use Rattle.graph_table.specs.declared.rows.QueryRow.{QueryRow}
 use Rattle.graph_table.specs.Sections.{rows_of}
 use Rattle.path_row.specs.declared.form.Step.{Step}
-use Rattle.path_row.specs.declared.taken.Steps.{Steps}
-use Rattle.path_row.specs.Form.{no_step, steps_taken}
+use Rattle.path_row.specs.Form.{no_step}
 use Rattle.path_row.specs.Numbering.{label_number, hop_of, hops_of}
-use Rattle.path_row.proofs.TakenLaws.{taken_none, taken_next}
 use Rattle.comparison.specs.Letters.{block_letters}
 use Rattle.judge.specs.LastCut.{leads_by}
 use Rattle.judge.specs.Steps.{has_mark, hop_to, has_hop, step_hops, state_on, state_along, Behind, row_reached}
 use Rattle.judge.proofs.HopLaws.{on_taken, on_free, free_is}
 
 -- the hops of the steps from step i on
-module _ (block : List ℕ) (t : Steps) (i s : ℕ) where
-  pub hops_end : t.count ≤ i → step_hops block (drop i (steps_taken t)) s ≡ []
+module _ (block : List ℕ) (ts : List Step) (i s : ℕ) where
+  pub hops_end : length ts ≤ i → step_hops block (drop i ts) s ≡ []
   unfolding hops_of
-  hops_end h = rw (taken_none t i h)
+  hops_end h = rw (drop_of_length-le ts {i = i} h)
 
-  pub hops_on_lem : i < t.count → (y : Step) → y ≡ get_or (steps_taken t) i no_step → (l : ℕ) → l ≡ label_number (block_letters block) y.label
-      → step_hops block (drop i (steps_taken t)) s ≡ hop_to block s l y.scope ∷ step_hops block (drop (i + 1) (steps_taken t)) y.scope
+  pub hops_on_lem : i < length ts → (y : Step) → y ≡ get_or ts i no_step → (l : ℕ) → l ≡ label_number (block_letters block) y.label
+      → step_hops block (drop i ts) s ≡ hop_to block s l y.scope ∷ step_hops block (drop (i + 1) ts) y.scope
   unfolding hops_of hop_of
-  hops_on_lem h y e l k = rw (taken_next t i h y e, k)
+  hops_on_lem h y e l k = rw (add-one) (rw (drop-cons ts i no_step h, ← e, k))
 
 -- where a hop leads
 module _ (block : List ℕ) (goal : ℕ) (n : Node) (l t r : ℕ) (is : r ≡ state_on block n (hop_to block n.scope l t)) {A : Type 0} (other : A) (enter : ℕ → ℕ → A) where
@@ -113,23 +113,23 @@ module _ (block decls : List ℕ) (goal : ℕ) (x : QueryRow) (mark : ℕ) (n : 
     end_yes h = rw (← e, h)
 
   -- a row is reached along its steps from step i on
-  module _ (t : Steps) (i : ℕ) where
+  module _ (ts : List Step) (i : ℕ) where
     abbrev pub reaches : Node → ℕ → Bool
-    reaches m j = reached m (step_hops block (drop j (steps_taken t)) m.scope)
+    reaches m j = reached m (step_hops block (drop j ts) m.scope)
 
-    pub reaches_end : (u : Bool) → u ≡ reached n [] → t.count ≤ i → u ≡ reaches n i
-    reaches_end u e h = rw (hops_end block t i n.scope h) e
+    pub reaches_end : (u : Bool) → u ≡ reached n [] → length ts ≤ i → u ≡ reaches n i
+    reaches_end u e h = rw (hops_end block ts i n.scope h) e
 
-    module _ (h : i < t.count) (y : Step) (e : y ≡ get_or (steps_taken t) i no_step) (l : ℕ) (k : l ≡ label_number (block_letters block) y.label)
+    module _ (h : i < length ts) (y : Step) (e : y ≡ get_or ts i no_step) (l : ℕ) (k : l ≡ label_number (block_letters block) y.label)
         (r : ℕ) (is : r ≡ state_along block n (hop_to block n.scope l y.scope)) where
       abbrev behind_it : ℕ → List (HopOf Turned)
-      behind_it s = step_hops block (drop (i + 1) (steps_taken t)) s
+      behind_it s = step_hops block (drop (i + 1) ts) s
 
       pub reaches_no : 16 ≤ r → reaches n i ≡ false
-      reaches_no g = rw (hops_on_lem block t i n.scope h y e l k) (reach_no l y.scope r is (behind_it y.scope) g)
+      reaches_no g = rw (hops_on_lem block ts i n.scope h y e l k) (reach_no l y.scope r is (behind_it y.scope) g)
 
       pub reaches_on : r < 16 → (more : ℕ) (m : Node) → Behind n y.scope r more m → reaches n i ≡ reaches m (i + 1)
       reaches_on g more m b =
-          ap (reached n) (hops_on_lem block t i n.scope h y e l k)
+          ap (reached n) (hops_on_lem block ts i n.scope h y e l k)
           ∙ reach_on l y.scope r is (behind_it y.scope) g more m b
           ∙ ap (λ (s : ℕ). reached m (behind_it s)) (sym b.scope)

@@ -4,6 +4,10 @@ use Rattle.std.specs.Prelude.{ℕ, ◌≡◌, List, leb, ltb, length}
 use Rattle.scope_graph.specs.Rows.{language}
 use Rattle.scope_graph.specs.Path.{PathRow as RulesRow}
 use Rattle.scope_graph.specs.Agree.{Judgement, as_visible, as_shadowed, as_unreached, judgement}
+use Rattle.std.specs.declared.result.Result.{Result}
+use Rattle.std.specs.declared.result.Result.TheVariants.{Ok, Err}
+use Rattle.text_field.specs.declared.refusal.Refusal.{Refusal}
+use Rattle.text_field.specs.Refusal.{number_of}
 use Rattle.text_field.specs.Outcome.{Outcome, refused, done, and_then, refuse_if}
 use Rattle.graph_file.specs.File.{read_cells}
 use Rattle.graph_rows.specs.Decode.{rules_of, graph_of, queries_of}
@@ -12,16 +16,19 @@ use Rattle.path_row.specs.Lent.{steps_lent}
 use Rattle.path_row.specs.Numbering.{path_in}
 use Rattle.board.specs.Queries.{query_at}
 use Rattle.judge.specs.declared.standing.Judged.{Judged}
-use Rattle.judge.specs.declared.standing.Judged.TheVariants.{Visible, Shadowed, Unreached, Refused}
+use Rattle.judge.specs.declared.standing.Judged.TheVariants.{Visible, Shadowed, Unreached}
 use Rattle.judge.specs.declared.text.JudgedRow.{JudgedRow}
 
--- what an answer means: a refusal by its number, or one of the three standings, of which *shadowed*
--- carries its number of steps (01, "Where each language form goes"; 02, K7)
-unfoldable pub meaning : Judged → Outcome Judgement
-meaning Visible = done as_visible
-meaning (Shadowed n) = done (as_shadowed n)
-meaning Unreached = done as_unreached
-meaning (Refused n) = refused n
+-- one of the three standings, of which *shadowed* carries its number of steps (02, K7)
+unfoldable pub standing_in : Judged → Judgement
+standing_in Visible = as_visible
+standing_in (Shadowed n) = as_shadowed n
+standing_in Unreached = as_unreached
+
+-- what an answer means: that, or a refusal by its number (01, "Where each language form goes")
+unfoldable pub meaning : Result Judged Refusal → Outcome Judgement
+meaning (Ok j) = done (standing_in j)
+meaning (Err r) = refused (number_of r)
 
 -- The row as the rules have it: its steps by their labels' numbers, with the turns of their edge
 -- rows (02, K12). A letter that is not listed has a number that no edge has.

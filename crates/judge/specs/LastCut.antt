@@ -3,14 +3,16 @@
 -- definitions.
 use Rattle.std.specs.Prelude.{ℕ, zero, suc, ◌+◌, Bool, true, false, List, [], ◌∷◌}
 use Rattle.std.proofs.Math.Option.{Option, some, none}
+use Rattle.std.specs.declared.option.Option.{Option as CodeOption}
+use Rattle.std.specs.declared.option.Option.TheVariants.{Some, None}
 use Rattle.scope_graph.specs.Language.{End, by}
 use Rattle.scope_graph.specs.Path.{HopOf}
 use Rattle.search.specs.Board.{Board, without, cut_here}
-use Rattle.judge.specs.declared.cut.Caught.{Caught}
 
--- what the code's record of a place means: one is cut, or none yet
-unfoldable pub caught_at : Caught → Option ℕ
-caught_at c = elim c.found [ true ↦ some c.place | false ↦ none ]
+-- what the code's last place means: one is cut, or none yet
+unfoldable pub caught_at : CodeOption ℕ → Option ℕ
+caught_at (Some place) = some place
+caught_at None = none
 
 -- a place behind a hop, counted from the hop's scope; else this one, if its end is cut
 unfoldable pub deeper : Option ℕ → Bool → Option ℕ

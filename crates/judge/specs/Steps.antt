@@ -1,7 +1,6 @@
--- What the steps of the judge's code answer: which refusal is told, a declaration with the mark, an
--- edge that leaves a scope, the state after a hop, whether a row's path is reached and where it is
+-- What the steps of the judge's code answer: a declaration with the mark, an edge that leaves a scope, the state after a hop, whether a row's path is reached and where it is
 -- cut. Assumes nothing: these are definitions.
-use Rattle.std.specs.Prelude.{ℕ, zero, suc, ◌≤◌, ◌≡◌, Bool, true, false, not, ◌&&◌, List, map, eqb, leb, ltb, length}
+use Rattle.std.specs.Prelude.{ℕ, suc, ◌≤◌, ◌≡◌, Bool, true, false, not, ◌&&◌, List, map, eqb, length}
 use Rattle.std.proofs.Math.Option.{Option}
 use Rattle.scope_graph.specs.Language.{End, stop}
 use Rattle.scope_graph.specs.Path.{HopOf, last_from}
@@ -11,7 +10,6 @@ use Rattle.scope_graph.specs.Computed.{same_hop}
 use Rattle.scope_graph.specs.Agree.{Judgement, judgement}
 use Rattle.graph_rows.specs.Admission.{Row}
 use Rattle.graph_rows.specs.Decode.{rules_of, graph_of}
-use Rattle.block.specs.Layout.{IsBlock}
 use Rattle.block.specs.Sets.{has_scope}
 use Rattle.block.specs.Block.{Bounds, next_cell, scopes_cell, block_hops}
 use Rattle.search.specs.declared.Node.{Node}
@@ -28,19 +26,6 @@ use Rattle.path_row.specs.Numbering.{hops_of}
 use Rattle.comparison.specs.Letters.{block_letters}
 use Rattle.judge.specs.Judge.{as_rules_row}
 use Rattle.judge.specs.LastCut.{last_cut}
-
--- The refusal of query number i where there are n queries, and of a table with room for fewer
--- records than there are steps (01, "Who can cause a refusal"); 0 for none.
-unfoldable pub query_fault : ℕ → ℕ → ℕ
-query_fault n i = elim (leb n i) [ true ↦ 7 | false ↦ 0 ]
-
-unfoldable pub room_fault : ℕ → ℕ → ℕ
-room_fault room count = elim (ltb room count) [ true ↦ 9 | false ↦ 0 ]
-
--- of two refusals the one that is told: the sooner one, if it is one
-unfoldable pub first_fault : ℕ → ℕ → ℕ
-first_fault zero later = later
-first_fault (suc n) later = suc n
 
 -- is the declaration one of what is sought at the scope, with the mark?
 unfoldable pub is_marked : QueryRow → ℕ → ℕ → DeclarationRow → Bool
@@ -95,7 +80,6 @@ row_reached block decls goal x mark n hs =
 -- what is asked of a node's ends: the node is within the tables, and the table of places worth
 -- entering is closed for it
 pub record Ready (block : List ℕ) (goal : ℕ) (live : List ℕ) (n : Node) : Type 0 where
-  pub size : IsBlock block
   pub bounds : Bounds block
   pub table : 64 ≤ length live
   pub inside : Inside n

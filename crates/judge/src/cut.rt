@@ -3,29 +3,27 @@ ghost use Rattle.std.specs.Prelude.{◌≡◌};
 ghost use Rattle.scope_graph.specs.Language.{by};
 ghost use Rattle.scope_graph.specs.Order.{end_of};
 ghost use Rattle.search.specs.Tables.{plain_end};
-ghost use Rattle.path_row.specs.Form.{steps_taken};
 ghost use Rattle.judge.specs.LastCut.{caught_at, latest};
 ghost use Rattle.judge.specs.Steps.{hop_to, Ready, step_hops, end_cut, row_last};
 
 use crate::hops::{behind, state_on};
 use crate::limits::{LABELS, NO_STATE, STOP};
-use block::{edge_at, edge_to, edges_end};
+use block::{SIZE, edge_at, edge_to, edges_end};
 use comparison::label_number;
-use path_row::taken::{Steps, step_of};
+use path_row::form::Step;
 use search::{NOTHING_KNOWN, Node, edge_cut, learn};
 
 // Is the end with this number cut at the node?
-fn end_cut(block: &[u64], goal: u64, live: &[u64], n: Node, e: u64) -> bool
+fn end_cut(block: &[u64; SIZE], goal: u64, live: &[u64], n: Node, e: u64) -> bool
     requires ready { Ready block.now goal live.now n }
     ensures answer { result ≡ end_cut block.now goal n (plain_end (end_of e)) }
 {
-    let told = learn(block, goal, live, n, NOTHING_KNOWN, e);
-    told.cut
+    learn(block, goal, live, n, NOTHING_KNOWN, e).cut
 }
 
 // Is a step by the label that goes along no edge, and so has no turn, cut at the node? One past the
 // labels is not.
-fn label_cut(block: &[u64], goal: u64, live: &[u64], n: Node, label: u64) -> bool
+fn label_cut(block: &[u64; SIZE], goal: u64, live: &[u64], n: Node, label: u64) -> bool
     requires ready { Ready block.now goal live.now n }
     ensures answer { result ≡ end_cut block.now goal n (plain_end (by label)) }
 {
@@ -37,7 +35,7 @@ fn label_cut(block: &[u64], goal: u64, live: &[u64], n: Node, label: u64) -> boo
 
 // Is a step by the label to the scope cut at the node? It has the turn of the edge that it goes
 // along, if there is one.
-fn step_cut(block: &[u64], goal: u64, live: &[u64], n: Node, label: u64, to: u64) -> bool
+fn step_cut(block: &[u64; SIZE], goal: u64, live: &[u64], n: Node, label: u64, to: u64) -> bool
     requires ready { Ready block.now goal live.now n }
     ensures answer { result
         ≡ end_cut block.now goal n (by (hop_to block.now n.scope label to).step) }
@@ -46,64 +44,42 @@ fn step_cut(block: &[u64], goal: u64, live: &[u64], n: Node, label: u64, to: u64
     if edges_end(block, n.scope) <= p {
         return label_cut(block, goal, live, n, label);
     }
-    let told = edge_cut(block, goal, live, n, NOTHING_KNOWN, edge_at(block, p));
-    told.cut
-}
-
-// The last place on a path's way whose own end is cut, if one is: how many steps lie before it.
-#[derive(Clone, Copy)]
-pub struct Caught {
-    pub found: bool,
-    pub place: usize,
-}
-
-// Of two places that were looked at the one that is kept: the later one if its end is cut, else the
-// sooner one.
-fn kept(sooner: Caught, later: Caught) -> Caught
-    ensures answer { caught_at result ≡ latest (caught_at sooner) later.found later.place }
-{
-    if !later.found {
-        return sooner;
-    }
-    later
+    edge_cut(block, goal, live, n, NOTHING_KNOWN, edge_at(block, p)).cut
 }
 
 // With the end at a place looked at: that place if the end is cut, else the last one before it.
-fn noted(last: Caught, cut: bool, place: usize) -> Caught
+fn noted(last: Option<usize>, cut: bool, place: usize) -> Option<usize>
     ensures answer { caught_at result ≡ latest (caught_at last) cut place }
 {
-    kept(last, Caught { found: cut, place })
+    if cut { Some(place) } else { last }
 }
 
-// The last place where the end is cut that the steps go by, or `$` where they end. A more specific
-// path leaves this one where such an end is, so the last one tells how many steps they share. The
-// table of places worth entering serves all the way: a closed one stays closed with fewer free
-// scopes.
-pub fn last_cut(block: &[u64], goal: u64, live: &[u64], from: Node, steps: Steps) -> Caught
+// The last place where the end is cut that the steps go by, or `$` where they end: how many steps
+// lie before it. A more specific path leaves this one where such an end is, so the last one tells
+// how many steps they share. The table of places worth entering serves all the way: a closed one
+// stays closed with fewer free scopes.
+pub fn last_cut(
+    block: &[u64; SIZE],
+    goal: u64,
+    live: &[u64],
+    from: Node,
+    steps: &[Step],
+) -> Option<usize>
     requires ready { Ready block.now goal live.now from }
     ensures answer { caught_at result
-        ≡ row_last block.now goal from (step_hops block.now (steps_taken steps) from.scope) }
+        ≡ row_last block.now goal from (step_hops block.now steps.now from.scope) }
 {
-    let mut place: usize = 0;
     let mut n = from;
-    let mut last = Caught {
-        found: false,
-        place: 0,
-    };
-    while place < steps.count {
-        let step = step_of(steps, place);
-        let to = step.scope as u64;
-        let label = label_number(block, step.label);
+    let mut last = None;
+    for place in 0..steps.len() {
+        let to = steps[place].scope as u64;
+        let label = label_number(block, steps[place].label);
         last = noted(last, step_cut(block, goal, live, n, label, to), place);
-        place += 1;
         let state = state_on(block, n, label, to);
-        if NO_STATE <= state {
-            return last;
-        }
-        if n.left == 0 {
+        if NO_STATE <= state || n.left == 0 {
             return last;
         }
         n = behind(n, to, state, n.left - 1);
     }
-    noted(last, end_cut(block, goal, live, n, STOP), place)
+    noted(last, end_cut(block, goal, live, n, STOP), steps.len())
 }

@@ -8,45 +8,44 @@ use lib.Dec.{ltb, leb}
 use lib.ListN.{length, get_or, drop, length-append}
 use lib.Seq.{drop_at, drop-drop}
 use borrow.Author.Tests.{lt-ltb, le-ltb, ltb-true, ltb-false, le-leb, lt-leb, leb-true, eqb-true, not-false}
+use Rattle.std.specs.declared.option.Option.{Option}
+use Rattle.std.specs.declared.option.Option.TheVariants.{Some, None}
+use Rattle.std.proofs.lemmas.Option.{some_pair_parts}
 use Rattle.text_field.specs.Bytes.{is_digit, is_capital, within}
 use Rattle.text_field.specs.Number.{number_text, number_here, number_placed, number_meaning}
-use Rattle.text_field.specs.declared.NumberRead.{NumberRead}
-use Rattle.text_field.specs.declared.NumberRead.TheVariants.{Number, NoNumber}
 use Rattle.text_field.proofs.ByteLaws.{both, clash, within_bounds}
 use Rattle.text_field.proofs.NumberLaws.{NumberStands, number_found, number_back, length_below}
 use Rattle.text_field.specs.Outcome.{Outcome, refused, done, and_then, refuse_if}
 use Rattle.graph_rows.proofs.DecodeWay.{and_then_done, done_is}
 use Rattle.graph_rows.specs.Way.{starts_with, is_empty}
 use Rattle.path_row.specs.declared.form.Step.{Step}
-use Rattle.path_row.specs.declared.form.StepRead.{StepRead}
-use Rattle.path_row.specs.declared.form.StepRead.TheVariants.{Taken, NoStep}
-use Rattle.path_row.specs.Form.{PathRow, most_mark, most_scope, most_steps, most_bytes, at_most, number_up_to, step_by, step_here, steps_of, after_steps, steps_width, Front, front, start_by, space_by, mark_by, head_here, row_by, row_here, front_text, step_text, steps_text, row_text, steps_made, row_made, are_steps, is_row, row_written, letters_in, scopes_in}
+use Rattle.path_row.specs.Form.{PathRow, most_mark, most_scope, most_steps, most_bytes, at_most, number_up_to, step_by, step_here, steps_of, after_steps, steps_width, Front, front, start_by, space_by, mark_by, head_here, row_by, row_here, front_text, step_text, steps_text, row_text, steps_made, row_made, are_steps, is_row, row_outcome, row_written, letters_in, scopes_in}
 use Rattle.path_row.specs.Inverse.{ReadThenWritten, WrittenThenRead, PartsThenRead, ReadThenParts}
 
 -- a number up to a limit
-pub most_in : (most v w : ℕ) → v ≤ most → at_most most (Number v w) ≡ Number v w
+pub most_in : (most v w : ℕ) → v ≤ most → at_most most (Some (v, w)) ≡ Some (v, w)
 unfolding at_most
 most_in most v w h = rw (le-ltb most v h, at_most)
 
-pub most_past : (most v w : ℕ) → most < v → at_most most (Number v w) ≡ NoNumber
+pub most_past : (most v w : ℕ) → most < v → at_most most (Some (v, w)) ≡ None
 unfolding at_most
 most_past most v w h = rw (lt-ltb most v h, at_most)
 
-pub record UpTo (most : ℕ) (r : NumberRead) (v w : ℕ) : Type 0 where
-  pub found : r ≡ Number v w
+pub record UpTo (most : ℕ) (r : Option (ℕ × ℕ)) (v w : ℕ) : Type 0 where
+  pub found : r ≡ Some (v, w)
   pub small : v ≤ most
 
-pub up_found : (most : ℕ) (r : NumberRead) (v w : ℕ) → at_most most r ≡ Number v w → UpTo most r v w
+pub up_found : (most : ℕ) (r : Option (ℕ × ℕ)) (v w : ℕ) → at_most most r ≡ Some (v, w) → UpTo most r v w
 unfolding at_most
-up_found most NoNumber v w e = absurd (let z : ◌≡◌ {A = ℕ} 0 1 = cc in omega arith)
-up_found most (Number u k) v w e = by (ltb most u) refl
+up_found most None v w e = absurd (let z : ◌≡◌ {A = ℕ} 0 1 = cc in omega arith)
+up_found most (Some (u, k)) v w e = by (ltb most u) refl
   where
-    by : (t : Bool) → ltb most u ≡ t → UpTo most (Number u k) v w
+    by : (t : Bool) → ltb most u ≡ t → UpTo most (Some (u, k)) v w
     by true t = absurd (let z : ◌≡◌ {A = ℕ} 0 1 = cc (most_past most u k (ltb-true most u t)) in omega arith)
     by false t =
         let p = ltb-false most u t
-        in let q : Number u k ≡ Number v w = sym (most_in most u k p) ∙ e
-        in let n : u ≡ v = cc
+        in let q : Some (u, k) ≡ Some (v, w) = sym (most_in most u k p) ∙ e
+        in let n : u ≡ v = (some_pair_parts u v k w q).0
         in record { found = q; small = omega arith }
 
 -- a step at the front
@@ -54,60 +53,58 @@ pub step_on : (x : ℕ) (s : List ℕ) → is_capital x ≡ true → step_here (
 unfolding step_here
 step_on x s h = rw (h, step_here)
 
-pub step_off : (x : ℕ) (s : List ℕ) → is_capital x ≡ false → step_here (x ∷ s) ≡ NoStep
+pub step_off : (x : ℕ) (s : List ℕ) → is_capital x ≡ false → step_here (x ∷ s) ≡ None
 unfolding step_here
 step_off x s h = rw (h, step_here)
 
-pub record StepStands (s : List ℕ) (x v w : ℕ) : Type 0 where
-  pub text : s ≡ step_text x v ++ drop w s
-  pub capital : is_capital x ≡ true
-  pub small : v ≤ 63
+pub record StepStands (s : List ℕ) (t : Step) (w : ℕ) : Type 0 where
+  pub text : s ≡ step_text t.label t.scope ++ drop w s
+  pub capital : is_capital t.label ≡ true
+  pub small : t.scope ≤ 63
   pub some : 1 ≤ w
   pub inside : w ≤ length s
 
-by_number : (y : ℕ) (s : List ℕ) (r : NumberRead) (x v w : ℕ) → is_capital y ≡ true → number_up_to most_scope s ≡ r → step_by y r ≡ Taken x v w → StepStands (y ∷ s) x v w
+by_number : (y : ℕ) (s : List ℕ) (r : Option (ℕ × ℕ)) (t : Step) (w : ℕ) → is_capital y ≡ true → number_up_to most_scope s ≡ r → step_by y r ≡ Some (t, w) → StepStands (y ∷ s) t w
 unfolding step_by number_up_to step_text
-by_number y s NoNumber x v w c e f = absurd (let z : ◌≡◌ {A = ℕ} 0 1 = cc in omega arith)
-by_number y s (Number u k) x v w c e f =
-    let a : y ≡ x = cc
-    in let b : u ≡ v = cc
-    in let d : suc k ≡ w = cc
+by_number y s None t w c e f = absurd (let z : ◌≡◌ {A = ℕ} 0 1 = cc in omega arith)
+by_number y s (Some (u, k)) t w c e f =
+    let q = some_pair_parts (record { label = y; scope = u }) t (suc k) w f
     in let g = up_found most_scope (number_here s) u k e
     in let n = number_found s u k g.found
-    in rw (← a, ← b, ← d) (record { text = ap (λ (z : List ℕ). y ∷ z) n.whole; capital = c; small = g.small; some = omega arith; inside = omega (arith, n.inside) })
+    in rw (← q.0, ← q.1) (record { text = ap (λ (z : List ℕ). y ∷ z) n.whole; capital = c; small = g.small; some = omega arith; inside = omega (arith, n.inside) })
 
-pub step_found : (s : List ℕ) (x v w : ℕ) → step_here s ≡ Taken x v w → StepStands s x v w
+pub step_found : (s : List ℕ) (t : Step) (w : ℕ) → step_here s ≡ Some (t, w) → StepStands s t w
 unfolding step_here
-step_found [] x v w e = absurd (let z : ◌≡◌ {A = ℕ} 0 1 = cc in omega arith)
-step_found (y ∷ s) x v w e = by (is_capital y) refl
+step_found [] t w e = absurd (let z : ◌≡◌ {A = ℕ} 0 1 = cc in omega arith)
+step_found (y ∷ s) t w e = by (is_capital y) refl
   where
-    by : (t : Bool) → is_capital y ≡ t → StepStands (y ∷ s) x v w
-    by true t = by_number y s (number_up_to most_scope s) x v w t refl (sym (step_on y s t) ∙ e)
-    by false t = absurd (let z : ◌≡◌ {A = ℕ} 0 1 = cc (step_off y s t) in omega arith)
+    by : (b : Bool) → is_capital y ≡ b → StepStands (y ∷ s) t w
+    by true b = by_number y s (number_up_to most_scope s) t w b refl (sym (step_on y s b) ∙ e)
+    by false b = absurd (let z : ◌≡◌ {A = ℕ} 0 1 = cc (step_off y s b) in omega arith)
 
 -- steps at the front, one more
 module _ (n : ℕ) (s : List ℕ) where
-  pub steps_on : (x v w : ℕ) → step_here s ≡ Taken x v w → steps_of (suc n) s ≡ record { label = x; scope = v } ∷ steps_of n (drop w s)
+  pub steps_on : (t : Step) (w : ℕ) → step_here s ≡ Some (t, w) → steps_of (suc n) s ≡ t ∷ steps_of n (drop w s)
   unfolding steps_of
-  steps_on x v w e = rw (e, steps_of)
+  steps_on t w e = rw (e, steps_of)
 
-  pub steps_off : step_here s ≡ NoStep → steps_of (suc n) s ≡ []
+  pub steps_off : step_here s ≡ None → steps_of (suc n) s ≡ []
   unfolding steps_of
   steps_off e = rw (e, steps_of)
 
-  pub after_on : (x v w : ℕ) → step_here s ≡ Taken x v w → after_steps (suc n) s ≡ after_steps n (drop w s)
+  pub after_on : (t : Step) (w : ℕ) → step_here s ≡ Some (t, w) → after_steps (suc n) s ≡ after_steps n (drop w s)
   unfolding after_steps
-  after_on x v w e = rw (e, after_steps)
+  after_on t w e = rw (e, after_steps)
 
-  pub after_off : step_here s ≡ NoStep → after_steps (suc n) s ≡ s
+  pub after_off : step_here s ≡ None → after_steps (suc n) s ≡ s
   unfolding after_steps
   after_off e = rw (e, after_steps)
 
-  pub width_on : (x v w : ℕ) → step_here s ≡ Taken x v w → steps_width (suc n) s ≡ w + steps_width n (drop w s)
+  pub width_on : (t : Step) (w : ℕ) → step_here s ≡ Some (t, w) → steps_width (suc n) s ≡ w + steps_width n (drop w s)
   unfolding steps_width
-  width_on x v w e = rw (e, steps_width)
+  width_on t w e = rw (e, steps_width)
 
-  pub width_off : step_here s ≡ NoStep → steps_width (suc n) s ≡ 0
+  pub width_off : step_here s ≡ None → steps_width (suc n) s ≡ 0
   unfolding steps_width
   width_off e = rw (e, steps_width)
 
@@ -121,15 +118,15 @@ unfolding steps_of after_steps steps_text are_steps
 steps_found zero s = record { text = refl; steps = refl; few = omega arith }
 steps_found (suc n) s = by (step_here s) refl (λ w. steps_found n (drop w s))
   where
-    by : (t : StepRead) → step_here s ≡ t → ((w : ℕ) → StepsStand n (drop w s)) → StepsStand (suc n) s
-    by NoStep e onward = record { text = rw (steps_off n s e, after_off n s e); steps = rw (steps_off n s e); few = rw (steps_off n s e) (omega arith) }
-    by (Taken x v w) e onward =
-        let p = step_found s x v w e
+    by : (o : Option (Step × ℕ)) → step_here s ≡ o → ((w : ℕ) → StepsStand n (drop w s)) → StepsStand (suc n) s
+    by None e onward = record { text = rw (steps_off n s e, after_off n s e); steps = rw (steps_off n s e); few = rw (steps_off n s e) (omega arith) }
+    by (Some (t, w)) e onward =
+        let p = step_found s t w e
         in let q = onward w
         in record {
-          text = rw (steps_on n s x v w e, after_on n s x v w e) (p.text ∙ ap (λ (z : List ℕ). step_text x v ++ z) q.text ∙ sym (append_assoc (step_text x v) (steps_text (steps_of n (drop w s))) (after_steps n (drop w s))));
-          steps = rw (steps_on n s x v w e) (rw (p.capital, le-leb v 63 p.small) q.steps);
-          few = rw (steps_on n s x v w e) (omega (arith, q.few));
+          text = rw (steps_on n s t w e, after_on n s t w e) (p.text ∙ ap (λ (z : List ℕ). step_text t.label t.scope ++ z) q.text ∙ sym (append_assoc (step_text t.label t.scope) (steps_text (steps_of n (drop w s))) (after_steps n (drop w s))));
+          steps = rw (steps_on n s t w e) (rw (p.capital, le-leb t.scope 63 p.small) q.steps);
+          few = rw (steps_on n s t w e) (omega (arith, q.few));
         }
 
 -- a capital is no digit
@@ -147,11 +144,11 @@ starts_plain [] h = no_digit_zero
 starts_plain (s ∷ ss) h = no_digit s.label (both (is_capital s.label) (leb s.scope most_scope && are_steps ss) h).0
 
 -- a number up to a limit is read back, where no digit follows
-up_back : (most v : ℕ) (rest : List ℕ) → v ≤ most → most ≤ 99999 → is_digit (get_or rest 0 0) ≡ false → number_up_to most (number_text v ++ rest) ≡ Number v (length (number_text v))
+up_back : (most v : ℕ) (rest : List ℕ) → v ≤ most → most ≤ 99999 → is_digit (get_or rest 0 0) ≡ false → number_up_to most (number_text v ++ rest) ≡ Some (v, (length (number_text v)))
 unfolding number_up_to
 up_back most v rest h m d = ap (at_most most) (number_back v rest (omega arith) d) ∙ most_in most v (length (number_text v)) h
 
-step_back : (x v : ℕ) (rest : List ℕ) → is_capital x ≡ true → v ≤ 63 → is_digit (get_or rest 0 0) ≡ false → step_here (step_text x v ++ rest) ≡ Taken x v (suc (length (number_text v)))
+step_back : (x v : ℕ) (rest : List ℕ) → is_capital x ≡ true → v ≤ 63 → is_digit (get_or rest 0 0) ≡ false → step_here (step_text x v ++ rest) ≡ Some (record { label = x; scope = v }, suc (length (number_text v)))
 unfolding step_by step_text
 step_back x v rest c h d = step_on x (number_text v ++ rest) c ∙ ap (step_by x) (up_back most_scope v rest h (omega arith) d)
 
@@ -171,16 +168,16 @@ steps_back (suc n) (s ∷ ss) h l =
     in let d : drop (suc (length (number_text s.scope))) (steps_text (s ∷ ss)) ≡ steps_text ss = drop_at (number_text s.scope) (steps_text ss) (length (number_text s.scope)) refl
     in let r = steps_back n ss q.1 (omega arith)
     in record {
-      steps = steps_on n (steps_text (s ∷ ss)) s.label s.scope (suc (length (number_text s.scope))) t ∙ ap (λ (z : List ℕ). record { label = s.label; scope = s.scope } ∷ steps_of n z) d ∙ ap (λ (z : List Step). s ∷ z) r.steps;
-      after = after_on n (steps_text (s ∷ ss)) s.label s.scope (suc (length (number_text s.scope))) t ∙ ap (after_steps n) d ∙ r.after;
+      steps = steps_on n (steps_text (s ∷ ss)) s (suc (length (number_text s.scope))) t ∙ ap (λ (z : List ℕ). s ∷ steps_of n z) d ∙ ap (λ (z : List Step). s ∷ z) r.steps;
+      after = after_on n (steps_text (s ∷ ss)) s (suc (length (number_text s.scope))) t ∙ ap (after_steps n) d ∙ r.after;
     }
 
 -- the front of a row
-pub head_on : (m w : ℕ) (s : List ℕ) → starts_with 32 (drop w s) ≡ true → mark_by (Number m w) s ≡ start_by m (w + 1) (number_up_to most_scope (drop (w + 1) s))
+pub head_on : (m w : ℕ) (s : List ℕ) → starts_with 32 (drop w s) ≡ true → mark_by (Some (m, w)) s ≡ start_by m (w + 1) (number_up_to most_scope (drop (w + 1) s))
 unfolding mark_by space_by number_meaning and_then
 head_on m w s h = rw (h, space_by)
 
-pub head_off : (m w : ℕ) (s : List ℕ) → starts_with 32 (drop w s) ≡ false → mark_by (Number m w) s ≡ refused 8
+pub head_off : (m w : ℕ) (s : List ℕ) → starts_with 32 (drop w s) ≡ false → mark_by (Some (m, w)) s ≡ refused 8
 unfolding mark_by space_by number_meaning and_then
 head_off m w s h = rw (h, space_by)
 
@@ -199,11 +196,11 @@ unfolding starts_with
 space_first [] h = absurd (clash h refl)
 space_first (x ∷ s) h = ap (λ (z : ℕ). z ∷ s) (eqb-true x 32 h)
 
-by_start : (s : List ℕ) (m w v k : ℕ) (r : NumberRead) → NumberStands s m w → m ≤ 65535 → starts_with 32 (drop w s) ≡ true
+by_start : (s : List ℕ) (m w v k : ℕ) (r : Option (ℕ × ℕ)) → NumberStands s m w → m ≤ 65535 → starts_with 32 (drop w s) ≡ true
     → number_up_to most_scope (drop (w + 1) s) ≡ r → start_by m (w + 1) r ≡ done (front m v k) → HeadStands s m v k
 unfolding start_by number_meaning number_placed and_then number_up_to
-by_start s m w v k NoNumber n l h e f = absurd (let z : ◌≡◌ {A = ℕ} 0 1 = cc in omega arith)
-by_start s m w v k (Number u j) n l h e f =
+by_start s m w v k None n l h e f = absurd (let z : ◌≡◌ {A = ℕ} 0 1 = cc in omega arith)
+by_start s m w v k (Some (u, j)) n l h e f =
     let x : front m u (w + 1 + j) ≡ front m v k = done_is f
     in let a : u ≡ v = ap (λ (h : Front). h.start) x
     in let b : w + 1 + j ≡ k = ap (λ (h : Front). h.width) x
@@ -218,19 +215,19 @@ by_start s m w v k (Number u j) n l h e f =
       place = let c : j ≡ length (number_text v) = q.width ∙ ap (λ (z : ℕ). length (number_text z)) a in omega (arith, n.width);
     }
 
-start_mark : (m n b v k : ℕ) (r : NumberRead) → start_by m b r ≡ done (front n v k) → m ≡ n
+start_mark : (m n b v k : ℕ) (r : Option (ℕ × ℕ)) → start_by m b r ≡ done (front n v k) → m ≡ n
 unfolding start_by number_meaning number_placed and_then
-start_mark m n b v k NoNumber e = absurd (let z : ◌≡◌ {A = ℕ} 0 1 = cc in omega arith)
-start_mark m n b v k (Number u j) e = ap (λ (h : Front). h.mark) (done_is e)
+start_mark m n b v k None e = absurd (let z : ◌≡◌ {A = ℕ} 0 1 = cc in omega arith)
+start_mark m n b v k (Some (u, j)) e = ap (λ (h : Front). h.mark) (done_is e)
 
-no_mark : (s : List ℕ) (m v k : ℕ) → mark_by NoNumber s ≡ done (front m v k) → ⊥
+no_mark : (s : List ℕ) (m v k : ℕ) → mark_by None s ≡ done (front m v k) → ⊥
 unfolding mark_by number_meaning and_then
 no_mark s m v k g = let z : ◌≡◌ {A = ℕ} 0 1 = cc in omega arith
 
-by_mark : (s : List ℕ) (r : NumberRead) (m v k : ℕ) → number_up_to most_mark s ≡ r → mark_by r s ≡ done (front m v k) → HeadStands s m v k
+by_mark : (s : List ℕ) (r : Option (ℕ × ℕ)) (m v k : ℕ) → number_up_to most_mark s ≡ r → mark_by r s ≡ done (front m v k) → HeadStands s m v k
 unfolding number_up_to
-by_mark s NoNumber m v k e f = absurd (no_mark s m v k f)
-by_mark s (Number n w) m v k e f = by (starts_with 32 (drop w s)) refl
+by_mark s None m v k e f = absurd (no_mark s m v k f)
+by_mark s (Some (n, w)) m v k e f = by (starts_with 32 (drop w s)) refl
   where
     by : (t : Bool) → starts_with 32 (drop w s) ≡ t → HeadStands s m v k
     by true t =
@@ -310,14 +307,14 @@ unfolding head_here starts_with start_by number_meaning number_placed and_then
 head_back m v t h g d =
     let s : List ℕ = number_text m ++ (32 ∷ (number_text v ++ t))
     in let w : ℕ = length (number_text m)
-    in let a : number_up_to most_mark s ≡ Number m w = up_back most_mark m (32 ∷ (number_text v ++ t)) h (omega arith) space_plain
+    in let a : number_up_to most_mark s ≡ Some (m, w) = up_back most_mark m (32 ∷ (number_text v ++ t)) h (omega arith) space_plain
     in let b : drop w s ≡ 32 ∷ (number_text v ++ t) = drop_at (number_text m) (32 ∷ (number_text v ++ t)) w refl
     in let c : drop (w + 1) s ≡ number_text v ++ t = sym (drop-drop 1 w s) ∙ ap (drop 1) b
     in let e : starts_with 32 (drop w s) ≡ true = ap (starts_with 32) b
-    in let f : number_up_to most_scope (drop (w + 1) s) ≡ Number v (length (number_text v)) = ap (number_up_to most_scope) c ∙ up_back most_scope v t g (omega arith) d
+    in let f : number_up_to most_scope (drop (w + 1) s) ≡ Some (v, (length (number_text v))) = ap (number_up_to most_scope) c ∙ up_back most_scope v t g (omega arith) d
     in record {
       width = w + 1 + length (number_text v);
-      head = ap head_here (head_parts m v t) ∙ ap (λ (r : NumberRead). mark_by r s) a ∙ head_on m w s e ∙ ap (start_by m (w + 1)) f;
+      head = ap head_here (head_parts m v t) ∙ ap (λ (r : Option (ℕ × ℕ)). mark_by r s) a ∙ head_on m w s e ∙ ap (start_by m (w + 1)) f;
       rest = ap (drop (w + 1 + length (number_text v))) (head_parts m v t) ∙ sym (drop-drop (length (number_text v)) (w + 1) s) ∙ ap (drop (length (number_text v))) c ∙ drop_at (number_text v) t (length (number_text v)) refl;
     }
 
@@ -350,7 +347,7 @@ written_then_read r h =
 
 -- what is written from parts is read back as the row that they make
 pub parts_then_read : PartsThenRead
-unfolding row_written
+unfolding row_written row_outcome
 parts_then_read mark start count letters scopes text e =
     let r = row_made mark start count letters scopes
     in let q = refuse_done (not (is_row r)) (row_text r) text e
@@ -362,7 +359,7 @@ parts_made [] = refl
 parts_made (s ∷ ss) = ap (λ (z : List Step). s ∷ z) (parts_made ss)
 
 pub read_then_parts : ReadThenParts
-unfolding row_written row_made refuse_if
+unfolding row_written row_outcome row_made refuse_if
 read_then_parts s r e =
     let q = read_then_written s r e
     in rw (parts_made r.steps, q.1, q.0)

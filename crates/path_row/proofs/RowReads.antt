@@ -8,22 +8,20 @@ use native.Mathlib.Omega.{arith}
 use lib.Dec.{ltb}
 use lib.ListN.{length, drop}
 use lib.Seq.{drop-length}
+use Rattle.std.specs.declared.option.Option.{Option}
+use Rattle.std.specs.declared.option.Option.TheVariants.{Some, None}
 use Rattle.text_field.specs.Outcome.{Outcome, refused, done, and_then}
 use Rattle.graph_rows.specs.Way.{is_empty}
 use Rattle.graph_rows.proofs.DecodeWay.{and_then_done, done_is}
-use Rattle.path_row.specs.declared.form.HeadRead.{HeadRead}
-use Rattle.path_row.specs.declared.form.HeadRead.TheVariants.{Head, NoHead}
-use Rattle.path_row.specs.declared.form.RowRead.{RowRead}
-use Rattle.path_row.specs.declared.form.RowRead.TheVariants.{Row, NoRow}
 use Rattle.path_row.specs.Form.{PathRow, most_steps, most_bytes, step_here, steps_of, after_steps, Front, head_meaning, head_here, behind_front, first_step, row_by, row_here, InLarge, in_large, row_in_large, row_meaning, steps_after, steps_in}
 use Rattle.path_row.proofs.FormLaws.{refuse_done, refuse_through}
 
 -- where a row's steps begin
-pub first_none : (s : List ℕ) (a : HeadRead) → head_meaning a ≡ head_here s → a ≡ NoHead → length s ≡ first_step s
+pub first_none : (s : List ℕ) (a : Option (ℕ × ℕ × ℕ)) → head_meaning a ≡ head_here s → a ≡ None → length s ≡ first_step s
 unfolding head_meaning first_step behind_front
 first_none s a e f = rw (← e, f)
 
-pub first_some : (s : List ℕ) (a : HeadRead) (m v w : ℕ) → head_meaning a ≡ head_here s → a ≡ Head m v w → w ≡ first_step s
+pub first_some : (s : List ℕ) (a : Option (ℕ × ℕ × ℕ)) (m v w : ℕ) → head_meaning a ≡ head_here s → a ≡ Some (m, v, w) → w ≡ first_step s
 unfolding head_meaning first_step behind_front
 first_some s a m v w e f = rw (← e, f)
 
@@ -56,12 +54,12 @@ steps_shown s r e =
     in rw c.1 (ap (λ (x : PathRow). x.steps) (sym q.1))
 
 -- what the reader's answer tells of the row
-read_refused : (o : Outcome PathRow) → row_meaning NoRow ≡ and_then o (λ r. done (in_large r)) → o ≡ refused 8
+read_refused : (o : Outcome PathRow) → row_meaning None ≡ and_then o (λ r. done (in_large r)) → o ≡ refused 8
 unfolding row_meaning and_then
 read_refused (refused n) e = let z : n ≡ 8 = cc in ap refused z
 read_refused (done r) e = absurd (let z : ◌≡◌ {A = ℕ} 0 1 = cc in omega arith)
 
-read_done : (s : List ℕ) (o : Outcome PathRow) (m start count : ℕ) → row_here s ≡ o → row_meaning (Row m start count) ≡ and_then o (λ r. done (in_large r)) → RowIs s m start count
+read_done : (s : List ℕ) (o : Outcome PathRow) (m start count : ℕ) → row_here s ≡ o → row_meaning (Some (m, start, count)) ≡ and_then o (λ r. done (in_large r)) → RowIs s m start count
 unfolding row_meaning and_then
 read_done s (refused n) m start count f e = absurd (let z : ◌≡◌ {A = ℕ} 0 1 = cc in omega arith)
 read_done s (done r) m start count f e =
@@ -75,11 +73,11 @@ read_done s (done r) m start count f e =
       steps = steps_shown s r f;
     }
 
-module _ (s : List ℕ) (a : RowRead) (e : row_meaning a ≡ row_in_large s) where
-  pub row_is_refused : a ≡ NoRow → row_here s ≡ refused 8
+module _ (s : List ℕ) (a : Option (ℕ × ℕ × ℕ)) (e : row_meaning a ≡ row_in_large s) where
+  pub row_is_refused : a ≡ None → row_here s ≡ refused 8
   unfolding row_in_large
   row_is_refused f = read_refused (row_here s) (ap row_meaning (sym f) ∙ e)
 
-  pub row_is : (m start count : ℕ) → a ≡ Row m start count → RowIs s m start count
+  pub row_is : (m start count : ℕ) → a ≡ Some (m, start, count) → RowIs s m start count
   unfolding row_in_large
   row_is m start count f = read_done s (row_here s) m start count refl (ap row_meaning (sym f) ∙ e)

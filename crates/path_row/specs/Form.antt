@@ -1,20 +1,13 @@
 -- The form of a path row, read and written (document 01, "Paths", the row `mark path`). Assumes
 -- nothing: these are definitions.
-use Rattle.std.specs.Prelude.{ℕ, zero, suc, ◌+◌, ◌-◌, List, [], ◌∷◌, ◌++◌, map, Bool, true, false, not, ◌&&◌, leb, ltb, length, get_or, drop, replicate}
-use Rattle.std.proofs.Math.Option.{Option, some, none}
-use Rattle.text_field.specs.declared.NumberRead.{NumberRead}
-use Rattle.text_field.specs.declared.NumberRead.TheVariants.{Number, NoNumber}
+use Rattle.std.specs.Prelude.{ℕ, zero, suc, ◌+◌, ◌-◌, List, [], ◌∷◌, ◌++◌, map, Bool, true, false, not, ◌&&◌, leb, ltb, length, get_or, take, drop, replicate}
+use Rattle.std.specs.declared.option.Option.{Option}
+use Rattle.std.specs.declared.option.Option.TheVariants.{Some, None}
 use Rattle.text_field.specs.Bytes.{is_capital}
 use Rattle.text_field.specs.Number.{number_text, number_here, number_placed, number_meaning}
 use Rattle.text_field.specs.Outcome.{Outcome, refused, done, and_then, refuse_if}
 use Rattle.graph_rows.specs.Way.{starts_with, is_empty}
 use Rattle.path_row.specs.declared.form.Step.{Step}
-use Rattle.path_row.specs.declared.form.HeadRead.{HeadRead}
-use Rattle.path_row.specs.declared.form.HeadRead.TheVariants.{Head, NoHead}
-use Rattle.path_row.specs.declared.form.RowRead.{RowRead}
-use Rattle.path_row.specs.declared.form.RowRead.TheVariants.{Row, NoRow}
-use Rattle.path_row.specs.declared.form.StepRead.{StepRead}
-use Rattle.path_row.specs.declared.form.StepRead.TheVariants.{Taken, NoStep}
 use Rattle.path_row.specs.declared.taken.Steps.{Steps}
 
 -- A path row taken apart. A step is a label's letter and the scope that it comes to.
@@ -37,38 +30,38 @@ abbrev pub most_bytes : ℕ
 most_bytes = 256
 
 -- a number that was read, unless it is past the greatest
-unfoldable pub at_most : ℕ → NumberRead → NumberRead
-at_most most (Number v width) = elim (ltb most v) [ true ↦ NoNumber | false ↦ Number v width ]
-at_most most NoNumber = NoNumber
+unfoldable pub at_most : ℕ → Option (ℕ × ℕ) → Option (ℕ × ℕ)
+at_most most (Some (v, width)) = elim (ltb most v) [ true ↦ None | false ↦ Some (v, width) ]
+at_most most None = None
 
 -- the number at the front, and how many bytes it takes, if it is at most `most`
-unfoldable pub number_up_to : ℕ → List ℕ → NumberRead
+unfoldable pub number_up_to : ℕ → List ℕ → Option (ℕ × ℕ)
 number_up_to most s = at_most most (number_here s)
 
 -- a step, by its letter and what is read after it
-unfoldable pub step_by : ℕ → NumberRead → StepRead
-step_by x (Number v width) = Taken x v (suc width)
-step_by x NoNumber = NoStep
+unfoldable pub step_by : ℕ → Option (ℕ × ℕ) → Option (Step × ℕ)
+step_by x (Some (v, width)) = Some (record { label = x; scope = v }, suc width)
+step_by x None = None
 
 -- the step at the front, and how many bytes it takes: one letter A to Z, listed or not, and a scope
-unfoldable pub step_here : List ℕ → StepRead
-step_here [] = NoStep
-step_here (x ∷ rest) = elim (is_capital x) [ true ↦ step_by x (number_up_to most_scope rest) | false ↦ NoStep ]
+unfoldable pub step_here : List ℕ → Option (Step × ℕ)
+step_here [] = None
+step_here (x ∷ rest) = elim (is_capital x) [ true ↦ step_by x (number_up_to most_scope rest) | false ↦ None ]
 
 -- the steps at the front, at most n of them
 unfoldable pub steps_of : ℕ → List ℕ → List Step
 steps_of zero s = []
-steps_of (suc n) s = elim (step_here s) [ Taken x v width ↦ record { label = x; scope = v } ∷ steps_of n (drop width s) | NoStep ↦ [] ]
+steps_of (suc n) s = elim (step_here s) [ Some p ↦ p.0 ∷ steps_of n (drop p.1 s) | None ↦ [] ]
 
 -- and what stands after them
 unfoldable pub after_steps : ℕ → List ℕ → List ℕ
 after_steps zero s = s
-after_steps (suc n) s = elim (step_here s) [ Taken x v width ↦ after_steps n (drop width s) | NoStep ↦ s ]
+after_steps (suc n) s = elim (step_here s) [ Some p ↦ after_steps n (drop p.1 s) | None ↦ s ]
 
 -- and where they end: how many bytes they take
 unfoldable pub steps_width : ℕ → List ℕ → ℕ
 steps_width zero s = 0
-steps_width (suc n) s = elim (step_here s) [ Taken x v width ↦ width + steps_width n (drop width s) | NoStep ↦ 0 ]
+steps_width (suc n) s = elim (step_here s) [ Some p ↦ p.1 + steps_width n (drop p.1 s) | None ↦ 0 ]
 
 -- A row's front: its mark, a space and its start, and how many bytes these take, which is the place
 -- of the first step.
@@ -82,13 +75,13 @@ front m v width = record { mark = m; start = v; width = width }
 
 -- what the answer of the front's reader means (01, "Where each language form goes"): these values,
 -- or refusal 8
-unfoldable pub head_meaning : HeadRead → Outcome Front
-head_meaning (Head m v width) = done (front m v width)
-head_meaning NoHead = refused 8
+unfoldable pub head_meaning : Option (ℕ × ℕ × ℕ) → Outcome Front
+head_meaning (Some (m, v, width)) = done (front m v width)
+head_meaning None = refused 8
 
 -- A row's front, by its mark, the bytes before its start, and what is read there: in a path row a
 -- number that is not there is refusal 8.
-unfoldable pub start_by : ℕ → ℕ → NumberRead → Outcome Front
+unfoldable pub start_by : ℕ → ℕ → Option (ℕ × ℕ) → Outcome Front
 start_by m before r = and_then (number_meaning 8 (number_placed before r)) (λ f. done (front m f.value f.next))
 
 -- by its mark and the place after that, where a space stands, or refusal 8
@@ -97,7 +90,7 @@ space_by m next s =
     elim (starts_with 32 (drop next s)) [ true ↦ start_by m (next + 1) (number_up_to most_scope (drop (next + 1) s)) | false ↦ refused 8 ]
 
 -- and by what is read as its mark
-unfoldable pub mark_by : NumberRead → List ℕ → Outcome Front
+unfoldable pub mark_by : Option (ℕ × ℕ) → List ℕ → Outcome Front
 mark_by r s = and_then (number_meaning 8 r) (λ f. space_by f.value f.next s)
 
 -- the front of a text, or refusal 8
@@ -138,9 +131,9 @@ row_in_large s = and_then (row_here s) (λ r. done (in_large r))
 
 -- what the answer of the row's reader means (01, "Where each language form goes"): these values, or
 -- refusal 8
-unfoldable pub row_meaning : RowRead → Outcome InLarge
-row_meaning (Row mark start count) = done (record { mark = mark; start = start; count = count })
-row_meaning NoRow = refused 8
+unfoldable pub row_meaning : Option (ℕ × ℕ × ℕ) → Outcome InLarge
+row_meaning (Some (mark, start, count)) = done (record { mark = mark; start = start; count = count })
+row_meaning None = refused 8
 
 -- The steps that stand behind a text's front, as far as they are of their form. Of a path row these
 -- are its steps, all of them; a text without a front has none.
@@ -157,9 +150,9 @@ abbrev pub no_step : Step
 no_step = record { label = 0; scope = 0 }
 
 -- what is read from place `at` on: the bytes it takes become the place after it
-unfoldable pub step_placed : ℕ → StepRead → StepRead
-step_placed at (Taken x v width) = Taken x v (at + width)
-step_placed at NoStep = NoStep
+unfoldable pub step_placed : ℕ → Option (Step × ℕ) → Option (Step × ℕ)
+step_placed at (Some (s, width)) = Some (s, at + width)
+step_placed at None = None
 
 -- a step in a text: the label's letter, the scope that it comes to, and the place after it
 pub record StepFound : Type 0 where
@@ -170,9 +163,9 @@ pub record StepFound : Type 0 where
 -- What the answer of the step's reader means (01, "Where each language form goes"): these values, or
 -- that no step stands there. By itself that is no refusal, since a row may end there: `row_by` tells
 -- where it is refusal 8.
-unfoldable pub step_meaning : StepRead → Option StepFound
-step_meaning (Taken x v next) = some (record { label = x; scope = v; next = next })
-step_meaning NoStep = none
+unfoldable pub step_meaning : Option (Step × ℕ) → Option StepFound
+step_meaning (Some (s, next)) = Some (record { label = s.label; scope = s.scope; next = next })
+step_meaning None = None
 
 -- the step at a place of a text, if one stands there
 abbrev pub step_from : ℕ → List ℕ → Option StepFound
@@ -209,19 +202,23 @@ scopes_in steps = map (λ (s : Step). s.scope) steps
 -- The steps that a value of the code's `Steps` holds: as many as it counts. A row is judged and
 -- compared by such a value, and the lent table gets its steps from the same one (01, "Paths").
 unfoldable pub steps_taken : Steps → List Step
-steps_taken t = steps_made t.count t.letters t.scopes
+steps_taken t = take t.count t.steps
 
--- The one value that is made of steps, 63 at most: their letters and their scopes, zeros behind
--- both, and their number.
-unfoldable pub padded : List ℕ → List ℕ
-padded numbers = numbers ++ replicate (most_steps - length numbers) 0
+-- The one value that is made of steps, 63 at most: the steps, steps of zeros behind them, and their
+-- number.
+unfoldable pub padded : List Step → List Step
+padded steps = steps ++ replicate (most_steps - length steps) no_step
 
 abbrev pub steps_held : List Step → Steps
-steps_held steps = record { letters = padded (letters_in steps); scopes = padded (scopes_in steps); count = length steps }
+steps_held steps = record { steps = padded steps; count = length steps }
+
+-- a row of a mark, a start and steps
+abbrev pub row_of : ℕ → ℕ → List Step → PathRow
+row_of mark start steps = record { mark = mark; start = start; steps = steps }
 
 -- with a mark and a start
 unfoldable pub row_made : ℕ → ℕ → ℕ → List ℕ → List ℕ → PathRow
-row_made mark start count letters scopes = record { mark = mark; start = start; steps = steps_made count letters scopes }
+row_made mark start count letters scopes = row_of mark start (steps_made count letters scopes)
 
 -- Can it be written in this form?
 unfoldable pub are_steps : List Step → Bool
@@ -231,8 +228,10 @@ are_steps (s ∷ ss) = is_capital s.label && (leb s.scope most_scope && are_step
 unfoldable pub is_row : PathRow → Bool
 is_row r = leb r.mark most_mark && (leb r.start most_scope && (leb (length r.steps) most_steps && are_steps r.steps))
 
--- The text of a row that is made from its parts, or refusal 8 (01, "Who can cause a refusal"):
--- parts that make no row of the form.
+-- The text of a row, or refusal 8 (01, "Who can cause a refusal") if it has not the form.
+unfoldable pub row_outcome : PathRow → Outcome (List ℕ)
+row_outcome r = refuse_if (not (is_row r)) 8 (done (row_text r))
+
+-- The text of a row that is made from its parts, or refusal 8: parts that make no row of the form.
 unfoldable pub row_written : ℕ → ℕ → ℕ → List ℕ → List ℕ → Outcome (List ℕ)
-row_written mark start count letters scopes =
-    refuse_if (not (is_row (row_made mark start count letters scopes))) 8 (done (row_text (row_made mark start count letters scopes)))
+row_written mark start count letters scopes = row_outcome (row_made mark start count letters scopes)

@@ -4,7 +4,7 @@ ghost use Rattle.text_field.specs.Number.{number_placed};
 ghost use Rattle.path_row.specs.Form.{most_steps, number_up_to, step_meaning, step_from, steps_of, steps_width};
 ghost use Rattle.path_row.specs.Form.{head_meaning, head_here, first_step, row_meaning, row_in_large};
 
-use text_field::{NumberRead, is_capital, read_number};
+use text_field::{is_capital, read_number};
 
 // A file has 64 scopes at most, so none has a number past 63.
 pub const MOST_SCOPE: u64 = 63;
@@ -18,63 +18,33 @@ pub const MOST_BYTES: usize = 256;
 
 // A step of a path: the label's letter, and the scope that it comes to.
 #[repr(C)]
-#[derive(Clone, Copy)]
+#[derive(Clone, Copy, PartialEq, Eq)]
 pub struct Step {
     pub label: u8,
     pub scope: u8,
 }
 
-// What stands at the front of a path row: its mark, its start, and the place after them.
-#[derive(Clone, Copy)]
-pub enum HeadRead {
-    Head(u64, u64, usize),
-    NoHead,
-}
-
-// The step at a place: its letter, its scope, and the place after it.
-#[derive(Clone, Copy)]
-pub enum StepRead {
-    Taken(u8, u8, usize),
-    NoStep,
-}
-
-// A path row in the large: its mark, its start, and how many steps it has.
-#[derive(Clone, Copy)]
-pub enum RowRead {
-    Row(u64, u64, usize),
-    NoRow,
-}
-
-// The number at a place, if it is at most `most`.
-fn number_up_to(s: &[u8], at: usize, most: u64) -> NumberRead
+// The number at a place and the place after it, if it is at most `most`.
+fn number_up_to(s: &[u8], at: usize, most: u64) -> Option<(u64, usize)>
     ensures answer { result ≡ number_placed at (number_up_to most (drop at s.now)) }
 {
-    let NumberRead::Number(v, next) = read_number(s, at) else {
-        return NumberRead::NoNumber;
-    };
+    let (v, next) = read_number(s, at)?;
     if most < v {
-        return NumberRead::NoNumber;
+        return None;
     }
-    NumberRead::Number(v, next)
+    Some((v, next))
 }
 
 // The mark and the start of a row, and the place of its first step.
-pub fn read_head(s: &[u8]) -> HeadRead
+pub fn read_head(s: &[u8]) -> Option<(u64, u64, usize)>
     ensures answer { head_meaning result ≡ head_here s.now }
 {
-    let NumberRead::Number(mark, next) = number_up_to(s, 0, MOST_MARK) else {
-        return HeadRead::NoHead;
-    };
-    if s.len() <= next {
-        return HeadRead::NoHead;
+    let (mark, next) = number_up_to(s, 0, MOST_MARK)?;
+    if *s.get(next)? != b' ' {
+        return None;
     }
-    if s[next] != b' ' {
-        return HeadRead::NoHead;
-    }
-    let NumberRead::Number(start, at) = number_up_to(s, next + 1, MOST_SCOPE) else {
-        return HeadRead::NoHead;
-    };
-    HeadRead::Head(mark, start, at)
+    let (start, at) = number_up_to(s, next + 1, MOST_SCOPE)?;
+    Some((mark, start, at))
 }
 
 // The place of a row's first step: after its mark, its space and its start. Of a text without
@@ -82,28 +52,27 @@ pub fn read_head(s: &[u8]) -> HeadRead
 pub fn first_step(s: &[u8]) -> usize
     ensures answer { result ≡ first_step s.now }
 {
-    let HeadRead::Head(_, _, first) = read_head(s) else {
-        return s.len();
-    };
-    first
+    match read_head(s) {
+        Some((_, _, first)) => first,
+        None => s.len(),
+    }
 }
 
-// The step at a place. Where there is none the steps have ended; whether they may end there is for
-// `read_row` to say.
-pub fn next_step(s: &[u8], at: usize) -> StepRead
+// The step at a place, and the place after it. Where there is none the steps have ended; whether
+// they may end there is for `read_row` to say.
+pub fn next_step(s: &[u8], at: usize) -> Option<(Step, usize)>
     ensures answer { step_meaning result ≡ step_from at s.now }
 {
-    if s.len() <= at {
-        return StepRead::NoStep;
+    let label = *s.get(at)?;
+    if !is_capital(label) {
+        return None;
     }
-    let x = s[at];
-    if !is_capital(x) {
-        return StepRead::NoStep;
-    }
-    let NumberRead::Number(v, next) = number_up_to(s, at + 1, MOST_SCOPE) else {
-        return StepRead::NoStep;
+    let (scope, next) = number_up_to(s, at + 1, MOST_SCOPE)?;
+    let step = Step {
+        label,
+        scope: scope as u8,
     };
-    StepRead::Taken(x, v as u8, next)
+    Some((step, next))
 }
 
 // How far steps go: how many there are, and the place after them.
@@ -119,16 +88,11 @@ pub fn walk(s: &[u8], at: usize) -> Walked
     ensures place { result.at ≡ at + steps_width most_steps (drop at s.now) }
 {
     let mut i = at;
-    let mut left: usize = MOST_STEPS;
-    while left > 0 {
-        let StepRead::Taken(_, _, next) = next_step(s, i) else {
-            return Walked {
-                count: MOST_STEPS - left,
-                at: i,
-            };
+    for count in 0..MOST_STEPS {
+        let Some((_, next)) = next_step(s, i) else {
+            return Walked { count, at: i };
         };
         i = next;
-        left -= 1;
     }
     Walked {
         count: MOST_STEPS,
@@ -136,19 +100,18 @@ pub fn walk(s: &[u8], at: usize) -> Walked
     }
 }
 
-// A path row in the large, or refusal 8.
-pub fn read_row(s: &[u8]) -> RowRead
+// A path row in the large: its mark, its start, and how many steps it has. Where there is none it
+// is refusal 8.
+pub fn read_row(s: &[u8]) -> Option<(u64, u64, usize)>
     ensures answer { row_meaning result ≡ row_in_large s.now }
 {
     if MOST_BYTES < s.len() {
-        return RowRead::NoRow;
+        return None;
     }
-    let HeadRead::Head(mark, start, first) = read_head(s) else {
-        return RowRead::NoRow;
-    };
+    let (mark, start, first) = read_head(s)?;
     let end = walk(s, first);
     if end.at < s.len() {
-        return RowRead::NoRow;
+        return None;
     }
-    RowRead::Row(mark, start, end.count)
+    Some((mark, start, end.count))
 }

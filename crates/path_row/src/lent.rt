@@ -4,7 +4,7 @@ ghost use Rattle.path_row.specs.Form.{steps_taken};
 ghost use Rattle.path_row.specs.Lent.{overlaid};
 
 use crate::form::Step;
-use crate::taken::{Steps, step_of};
+use crate::taken::Steps;
 
 // Puts the steps that were taken from a row into the first records of a table. The records behind
 // them stay as they were.
@@ -12,10 +12,6 @@ pub fn fill<'o>(out: &'o mut [Step], steps: Steps)
     requires room { steps.count ≤ length out.old }
     ensures memory { out.new ≡ overlaid (steps_taken steps) out.old }
 {
-    let n = steps.count;
-    let mut i = 0;
-    while i < n {
-        out[i] = step_of(steps, i);
-        i += 1;
-    }
+    let taken = steps.as_slice();
+    out[..taken.len()].copy_from_slice(taken);
 }

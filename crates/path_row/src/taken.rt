@@ -3,15 +3,30 @@
 ghost use Rattle.std.specs.Prelude.{◌≡◌, get_or, []};
 ghost use Rattle.path_row.specs.Form.{steps_in, no_step, steps_taken, steps_held};
 
-use crate::form::{MOST_STEPS, Step, StepRead, first_step, next_step};
-use text_field::byte_at;
+use crate::form::{MOST_STEPS, Step, first_step, next_step};
+use text_field::get_or;
 
-// The steps of a row: the letters and the scopes of the first `count`; behind them stands 0.
+// The steps of a row: the first `count`; behind them stand steps of zeros.
 #[derive(Clone, Copy)]
 pub struct Steps {
-    pub letters: [u8; 63],
-    pub scopes: [u8; 63],
+    pub steps: [Step; 63],
     pub count: usize,
+}
+
+impl Steps {
+    // The steps, as many as are counted.
+    pub fn as_slice(&self) -> &[Step]
+        ensures answer { result.now ≡ steps_taken self.now }
+    {
+        &self.steps[..self.count.min(MOST_STEPS)]
+    }
+
+    // Step i; past the last one, a step of zeros.
+    pub fn get(&self, i: usize) -> Step
+        ensures answer { result ≡ get_or (steps_taken self.now) i no_step }
+    {
+        get_or(self.as_slice(), i, Step { label: 0, scope: 0 })
+    }
 }
 
 // No steps, as after a refusal.
@@ -19,8 +34,7 @@ pub fn no_steps() -> Steps
     ensures answer { result ≡ steps_held [] }
 {
     Steps {
-        letters: [0u8; MOST_STEPS],
-        scopes: [0u8; MOST_STEPS],
+        steps: [Step { label: 0, scope: 0 }; MOST_STEPS],
         count: 0,
     }
 }
@@ -30,39 +44,17 @@ pub fn no_steps() -> Steps
 pub fn steps_of(row: &[u8]) -> Steps
     ensures answer { result ≡ steps_held (steps_in row.now) }
 {
-    let mut letters = [0u8; MOST_STEPS];
-    let mut scopes = [0u8; MOST_STEPS];
+    let mut steps = no_steps().steps;
     let mut at = first_step(row);
-    let mut count: usize = 0;
-    while count < MOST_STEPS {
-        let StepRead::Taken(x, v, next) = next_step(row, at) else {
-            return Steps {
-                letters,
-                scopes,
-                count,
-            };
+    for count in 0..MOST_STEPS {
+        let Some((step, next)) = next_step(row, at) else {
+            return Steps { steps, count };
         };
-        letters[count] = x;
-        scopes[count] = v;
+        steps[count] = step;
         at = next;
-        count += 1;
     }
     Steps {
-        letters,
-        scopes,
-        count,
-    }
-}
-
-// Step i of a row's steps; past the last one, a step of zeros.
-pub fn step_of(steps: Steps, i: usize) -> Step
-    ensures answer { result ≡ get_or (steps_taken steps) i no_step }
-{
-    if steps.count <= i {
-        return Step { label: 0, scope: 0 };
-    }
-    Step {
-        label: byte_at(&steps.letters, i, 0),
-        scope: byte_at(&steps.scopes, i, 0),
+        steps,
+        count: MOST_STEPS,
     }
 }

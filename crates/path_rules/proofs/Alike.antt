@@ -1,13 +1,17 @@
 -- Sets that meet the same vectors accept the same words, and stay alike along every label. Assumes
 -- nothing.
-use Prim.Native.Nat.{ℕ, zero, suc, ◌<◌, ◌≤◌}
+use Prim.Native.Nat.{ℕ, zero, suc, ◌+◌, ◌<◌}
 use mathlib.Core.Path.{◌≡◌, refl, sym, ap, ◌∙◌}
-use mathlib.Core.Bool.{Bool, true, false, not, false≢true}
+use mathlib.Core.Bool.{Bool, true, false, not, cond, false≢true}
 use mathlib.Core.Logic.{◌⊎◌, inl, inr, ⊎_elim}
 use mathlib.Core.List.Memᴰ
 use mathlib.Core.List.{List, [], ◌∷◌}
 use native.Mathlib.Omega.{arith}
 use lib.ListN.{length, get_or}
+use Rattle.std.specs.declared.option.Option.TheVariants.{Some, None}
+use Rattle.std.specs.List.{position_from}
+use Rattle.std.proofs.lemmas.Iterator.Adapters.{position_from-zero}
+use Rattle.std.proofs.lemmas.List.Quantifiers.{position-Some}
 use Rattle.scope_graph.specs.Language.{◌∈◌}
 use Rattle.scope_graph.proofs.Lists.{here, there, true_false}
 use Rattle.path_rules.specs.Sets.{meets}
@@ -82,28 +86,23 @@ pub meets_nothing : (v : ℕ) → meets 0 v ≡ false
 meets_nothing v = meets_none 0 v (λ x h k. true_false h (has_none x))
 
 -- the first place of a set that is the same
-pub place_found : (vs ss : List ℕ) (t : ℕ) → place_same vs ss t < length ss → same_on vs (get_or ss (place_same vs ss t) 0) t ≡ true
+pub place_found : (vs ss : List ℕ) (t j : ℕ) → place_same vs ss t ≡ Some j → (j < length ss) × (same_on vs (get_or ss j 0) t ≡ true)
 unfolding place_same
-place_found vs [] t h = absurd (omega arith)
-place_found vs (s ∷ ss) t h = by (same_on vs s t) refl h (place_found vs ss t)
-  where
-    by : (c : Bool) → same_on vs s t ≡ c → (elim c as (λ _. ℕ) [ true ↦ 0 | false ↦ suc (place_same vs ss t) ]) < suc (length ss)
-        → (place_same vs ss t < length ss → same_on vs (get_or ss (place_same vs ss t) 0) t ≡ true)
-        → same_on vs (get_or (s ∷ ss) (elim c as (λ _. ℕ) [ true ↦ 0 | false ↦ suc (place_same vs ss t) ]) 0) t ≡ true
-    by true e k ih = e
-    by false e k ih = ih (omega arith)
+place_found vs ss t j h = let (b, e, f) = position-Some (λ s. same_on vs s t) ss j 0 h in (b, e)
 
-pub place_none : (vs ss : List ℕ) (t : ℕ) → length ss ≤ place_same vs ss t → (i : ℕ) → i < length ss → same_on vs (get_or ss i 0) t ≡ false
-unfolding place_same
-place_none vs [] t h i b = absurd (omega arith)
-place_none vs (s ∷ ss) t h i b = by (same_on vs s t) refl h (place_none vs ss t) i b
+none_passes : (p : ℕ → Bool) (i : ℕ) (xs : List ℕ) → position_from p i xs ≡ None → (k : ℕ) → k < length xs → p (get_or xs k 0) ≡ false
+none_passes p i [] h k b = absurd (omega arith)
+none_passes p i (x ∷ xs) h k b = by (p x) refl h (none_passes p (i + 1) xs) k b
   where
-    by : (c : Bool) → same_on vs s t ≡ c → suc (length ss) ≤ (elim c as (λ _. ℕ) [ true ↦ 0 | false ↦ suc (place_same vs ss t) ])
-        → (length ss ≤ place_same vs ss t → (i : ℕ) → i < length ss → same_on vs (get_or ss i 0) t ≡ false)
-        → (i : ℕ) → i < suc (length ss) → same_on vs (get_or (s ∷ ss) i 0) t ≡ false
-    by true e k ih i b = absurd (omega arith)
-    by false e k ih zero b = e
-    by false e k ih (suc i) b = ih (omega arith) i (omega arith)
+    by : (c : Bool) → p x ≡ c → cond c (Some i) (position_from p (i + 1) xs) ≡ None
+        → (position_from p (i + 1) xs ≡ None → (k : ℕ) → k < length xs → p (get_or xs k 0) ≡ false) → (k : ℕ) → k < suc (length xs) → p (get_or (x ∷ xs) k 0) ≡ false
+    by true e h ih k b = absurd (cc)
+    by false e h ih zero b = e
+    by false e h ih (suc k) b = ih h k (omega arith)
+
+pub place_none : (vs ss : List ℕ) (t : ℕ) → place_same vs ss t ≡ None → (i : ℕ) → i < length ss → same_on vs (get_or ss i 0) t ≡ false
+unfolding place_same
+place_none vs ss t h i b = none_passes (λ s. same_on vs s t) 0 ss (sym (position_from-zero (λ s. same_on vs s t) ss) ∙ h) i b
 
 module _ (after labels : List ℕ) where
   abbrev Same : ℕ → ℕ → Type 0

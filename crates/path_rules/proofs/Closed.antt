@@ -19,8 +19,8 @@ use Rattle.scope_graph.specs.Rows.{any_of}
 use Rattle.scope_graph.proofs.Lists.{Two, here, there}
 use Rattle.scope_graph.proofs.Pigeon.{in_true, not_in, distinct_bounded}
 use Rattle.path_rules.specs.Table.{Over}
-use Rattle.path_rules.specs.Vectors.{end_set, before, Found, is_new, noted, note_turn, first_found, turns, vectors}
-use Rattle.path_rules.specs.Rules.{vectors_of}
+use Rattle.path_rules.specs.Vectors.{end_set, before, vectors_of, is_new, noted, note_turn, first_found, turns, vectors}
+use Rattle.path_rules.specs.declared.vectors.Found.{Found}
 use Rattle.path_rules.proofs.Fill.{below_suc}
 use Rattle.path_rules.proofs.VectorLaws.{vector_of, before_lt}
 

@@ -5,8 +5,12 @@ use mathlib.Core.Bool.{Bool, true, false, ◌&&◌, ◌||◌}
 use mathlib.Core.Option.{Option, some, none}
 use native.Mathlib.Omega.{arith}
 use native.Mathlib.Nat.{add-zero}
+use Rattle.std.specs.Option.{is_some}
+use Rattle.std.specs.declared.option.Option as std
+use Rattle.std.specs.declared.option.Option.TheVariants.{Some, None}
 use Rattle.path_rules.specs.Sets.{has, only_if}
 use Rattle.path_rules.specs.Parts.{empty_part, no_part, letter_part, seq_part, alt_part, star_part}
+use Rattle.path_rules.specs.Reading.{seq_with}
 use Rattle.path_rules.specs.Expression.{Expr, letter, star, size}
 use Rattle.path_rules.specs.declared.reading.Part.{Part}
 use Rattle.path_rules.proofs.SetLaws.{has_or, has_only, has_none, has_one}
@@ -39,6 +43,23 @@ pub record PartOf (u : Bool) (o : Option Expr) (n : ℕ) (part : Part) : Type 0 
   pub null : part.nullable ≡ null_o u o
   pub firsts : (x : ℕ) → has part.first x ≡ first_o o n x
   pub lasts : (x : ℕ) → has part.last x ≡ last_o o n x
+
+-- the item being read, and its part: there are both or neither
+abbrev pub ItemOf : Option Expr → ℕ → std.Option Part → Type 0
+ItemOf none n None = Unit {0}
+ItemOf none n (Some p) = ⊥
+ItemOf (some e) n None = ⊥
+ItemOf (some e) n (Some p) = PartOf true (some e) n p
+
+abbrev pub there : Option Expr → Bool
+there none = false
+there (some e) = true
+
+pub item_there : (i : Option Expr) (n : ℕ) (q : std.Option Part) → ItemOf i n q → is_some q ≡ there i
+item_there none n None h = refl
+item_there none n (Some q) h = absurd h
+item_there (some e) n None h = absurd h
+item_there (some e) n (Some q) h = refl
 
 and_true : (b : Bool) → b ≡ (b && true)
 and_true true = refl
@@ -85,6 +106,16 @@ seq_of a b n p q h k = record {
       has_or q.last (only_if q.nullable p.last) x
       ∙ rw (has_only q.nullable p.last x, h.lasts x, k.lasts x, k.null) (last_seq a b n x);
 }
+
+-- with an item that may be missing
+pub seq_with_of : (b i : Option Expr) (n : ℕ) (p : Part) (q : std.Option Part) → PartOf true b n p → ItemOf i (n + size_o b) q
+    → PartOf true (seq_o b i) n (seq_with p q)
+unfolding seq_with
+seq_with_of none none n p None h k = h
+seq_with_of (some b) none n p None h k = h
+seq_with_of b none n p (Some q) h k = absurd k
+seq_with_of b (some e) n p None h k = absurd k
+seq_with_of b (some e) n p (Some q) h k = seq_of b (some e) n p q h k
 
 null_alt : (a : Option Expr) (e : Expr) → (null_o false a || nullable e) ≡ null_o false (alt_o a (some e))
 unfolding nullable

@@ -1,56 +1,75 @@
 -- The value of specs/Promises. Assumes nothing.
-use Prim.Native.Nat.{ℕ, ◌≤◌}
-use mathlib.Core.Path.{◌≡◌, sym, ap, ◌∙◌}
+use Prim.Native.Nat.{ℕ, ◌*◌, ◌≤◌}
+use mathlib.Core.Path.{◌≡◌, refl, sym, ◌∙◌, subst}
 use mathlib.Core.Bool.{true, false}
 use mathlib.Core.Logic.{◌⊎◌, inl, inr, ⊎_elim, ◌↔◌}
 use mathlib.Core.List.{List}
 use native.Mathlib.Omega.{arith}
 use lib.Dec.{ltb}
-use lib.ListN.{length}
+use lib.ListN.{length, take}
 use borrow.Author.Tests.{ltb-true, ltb-false}
+use Rattle.std.specs.declared.option.Option.{Option}
+use Rattle.std.specs.declared.option.Option.TheVariants.{Some, None}
+use Rattle.std.specs.declared.result.Result.{Result}
+use Rattle.std.specs.declared.result.Result.TheVariants.{Ok, Err}
+use Rattle.text_field.specs.declared.refusal.Refusal.{Refusal}
+use Rattle.text_field.specs.declared.refusal.Refusal.TheVariants.{NoExpression, TooManyStates}
 use Rattle.scope_graph.proofs.Lists.{Two}
-use Rattle.path_rules.specs.Expression.{Expr}
+use Rattle.path_rules.specs.Expression.{Expr, In}
 use Rattle.path_rules.specs.Grammar.{Expression, sides}
-use Rattle.path_rules.specs.Reading.{fresh, merged, chosen, read_all}
-use Rattle.path_rules.specs.Rules.{is_whole, after_end, start_set, refused_by, table_of, walk_of, whole_rules, rules_of}
-use Rattle.path_rules.specs.Promises.{RowPromises, Promises}
+use Rattle.path_rules.specs.Reading.{fresh, read_all}
+use Rattle.path_rules.specs.Rules.{is_whole, after_end, start_set, table_of, walk_of, rules_from, whole_rules, read_whole, rules_of, next_in, accepts_in}
+use Rattle.path_rules.specs.Table.{Decides, Met}
+use Rattle.path_rules.specs.Promises.{AtLeast, RowPromises, Promises}
+use Rattle.path_rules.specs.declared.Rules.{Rules}
 use Rattle.path_rules.specs.declared.reading.Reading.{Reading}
 use Rattle.path_rules.specs.declared.walk.Walk.{Walk}
-use Rattle.path_rules.proofs.Ends.{rules_long, rules_part, rules_whole}
-use Rattle.path_rules.proofs.ReadingLaws.{ready, taken, one_tree}
-use Rattle.path_rules.proofs.TableLaws.{Below, below_up, reads_below, made, table_decides, table_fewest, table_met, table_over, walked_few}
+use Rattle.path_rules.proofs.Ends.{whole_long, whole_none, whole_not, rules_none, rules_whole}
+use Rattle.path_rules.proofs.ReadingLaws.{Ready, ready, taken, one_tree}
+use Rattle.path_rules.proofs.TableLaws.{Below, below_up, reads_below, table_decides, table_fewest, table_met, table_over, walked_few}
 
--- a table is refused by 13 or by nothing
-table_refusal_lem : (w : Walk) → ((table_of w).refusal ≡ 13) ⊎ ((table_of w).refusal ≡ 0)
-unfolding table_of
-table_refusal_lem w = by (Two w.over)
+-- no table is refused by 12
+table_taken : (o : Option Walk) → rules_from o ≡ Err NoExpression → ⊥
+unfolding rules_from
+table_taken None h = cc
+table_taken (Some w) h = cc
+
+-- an expression is refused by 12 or 13
+pub faults : (labels text : List ℕ) (f : Refusal) → rules_of labels text ≡ Err f → (f ≡ NoExpression) ⊎ (f ≡ TooManyStates)
+unfolding rules_of whole_rules rules_from
+faults labels text f h = by (read_whole labels text) h
   where
-    by : (w.over ≡ true) ⊎ (w.over ≡ false) → ((table_of w).refusal ≡ 13) ⊎ ((table_of w).refusal ≡ 0)
-    by (inl e) = inl (rw (e, table_of))
-    by (inr e) = inr (rw (e, table_of))
+    from : (o : Option Walk) → rules_from o ≡ Err f → (f ≡ NoExpression) ⊎ (f ≡ TooManyStates)
+    from None e = inr cc
+    from (Some w) e = absurd (cc)
 
-whole_refusal : (s : Reading) → ((whole_rules s).refusal ≡ 13) ⊎ ((whole_rules s).refusal ≡ 0)
-unfolding whole_rules
-whole_refusal s = table_refusal_lem (walk_of (after_end s) s.labels (start_set s.alt))
+    by : (o : Option Reading) → (elim o as (λ _. Result Rules Refusal) [ None ↦ Err NoExpression | Some s ↦ whole_rules s ]) ≡ Err f
+        → (f ≡ NoExpression) ⊎ (f ≡ TooManyStates)
+    by None e = inl cc
+    by (Some s) e = from (walk_of (after_end s) s.labels (start_set s.alt)) e
 
 module _ (labels text : List ℕ) where
-  abbrev read : Reading
-  read = read_all labels fresh text
-
-  taken_both : (¬ ((rules_of labels text).refusal ≡ 12)) ↔ ((e : Expr) × Expression labels e text)
-  taken_both = (forth (Two (ltb 64 (length text))) (Two (is_whole read)), back)
+  taken_both : (¬ (rules_of labels text ≡ Err NoExpression)) ↔ ((e : Expr) × Expression labels e text)
+  unfolding whole_rules
+  taken_both = (forth, back)
     where
-      forth : (ltb 64 (length text) ≡ true) ⊎ (ltb 64 (length text) ≡ false) → (is_whole read ≡ true) ⊎ (is_whole read ≡ false)
-          → ¬ ((rules_of labels text).refusal ≡ 12) → (e : Expr) × Expression labels e text
-      forth (inl l) w h = absurd (h (ap (λ r. r.refusal) (sym (rules_long labels text (ltb-true _ _ l)))))
-      forth (inr l) (inl w) h = taken labels text (ltb-false _ _ l) w
-      forth (inr l) (inr w) h = absurd (h (ap (λ r. r.refusal) (sym (rules_part labels text (ltb-false _ _ l) w))))
+      forth : ¬ (rules_of labels text ≡ Err NoExpression) → (e : Expr) × Expression labels e text
+      forth h = by (Two (ltb 64 (length text))) (read_all labels fresh text) refl
+        where
+          no : None ≡ read_whole labels text → ⊥
+          no n = h (sym (rules_none labels text n))
 
-      back : (e : Expr) × Expression labels e text → ¬ ((rules_of labels text).refusal ≡ 12)
+          by : (ltb 64 (length text) ≡ true) ⊎ (ltb 64 (length text) ≡ false) → (o : Option Reading) → read_all labels fresh text ≡ o
+              → (e : Expr) × Expression labels e text
+          by (inl l) o r = absurd (no (whole_long labels text (ltb-true _ _ l)))
+          by (inr l) None r = absurd (no (whole_none labels text (ltb-false _ _ l) r))
+          by (inr l) (Some s) r =
+              ⊎_elim (λ w. taken labels text s (ltb-false _ _ l) r w) (λ w. absurd (no (whole_not labels text s (ltb-false _ _ l) r w))) (Two (is_whole s))
+
+      back : (e : Expr) × Expression labels e text → ¬ (rules_of labels text ≡ Err NoExpression)
       back (e, x) h =
           let r = ready labels e text x in
-          ⊎_elim (λ k. omega (arith, k, ap (λ r. r.refusal) (rules_whole labels text x.bytes r.whole) ∙ h))
-          (λ k. omega (arith, k, ap (λ r. r.refusal) (rules_whole labels text x.bytes r.whole) ∙ h)) (whole_refusal (chosen (merged read)))
+          table_taken (walk_of (after_end r.whole) r.whole.labels (start_set r.whole.alt)) (rules_whole labels text r.whole (sym r.read) ∙ h)
 
   module _ (e : Expr) (eight : length labels ≤ 8) (x : Expression labels e text) where
     low : Below (length labels) e
@@ -59,52 +78,57 @@ module _ (labels text : List ℕ) where
     low_eight : Below 8 e
     low_eight = below_up (length labels) 8 e eight low
 
-    abbrev whole : Reading
-    whole = chosen (merged read)
+    abbrev it : Ready labels e text
+    it = ready labels e text x
 
-    abbrev walk : Walk
-    walk = walk_of (after_end whole) whole.labels (start_set whole.alt)
+    abbrev walk : Option Walk
+    walk = walk_of (after_end it.whole) it.whole.labels (start_set it.whole.alt)
 
-    made_is : (o : walk.over ≡ false)
-        → rules_of labels text ≡ made e whole (ready labels e text x).letters (ready labels e text x).tracked (length labels) eight low o
-    unfolding whole_rules table_of
-    made_is o = sym (rules_whole labels text x.bytes (ready labels e text x).whole) ∙ rw (o, table_of)
+    made_is : (w : Walk) → walk ≡ Some w → rules_of labels text ≡ Ok (table_of w)
+    unfolding whole_rules rules_from
+    made_is w o = sym (rules_whole labels text it.whole (sym it.read)) ∙ rw (o, rules_from)
 
-    over_is : walk.over ≡ true → rules_of labels text ≡ refused_by 13
-    unfolding whole_rules table_of
-    over_is o = sym (rules_whole labels text x.bytes (ready labels e text x).whole) ∙ rw (o, table_of)
+    over_is : walk ≡ None → rules_of labels text ≡ Err TooManyStates
+    unfolding whole_rules rules_from
+    over_is o = sym (rules_whole labels text it.whole (sym it.read)) ∙ rw (o, rules_from)
 
     row_promises : RowPromises labels text e
-    row_promises = by (Two walk.over)
+    unfolding table_of
+    row_promises = by walk refl
       where
-        by : (walk.over ≡ true) ⊎ (walk.over ≡ false) → RowPromises labels text e
-        by (inl o) =
+        by : (o : Option Walk) → walk ≡ o → RowPromises labels text e
+        by None o =
             let z = over_is o in
-            let many = table_over e whole (ready labels e text x).letters (ready labels e text x).tracked (length labels) eight low o in
-            let no : (rules_of labels text).refusal ≡ 0 → ⊥ = λ h. (let y : ◌≡◌ {A = ℕ} 13 0 = sym (ap (λ r. r.refusal) z) ∙ h in omega arith) in
+            let many = table_over e it.whole it.letters it.tracked (length labels) eight low o in
+            let no : (r : Rules) → rules_of labels text ≡ Ok r → ⊥ = λ r h. (let y : ◌≡◌ {A = Result Rules Refusal} (Err TooManyStates) (Ok r) = sym z ∙ h in cc) in
             record {
-              too_many = ((λ h. many), λ h. ap (λ r. r.refusal) z);
-              refused = λ h. absurd (h (ap (λ r. r.refusal) z));
-              decides = λ h. absurd (no h);
-              fewest = λ h. absurd (no h);
-              few = rw z (omega arith);
-              numbered = λ h. absurd (no h);
+              too_many = ((λ h. many), λ h. z);
+              refused = λ h. absurd (h z);
+              decides = λ r h. absurd (no r h);
+              fewest = λ r h. absurd (no r h);
+              few = λ r h. absurd (no r h);
+              numbered = λ r h. absurd (no r h);
             }
-        by (inr o) =
-            let z = made_is o in
-            let d = table_decides e whole (ready labels e text x).letters (ready labels e text x).tracked (length labels) eight low o in
-            let all = table_decides e whole (ready labels e text x).letters (ready labels e text x).tracked 8 (omega arith) low_eight o in
-            let b = walked_few e whole (ready labels e text x).letters (ready labels e text x).tracked (length labels) eight low in
+        by (Some w) o =
+            let z = made_is w o in
+            let d = table_decides e it.whole it.letters it.tracked (length labels) eight low w o in
+            let all = table_decides e it.whole it.letters it.tracked 8 (omega arith) low_eight w o in
+            let b = walked_few e it.whole it.letters it.tracked (length labels) eight low w o in
+            let is : (r : Rules) → rules_of labels text ≡ Ok r → table_of w ≡ r = λ r h. (let y : ◌≡◌ {A = Result Rules Refusal} (Ok (table_of w)) (Ok r) = sym z ∙ h in cc) in
             record {
               too_many = (
-                (λ h. absurd (let y : ◌≡◌ {A = ℕ} 0 13 = sym (ap (λ r. r.refusal) z) ∙ h in omega arith)),
-                λ h. absurd (let y = h walk.states _ _ d in omega arith),
+                (λ h. absurd (let y : ◌≡◌ {A = Result Rules Refusal} (Ok (table_of w)) (Err TooManyStates) = sym z ∙ h in cc)),
+                λ h. absurd (let y = h w.states _ _ d in omega arith),
               );
-              refused = λ h. ap (λ r. r.refusal) z;
-              decides = λ h. rw z all;
-              fewest = λ h. rw z (table_fewest e whole (ready labels e text x).letters (ready labels e text x).tracked (length labels) eight low o);
-              few = rw z b;
-              numbered = λ h. rw z (table_met e whole (ready labels e text x).letters (ready labels e text x).tracked (length labels) eight low o);
+              refused = λ h. (table_of w, z);
+              decides = λ r h. subst (λ r. Decides 8 (In e) r.states (next_in r) (accepts_in r)) (is r h) all;
+              fewest = λ r h.
+                  subst (λ r. AtLeast (length labels) (In e) r.states) (is r h)
+                  (table_fewest e it.whole it.letters it.tracked (length labels) eight low w o);
+              few = λ r h. subst (λ r. r.states ≤ 16) (is r h) b;
+              numbered = λ r h.
+                  subst (λ r. Met (take (r.states * 8) r.next) r.states) (is r h)
+                  (table_met e it.whole it.letters it.tracked (length labels) eight low w o);
             }
 
 pub promises : Promises

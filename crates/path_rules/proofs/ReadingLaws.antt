@@ -7,34 +7,21 @@ use mathlib.Core.List.{List, [], ◌∷◌, append-nil}
 use native.Mathlib.Omega.{arith}
 use lib.Dec.{eqb, ltb}
 use lib.ListN.{length}
-use borrow.Author.Tests.{lt-ltb, ltb-true, eqb-true}
-use Rattle.scope_graph.proofs.Lists.{and_left, and_right, true_false}
+use borrow.Author.Tests.{lt-ltb, le-ltb, ltb-true, eqb-true}
+use Rattle.scope_graph.proofs.Lists.{and_left, and_right}
+use Rattle.std.specs.Option.{is_some}
+use Rattle.std.specs.declared.option.Option as std
+use Rattle.std.specs.declared.option.Option.TheVariants.{Some, None}
 use Rattle.path_rules.specs.Expression.{Expr, seq, alt, size}
 use Rattle.path_rules.specs.Grammar.{Expression, sides, place_of}
-use Rattle.path_rules.specs.Reading.{fresh, spoiled, merged, chosen, popped, placed, opened, closed, starred, barred, lettered, by_kind, read_byte, read_all}
-use Rattle.path_rules.specs.Rules.{is_whole}
+use Rattle.path_rules.specs.Reading.{fresh, merged, chosen, popped, repeated, placed, opened, closed, starred, barred, lettered, by_kind, read_byte, read_all}
+use Rattle.path_rules.specs.Rules.{is_whole, whole_of, read_whole}
+use Rattle.path_rules.specs.declared.reading.Part.{Part}
 use Rattle.path_rules.specs.declared.reading.Reading.{Reading}
 use Rattle.path_rules.proofs.Trees.{seq_o, alt_o, Frame, Tree, tree, close_tree, star_tree, bar_tree, letter_tree, tree_kind, tree_byte, tree_all, goes}
+use Rattle.path_rules.proofs.PartLaws.{ItemOf, there, item_there}
 use Rattle.path_rules.proofs.TreeTexts.{held_all, held_none, held_whole}
-use Rattle.path_rules.proofs.Tracks.{there, Tracks, tracks_fresh, tracks_merged, tracks_chosen, tracks_pushed, tracks_popped, tracks_repeated, tracks_placed, sizes}
-
--- a reading that is spoiled stays so
-pick_bad : (c : Bool) (a b : Reading) → a.good ≡ false → b.good ≡ false → (elim c as (λ _. Reading) [ true ↦ a | false ↦ b ]).good ≡ false
-pick_bad true a b h k = h
-pick_bad false a b h k = k
-
-bad_kind : (x y z w : Bool) (s : Reading) (l : ℕ) → s.good ≡ false → (by_kind x y z w s l).good ≡ false
-unfolding by_kind opened closed starred barred lettered
-bad_kind true y z w s l h = pick_bad (ltb s.depth 64) _ _ h refl
-bad_kind false true z w s l h = pick_bad (s.filled && ltb 0 s.depth) _ _ h refl
-bad_kind false false true w s l h = pick_bad s.filled _ _ h refl
-bad_kind false false false true s l h = pick_bad s.filled _ _ h refl
-bad_kind false false false false s l h = pick_bad (ltb l 8 && ltb s.letters 10) _ _ h refl
-
-bad_all : (ls : List ℕ) (s : Reading) (bs : List ℕ) → s.good ≡ false → (read_all ls s bs).good ≡ false
-unfolding read_all read_byte
-bad_all ls s [] h = h
-bad_all ls s (b ∷ bs) h = bad_all ls (read_byte ls s b) bs (bad_kind (eqb b 40) (eqb b 41) (eqb b 42) (eqb b 124) s (place_of 0 b ls) h)
+use Rattle.path_rules.proofs.Tracks.{Tracks, tracks_fresh, tracks_merged, tracks_chosen, tracks_pushed, tracks_popped, tracks_repeated, tracks_placed, sizes}
 
 some_seq : (b : Option Expr) (a : Expr) → (e : Expr) × (seq_o b (some a) ≡ some e)
 some_seq none a = (a, refl)
@@ -45,9 +32,15 @@ some_alt none a = (a, refl)
 some_alt (some c) a = (alt c a, refl)
 
 -- what the one does, the other does
-abbrev Follow : Option Tree → Reading → Type 0
-Follow none s = s.good ≡ false
-Follow (some u) s = Tracks u s
+abbrev Follow : Option Tree → std.Option Reading → Type 0
+Follow none None = Unit {0}
+Follow none (Some s) = ⊥
+Follow (some u) None = ⊥
+Follow (some u) (Some s) = Tracks u s
+
+read_one : (u : Tree) (r : std.Option Reading) → Follow (some u) r → (s : Reading) × (r ≡ Some s) × Tracks u s
+read_one u None h = absurd h
+read_one u (Some s) h = (s, refl, h)
 
 -- with an item, the whole choice
 tracks_whole : (c b : Option Expr) (a : Expr) (st : List Frame) (n : ℕ) (s : Reading) → Tracks (tree c b (some a) st n) s
@@ -60,8 +53,8 @@ tracks_whole c b a st n s h =
 
 tracks_close : (c b i : Option Expr) (st : List Frame) (n : ℕ) (s : Reading) → Tracks (tree c b i st n) s → Follow (close_tree i st (tree c b i st n)) (closed s)
 unfolding closed
-tracks_close c b none st n s h = rw (h.filled, closed)
-tracks_close c b (some a) [] n s h = rw (h.filled, h.depth, closed)
+tracks_close c b none st n s h = rw (item_there none (sizes ((c, b) ∷ st)) s.atom h.item, closed) tt
+tracks_close c b (some a) [] n s h = rw (item_there (some a) (sizes ((c, b) ∷ [])) s.atom h.item, h.depth, closed) tt
 tracks_close c b (some a) (f ∷ fs) n s h =
     let m = tracks_whole c b a (f ∷ fs) n s h in
     let (e, k) = some_seq b a in
@@ -69,22 +62,28 @@ tracks_close c b (some a) (f ∷ fs) n s h =
     let q : alt_o c (seq_o b (some a)) ≡ some v = ap (alt_o c) k ∙ g in
     let r = tracks_popped v f.0 f.1 fs n (chosen (merged s)) (subst (λ o. Tracks (tree o none none (f ∷ fs) n) (chosen (merged s))) q m) in
     let d : 0 < s.depth = (let y = h.depth in omega arith) in
-    rw (h.filled, lt-ltb 0 s.depth d, closed) (subst (λ o. Tracks (tree f.0 f.1 o fs n) (popped (chosen (merged s)))) (sym q) r)
+    rw (item_there (some a) (sizes ((c, b) ∷ f ∷ fs)) s.atom h.item, lt-ltb 0 s.depth d, closed) (subst (λ o. Tracks (tree f.0 f.1 o fs n) (popped (chosen (merged s)))) (sym q) r)
 
 tracks_star : (c b i : Option Expr) (st : List Frame) (n : ℕ) (s : Reading) → Tracks (tree c b i st n) s → Follow (star_tree i (tree c b i st n)) (starred s)
 unfolding starred
-tracks_star c b none st n s h = rw (h.filled, starred)
-tracks_star c b (some a) st n s h = rw (h.filled, starred) (tracks_repeated c b a st n s h)
+tracks_star c b i st n s h = by i s.atom h h.item
+  where
+    by : (i : Option Expr) (q : std.Option Part) → Tracks (tree c b i st n) s → ItemOf i (sizes ((c, b) ∷ st)) q
+        → Follow (star_tree i (tree c b i st n)) (elim q as (λ _. std.Option Reading) [ None ↦ None | Some a ↦ Some (repeated s a) ])
+    by none None h k = tt
+    by none (Some q) h k = absurd k
+    by (some a) None h k = absurd k
+    by (some a) (Some q) h k = tracks_repeated c b a st n s q h k
 
 tracks_bar : (c b i : Option Expr) (st : List Frame) (n : ℕ) (s : Reading) → Tracks (tree c b i st n) s → Follow (bar_tree i (tree c b i st n)) (barred s)
 unfolding barred
-tracks_bar c b none st n s h = rw (h.filled, barred)
-tracks_bar c b (some a) st n s h = rw (h.filled, barred) (tracks_whole c b a st n s h)
+tracks_bar c b none st n s h = rw (item_there none (sizes ((c, b) ∷ st)) s.atom h.item, barred) tt
+tracks_bar c b (some a) st n s h = rw (item_there (some a) (sizes ((c, b) ∷ st)) s.atom h.item, barred) (tracks_whole c b a st n s h)
 
 tracks_letter_by : (c : Bool) (t : Tree) (l : ℕ) (s : Reading) → Tracks t s → (c ≡ true → t.letters < 10)
-    → Follow (letter_tree c t l) (elim c as (λ _. Reading) [ true ↦ placed (merged s) l | false ↦ spoiled s ])
+    → Follow (letter_tree c t l) (elim c as (λ _. std.Option Reading) [ true ↦ Some (placed (merged s) l) | false ↦ None ])
 tracks_letter_by true t l s h b = tracks_placed t.choice (seq_o t.before t.item) t.stack t.letters l (merged s) (b refl) (tracks_merged t s h)
-tracks_letter_by false t l s h b = refl
+tracks_letter_by false t l s h b = tt
 
 tracks_letter : (t : Tree) (l : ℕ) (s : Reading) → Tracks t s → Follow (letter_tree (ltb l 8 && ltb t.letters 10) t l) (lettered s l)
 unfolding lettered
@@ -137,14 +136,18 @@ module _ (ls : List ℕ) where
   unfolding tree_all read_all tree_byte read_byte
   tracks_all [] t s b h = h
   tracks_all (x ∷ bs) t s b h =
-      by (tree_byte ls t x) (tracks_kind (eqb x 40) (eqb x 41) (eqb x 42) (eqb x 124) t (place_of 0 x ls) s (omega arith) h)
+      by (tree_byte ls t x) (read_byte ls s x)
+      (tracks_kind (eqb x 40) (eqb x 41) (eqb x 42) (eqb x 124) t (place_of 0 x ls) s (omega arith) h)
       (grown_kind (eqb x 40) (eqb x 41) (eqb x 42) (eqb x 124) t (place_of 0 x ls)) (λ u. tracks_all bs u)
     where
-      by : (o : Option Tree) → Follow o (read_byte ls s x) → Grown (length t.stack) o
+      by : (o : Option Tree) (r : std.Option Reading) → Follow o r → Grown (length t.stack) o
           → ((u : Tree) (r : Reading) → length u.stack + length bs ≤ 64 → Tracks u r → Follow (tree_all ls u bs) (read_all ls r bs))
-          → Follow (elim o as (λ _. Option Tree) [ none ↦ none | some u ↦ tree_all ls u bs ]) (read_all ls (read_byte ls s x) bs)
-      by none k g ih = bad_all ls (read_byte ls s x) bs k
-      by (some u) k g ih = ih u (read_byte ls s x) (omega arith) k
+          → Follow (elim o as (λ _. Option Tree) [ none ↦ none | some u ↦ tree_all ls u bs ])
+          (elim r as (λ _. std.Option Reading) [ None ↦ None | Some q ↦ read_all ls q bs ])
+      by none None k g ih = tt
+      by none (Some q) k g ih = absurd k
+      by (some u) None k g ih = absurd k
+      by (some u) (Some q) k g ih = ih u q (omega arith) k
 
   none_stack : (st : List Frame) → length st ≡ 0 → st ≡ []
   none_stack [] e = refl
@@ -157,19 +160,25 @@ module _ (ls : List ℕ) where
   -- what is read to the end: the positions are the expression's
   pub record Ready (e : Expr) (text : List ℕ) : Type 0 where
     pub letters : ℕ
-    pub whole : is_whole (read_all ls fresh text) ≡ true
-    pub tracked : Tracks (tree (some e) none none [] letters) (chosen (merged (read_all ls fresh text)))
+    pub whole : Reading
+    pub read : read_whole ls text ≡ Some whole
+    pub tracked : Tracks (tree (some e) none none [] letters) whole
+
+  read_is : (text : List ℕ) (s : Reading) → length text ≤ 64 → read_all ls fresh text ≡ Some s → is_whole s ≡ true → read_whole ls text ≡ Some (chosen (merged s))
+  unfolding read_whole whole_of
+  read_is text s len r w = rw (le-ltb 64 (length text) len, r, read_whole, w, whole_of)
 
   ready_from : (e a : Expr) (c b : Option Expr) (n : ℕ) (text : List ℕ) → length text ≤ 64 → tree_all ls (tree none none none [] 0) text ≡ some (tree c b (some a) [] n)
       → alt_o c (seq_o b (some a)) ≡ some e → Ready e text
   unfolding is_whole
   ready_from e a c b n text len h v =
-      let k : Tracks (tree c b (some a) [] n) (read_all ls fresh text) =
-      subst (λ o. Follow o (read_all ls fresh text)) h (tracks_all text (tree none none none [] 0) fresh (omega arith) tracks_fresh) in
+      let (s, r, k) = read_one (tree c b (some a) [] n) (read_all ls fresh text)
+      (subst (λ o. Follow o (read_all ls fresh text)) h (tracks_all text (tree none none none [] 0) fresh (omega arith) tracks_fresh)) in
       record {
         letters = n;
-        whole = rw (k.good, k.filled, k.depth);
-        tracked = subst (λ o. Tracks (tree o none none [] n) (chosen (merged (read_all ls fresh text)))) v (tracks_whole c b a [] n _ k);
+        whole = chosen (merged s);
+        read = read_is text s len r (rw (item_there (some a) (sizes ((c, b) ∷ [])) s.atom k.item, k.depth, is_whole));
+        tracked = subst (λ o. Tracks (tree o none none [] n) (chosen (merged s))) v (tracks_whole c b a [] n s k);
       }
 
   -- a text of the grammar is read
@@ -180,25 +189,26 @@ module _ (ls : List ℕ) where
       ready_from e a c b (0 + size e) text x.bytes (subst (λ y. tree_all ls (tree none none none [] 0) y ≡ some (tree c b (some a) [] (0 + size e))) (append-nil text) h) v
 
   -- a text that is read is one of the grammar
-  pub taken : (text : List ℕ) → length text ≤ 64 → is_whole (read_all ls fresh text) ≡ true → (e : Expr) × Expression ls e text
+  pub taken : (text : List ℕ) (s : Reading) → length text ≤ 64 → read_all ls fresh text ≡ Some s → is_whole s ≡ true → (e : Expr) × Expression ls e text
   unfolding is_whole sizes
-  taken text len w = by (tree_all ls (tree none none none [] 0) text) refl (tracks_all text (tree none none none [] 0) fresh (omega arith) tracks_fresh)
+  taken text s len r w =
+      by (tree_all ls (tree none none none [] 0) text) refl
+      (subst (Follow (tree_all ls (tree none none none [] 0) text)) r (tracks_all text (tree none none none [] 0) fresh (omega arith) tracks_fresh))
     where
-      by : (o : Option Tree) → tree_all ls (tree none none none [] 0) text ≡ o → Follow o (read_all ls fresh text) → (e : Expr) × Expression ls e text
-      by none g k = absurd (true_false (and_left _ _ w) k)
+      by : (o : Option Tree) → tree_all ls (tree none none none [] 0) text ≡ o → Follow o (Some s) → (e : Expr) × Expression ls e text
+      by none g k = absurd k
       by (some u) g k =
-          let rest = and_right (read_all ls fresh text).good _ w in
-          let (a, i) = some_item u.item (sym k.filled ∙ and_left _ _ rest) in
-          let st = none_stack u.stack (sym k.depth ∙ eqb-true _ 0 (and_right (read_all ls fresh text).filled _ rest)) in
+          let (a, i) = some_item u.item (sym (item_there u.item (sizes ((u.choice, u.before) ∷ u.stack)) s.atom k.item) ∙ and_left _ _ w) in
+          let st = none_stack u.stack (sym k.depth ∙ eqb-true _ 0 (and_right (is_some s.atom) _ w)) in
           let (e₁, q₁) = some_seq u.before a in
           let (e, q₂) = some_alt u.choice e₁ in
           let v : alt_o u.choice (seq_o u.before (some a)) ≡ some e = ap (alt_o u.choice) q₁ ∙ q₂ in
-          let f : Tracks (tree u.choice u.before (some a) u.stack u.letters) (read_all ls fresh text) =
-          subst (λ o. Tracks (tree u.choice u.before o u.stack u.letters) (read_all ls fresh text)) i k in
-          let r : Tracks (tree (some e) none none u.stack u.letters) (chosen (merged (read_all ls fresh text))) =
-          subst (λ o. Tracks (tree o none none u.stack u.letters) (chosen (merged (read_all ls fresh text)))) v
-          (tracks_whole u.choice u.before a u.stack u.letters _ f) in
-          let few = r.few in let sized = r.sized in (
+          let f : Tracks (tree u.choice u.before (some a) u.stack u.letters) s =
+          subst (λ o. Tracks (tree u.choice u.before o u.stack u.letters) s) i k in
+          let h : Tracks (tree (some e) none none u.stack u.letters) (chosen (merged s)) =
+          subst (λ o. Tracks (tree o none none u.stack u.letters) (chosen (merged s))) v
+          (tracks_whole u.choice u.before a u.stack u.letters s f) in
+          let few = h.few in let sized = h.sized in (
             e,
             record {
               reads = held_whole ls u a e text (held_all ls (tree none none none [] 0) u [] text (held_none ls) g) st i v;

@@ -13,16 +13,6 @@ use Rattle.scope_graph.proofs.Lists.{Two, and_left, and_right, and_both, or_case
 use Rattle.path_rules.specs.Sets.{has, only_if, gather, meets}
 
 -- what the code answers
-pub only_so : (b : Bool) (set : ℕ) → b ≡ true → set ≡ only_if b set
-unfolding only_if
-only_so true set e = refl
-only_so false set e = absurd (false≢true e)
-
-pub only_not : (b : Bool) (set : ℕ) → b ≡ false → 0 ≡ only_if b set
-unfolding only_if
-only_not true set e = absurd (false≢true (sym e))
-only_not false set e = refl
-
 pub one_bit : (x : ℕ) → x < 11 → 1 * 2 ^ x % 18446744073709551616 ≡ 2 ^ x
 one_bit x h = shl_exact {a = 1} 1 x 64 (omega arith) (omega arith) ∙ one-mul (2 ^ x)
 
@@ -152,6 +142,10 @@ meets_none a b h = at (Two (meets a b))
     at (inr e) = e
 
 -- a set that is gathered, turn by turn
+pub gather_none : (f : ℕ → ℕ) → 0 ≡ gather f 0
+unfolding gather
+gather_none f = refl
+
 pub gather_next : (f : ℕ → ℕ) (n out v : ℕ) → out ≡ gather f n → v ≡ f n → bit_or out v ≡ gather f (n + 1)
 unfolding gather
 gather_next f n out v e k = let s : n + 1 ≡ suc n = omega arith in rw (s, e, k)

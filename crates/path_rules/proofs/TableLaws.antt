@@ -11,6 +11,7 @@ use lib.Dec.{eqb, ltb}
 use lib.ListN.{length, get_or, take}
 use lib.Pow.{high, low}
 use borrow.Author.Tests.{lt-ltb, le-ltb, ltb-true, ltb-false}
+use Rattle.std.specs.declared.option.Option.TheVariants.{Some, None}
 use Rattle.scope_graph.proofs.Lists.{Two, true_false}
 use Rattle.path_rules.specs.Expression.{Expr, letter, seq, alt, star, size, joined, Each, In}
 use Rattle.path_rules.specs.Grammar.{Reads, item, items, sides, label, starred, bracketed, single, behind, side, barred, Binding, place_of}
@@ -31,7 +32,7 @@ use Rattle.path_rules.proofs.Tracks.{Tracks, sizes, follows, linked_at}
 use Rattle.path_rules.proofs.VectorLaws.{vector_of, set_after, meets_after, meets_end, meets_leads, leads_meets, label_at, after_at}
 use Rattle.path_rules.proofs.Closed.{vector_list, vector_in, in_vector}
 use Rattle.path_rules.proofs.Alike.{same_elim, same_trans, same_self, differ, meets_nothing, same_onward, dead_after, same_sym}
-use Rattle.path_rules.proofs.WalkLaws.{set_at, next_at, Reached, Walked, walked_to}
+use Rattle.path_rules.proofs.WalkLaws.{set_at, next_at, Reached, Walked, Full, WalkedOrFull, walked_to}
 use Rattle.path_rules.proofs.Fewest.{over_both, Apart, as_many}
 
 -- a language is never empty, and its words are over the labels that the expression names
@@ -165,15 +166,9 @@ module _ (e : Expr) (s : Reading) (n : ℕ) (t : Tracks (tree (some e) none none
             absurd (true_false (in_meets w i)
             (same_elim vs begin 0 h (vector_of posts marks w) (vector_in posts marks w (over_eight w (in_labels w i))) ∙ meets_nothing (vector_of posts marks w)))
 
-    abbrev pub walk : Walk
-    walk = walk_of posts marks begin
-
-    walked : Walked vs posts marks begin 128 walk
+    walked_or_full : WalkedOrFull vs posts marks begin 128 (walk_of posts marks begin)
     unfolding walk_of
-    walked = walked_to vs posts marks begin alive 128 (omega arith)
-
-    pub walked_few : walk.states ≤ 16
-    walked_few = walked.few
+    walked_or_full = walked_to vs posts marks begin alive 128 (omega arith)
 
     -- a set that is reached by a word, and what meets it
     reached_in : (u z : List ℕ) → In e (u ++ z) → meets (set_after posts marks begin u) (vector_of posts marks z) ≡ true
@@ -207,20 +202,26 @@ module _ (e : Expr) (s : Reading) (n : ℕ) (t : Tracks (tree (some e) none none
         as_many labels (In e) in_labels m next accepts d count (λ i b. (from i b).0) (λ i b. lives (set i) (from i b) (live i b))
         (λ i j b c l. aparts (set i) (set j) (from i b) (from j c) (apart i j l c))
 
-    -- cells
-    row_at : walk.over ≡ false → (q l : ℕ) → q < walk.states → l < 8
-        → ((same_on vs (onward posts marks (set_at walk q) l) 0 ≡ true) × (get_or walk.next (q * 8 + l) 16 ≡ 16))
-        ⊎ ((r : ℕ) × (get_or walk.next (q * 8 + l) 16 ≡ r) × (r < walk.states) × (same_on vs (set_at walk r) (onward posts marks (set_at walk q) l) ≡ true))
-    row_at o q l b h =
-        let dq : (q * 8 + l) / 8 ≡ q = high q 3 h in
-        let dl : (q * 8 + l) % 8 ≡ l = low q 3 h in
-        let f = walked.few in
-        ⊎_elim (λ x. inl x) (λ x. inr (next_at walk (q * 8 + l), refl, x.0, x.1))
-        (rw (dq, dl) at (walked.rows o (q * 8 + l) (omega arith) (rw dq b)))
+    -- the walk to its end, and its cells
+    module _ (walk : Walk) (o : walk_of posts marks begin ≡ Some walk) where
+      walked : Walked vs posts marks begin 128 walk
+      walked = subst (WalkedOrFull vs posts marks begin 128) o walked_or_full
 
-    module _ (o : walk.over ≡ false) where
+      pub walked_few : walk.states ≤ 16
+      walked_few = walked.few
+
+      row_at : (q l : ℕ) → q < walk.states → l < 8
+          → ((same_on vs (onward posts marks (set_at walk q) l) 0 ≡ true) × (get_or walk.next (q * 8 + l) 16 ≡ 16))
+          ⊎ ((r : ℕ) × (get_or walk.next (q * 8 + l) 16 ≡ r) × (r < walk.states) × (same_on vs (set_at walk r) (onward posts marks (set_at walk q) l) ≡ true))
+      row_at q l b h =
+          let dq : (q * 8 + l) / 8 ≡ q = high q 3 h in
+          let dl : (q * 8 + l) % 8 ≡ l = low q 3 h in
+          let f = walked.few in
+          ⊎_elim (λ x. inl x) (λ x. inr (next_at walk (q * 8 + l), refl, x.0, x.1))
+          (rw (dq, dl) at (walked.rows (q * 8 + l) (omega arith) (rw dq b)))
+
       abbrev pub made : Rules
-      made = record { refusal = 0; states = walk.states; next = walk.next; accepts = tabulate (accept_cell walk.sets) 16 }
+      made = record { states = walk.states; next = walk.next; accepts = tabulate (accept_cell walk.sets) 16 }
 
       -- by a listed label a state leads to the state of the set behind it, or to none if that is
       -- dead
@@ -232,7 +233,7 @@ module _ (e : Expr) (s : Reading) (n : ℕ) (t : Tracks (tree (some e) none none
           ⊎_elim (λ x. inl (next_is made q l h ∙ ap target x.1, x.0))
           (λ x. let (r, g, c, k) = x in let f = walked.few in
           let y : r < 16 = omega arith in inr (r, next_is made q l h ∙ ap target g ∙ target_low r y, c, k))
-          (row_at o q l b h)
+          (row_at q l b h)
 
       leads_cases : (w : List ℕ) (q s : ℕ) → q < walk.states → Over 8 w → same_on vs (set_at walk q) s ≡ true
           → ((leads_to (next_in made) q w ≡ none) × (same_on vs (set_after posts marks s w) 0 ≡ true))
@@ -252,12 +253,8 @@ module _ (e : Expr) (s : Reading) (n : ℕ) (t : Tracks (tree (some e) none none
           (next_cases q l b ov.0)
 
       accept_is : (q : ℕ) → q < 16 → accepts_in made q ≡ has (set_at walk q) 10
-      unfolding accepts_in accept_cell only_if
-      accept_is q b = rw (tabulate_at (accept_cell walk.sets) 16 q 0 b) (by (has (set_at walk q) 10))
-        where
-          by : (c : Bool) → eqb (only_if c 1) 1 ≡ c
-          by true = refl
-          by false = refl
+      unfolding accepts_in accept_cell
+      accept_is q b = tabulate_at (accept_cell walk.sets) 16 q false b
 
       -- a state accepts exactly if the word is of the language
       accept_meets : (w : List ℕ) (r : ℕ) → r < walk.states → same_on vs (set_at walk r) (set_after posts marks begin w) ≡ true
@@ -306,42 +303,44 @@ module _ (e : Expr) (s : Reading) (n : ℕ) (t : Tracks (tree (some e) none none
       table_fewest m next accepts d = needs (set_at walk) walk.states walked.from walked.live walked.apart m next accepts d
 
       pub table_met : Met (take (walk.states * 8) walk.next) walk.states
-      table_met = let f = walked.few in let z : min 128 (walk.states * 8) ≡ walk.states * 8 = omega arith in rw z at (walked.met o)
+      table_met = let f = walked.few in let z : min 128 (walk.states * 8) ≡ walk.states * 8 = omega arith in rw z at walked.met
 
     -- a seventeenth state was met
-    sets : ℕ → ℕ → ℕ
-    sets t i = elim (ltb i 16) [ true ↦ set_at walk i | false ↦ t ]
+    sets : Walk → ℕ → ℕ → ℕ
+    sets w t i = elim (ltb i 16) [ true ↦ set_at w i | false ↦ t ]
 
-    pub table_over : walk.over ≡ true → (m : ℕ) (next : ℕ → ℕ → Option ℕ) (accepts : ℕ → Bool) → Decides labels (In e) m next accepts → 16 < m
+    pub table_over : walk_of posts marks begin ≡ None → (m : ℕ) (next : ℕ → ℕ → Option ℕ) (accepts : ℕ → Bool) → Decides labels (In e) m next accepts → 16 < m
     unfolding sets
     table_over o m next accepts d =
-        let (full, more) = walked.more o in
-        let (t, one) = more in
-        let (way, live, others) = one in
-        needs (sets t) 17 (from t full way) (lively t full live) (aparts17 t full others) m next accepts d
+        let f : Full vs posts marks begin = subst (WalkedOrFull vs posts marks begin 128) o walked_or_full in
+        let (way, live, others) = f.more in
+        needs (sets f.walk f.set) 17 (from f way) (lively f live) (aparts17 f others) m next accepts d
       where
-        sets_low : (t i : ℕ) → i < 16 → set_at walk i ≡ sets t i
-        sets_low t i b = rw (lt-ltb i 16 b, sets)
+        sets_low : (w : Walk) (t i : ℕ) → i < 16 → set_at w i ≡ sets w t i
+        sets_low w t i b = rw (lt-ltb i 16 b, sets)
 
-        sets_top : (t i : ℕ) → 16 ≤ i → t ≡ sets t i
-        sets_top t i b = rw (le-ltb i 16 b, sets)
+        sets_top : (w : Walk) (t i : ℕ) → 16 ≤ i → t ≡ sets w t i
+        sets_top w t i b = rw (le-ltb i 16 b, sets)
 
         low_or_top : (i : ℕ) → (i < 16) ⊎ (16 ≤ i)
         low_or_top i = ⊎_elim (λ h. inl (ltb-true i 16 h)) (λ h. inr (ltb-false i 16 h)) (Two (ltb i 16))
 
-        from : (t : ℕ) → walk.states ≡ 16 → Reached vs posts marks begin t → (i : ℕ) → i < 17 → Reached vs posts marks begin (sets t i)
-        from t full way i b =
-            ⊎_elim (λ h. subst (Reached vs posts marks begin) (sets_low t i h) (walked.from i (omega arith)))
-            (λ h. subst (Reached vs posts marks begin) (sets_top t i h) way) (low_or_top i)
+        from : (f : Full vs posts marks begin) → Reached vs posts marks begin f.set → (i : ℕ) → i < 17 → Reached vs posts marks begin (sets f.walk f.set i)
+        from f way i b =
+            let full = f.full in
+            ⊎_elim (λ h. subst (Reached vs posts marks begin) (sets_low f.walk f.set i h) (f.walked.from i (omega arith)))
+            (λ h. subst (Reached vs posts marks begin) (sets_top f.walk f.set i h) way) (low_or_top i)
 
-        lively : (t : ℕ) → walk.states ≡ 16 → same_on vs t 0 ≡ false → (i : ℕ) → i < 17 → same_on vs (sets t i) 0 ≡ false
-        lively t full live i b =
-            ⊎_elim (λ h. subst (λ y. same_on vs y 0 ≡ false) (sets_low t i h) (walked.live i (omega arith)))
-            (λ h. subst (λ y. same_on vs y 0 ≡ false) (sets_top t i h) live) (low_or_top i)
+        lively : (f : Full vs posts marks begin) → same_on vs f.set 0 ≡ false → (i : ℕ) → i < 17 → same_on vs (sets f.walk f.set i) 0 ≡ false
+        lively f live i b =
+            let full = f.full in
+            ⊎_elim (λ h. subst (λ y. same_on vs y 0 ≡ false) (sets_low f.walk f.set i h) (f.walked.live i (omega arith)))
+            (λ h. subst (λ y. same_on vs y 0 ≡ false) (sets_top f.walk f.set i h) live) (low_or_top i)
 
-        aparts17 : (t : ℕ) → walk.states ≡ 16 → ((i : ℕ) → i < walk.states → same_on vs (set_at walk i) t ≡ false)
-            → (i j : ℕ) → i < j → j < 17 → same_on vs (sets t i) (sets t j) ≡ false
-        aparts17 t full others i j l b =
-            let g = sets_low t i (omega arith) in
-            ⊎_elim (λ h. subst (λ y. same_on vs (sets t i) y ≡ false) (sets_low t j h) (subst (λ y. same_on vs y (set_at walk j) ≡ false) g (walked.apart i j l (omega arith))))
-            (λ h. subst (λ y. same_on vs (sets t i) y ≡ false) (sets_top t j h) (subst (λ y. same_on vs y t ≡ false) g (others i (omega arith)))) (low_or_top j)
+        aparts17 : (f : Full vs posts marks begin) → ((i : ℕ) → i < f.walk.states → same_on vs (set_at f.walk i) f.set ≡ false)
+            → (i j : ℕ) → i < j → j < 17 → same_on vs (sets f.walk f.set i) (sets f.walk f.set j) ≡ false
+        aparts17 f others i j l b =
+            let w = f.walk in let t = f.set in let full = f.full in
+            let g = sets_low w t i (omega arith) in
+            ⊎_elim (λ h. subst (λ y. same_on vs (sets w t i) y ≡ false) (sets_low w t j h) (subst (λ y. same_on vs y (set_at w j) ≡ false) g (f.walked.apart i j l (omega arith))))
+            (λ h. subst (λ y. same_on vs (sets w t i) y ≡ false) (sets_top w t j h) (subst (λ y. same_on vs y t ≡ false) g (others i (omega arith)))) (low_or_top j)

@@ -9,21 +9,19 @@ use native.Mathlib.Omega.{arith}
 use native.Mathlib.Nat.{add-zero}
 use lib.ListN.{length, get_or, set, length-set, get_or-replicate}
 use lib.Seq.{get_or-set_same, get_or-set_other}
+use Rattle.std.specs.declared.option.Option as std
+use Rattle.std.specs.declared.option.Option.TheVariants.{Some, None}
 use Rattle.path_rules.specs.Sets.{has, only_if}
 use Rattle.path_rules.specs.Parts.{no_part, link_cell, linked}
 use Rattle.path_rules.specs.Expression.{Expr, letter, seq, alt, star, size}
-use Rattle.path_rules.specs.Reading.{fresh, merged, chosen, pushed, popped, repeated, placed}
+use Rattle.path_rules.specs.Reading.{fresh, linked_with, merged, chosen, pushed, popped, repeated, placed}
 use Rattle.path_rules.specs.declared.reading.Part.{Part}
 use Rattle.path_rules.specs.declared.reading.Reading.{Reading}
 use Rattle.path_rules.proofs.Fill.{tabulate_at}
 use Rattle.path_rules.proofs.SetLaws.{has_or, has_only, has_none}
 use Rattle.path_rules.proofs.Positions.{first, last, follow, Labelled}
 use Rattle.path_rules.proofs.Trees.{seq_o, alt_o, Frame, Tree, tree}
-use Rattle.path_rules.proofs.PartLaws.{size_o, first_o, last_o, follow_o, PartOf, or_none, seq_of, alt_of, star_of, letter_of_lem, empty_of, none_of, any_of, follow_seq, follow_alt, size_seq, size_alt}
-
-abbrev pub there : Option Expr → Bool
-there none = false
-there (some e) = true
+use Rattle.path_rules.proofs.PartLaws.{size_o, last_o, follow_o, PartOf, ItemOf, or_none, seq_with_of, alt_of, star_of, letter_of_lem, empty_of, none_of, any_of, follow_seq, follow_alt, size_seq, size_alt}
 
 -- how many letters the frames have; positions are numbered from the lowest frame on
 unfoldable pub sizes : List Frame → ℕ
@@ -55,15 +53,13 @@ abbrev pub label_in : List ℕ → ℕ → ℕ
 label_in labels p = get_or labels p 0
 
 pub record Tracks (t : Tree) (s : Reading) : Type 0 where
-  pub good : s.good ≡ true
-  pub filled : s.filled ≡ there t.item
   pub depth : s.depth ≡ length t.stack
   pub letters : s.letters ≡ t.letters
   pub few : t.letters ≤ 10
   pub sized : sizes (top t) + size_o t.item ≡ t.letters
   pub choice : PartOf false t.choice (sizes t.stack) s.alt
   pub before : PartOf true t.before (sizes t.stack + size_o t.choice) s.seq
-  pub item : PartOf true t.item (sizes (top t)) s.atom
+  pub item : ItemOf t.item (sizes (top t)) s.atom
   pub frames : FramesOf t.stack s.alts s.seqs
   pub alts_room : length s.alts ≡ 64
   pub seqs_room : length s.seqs ≡ 64
@@ -81,14 +77,29 @@ linked_at after lasts firsts p x h =
     ∙ has_or (get_or after p 0) (only_if (has lasts p) firsts) x
     ∙ ap (λ (b : Bool). has (get_or after p 0) x || b) (has_only (has lasts p) firsts x)
 
-merge_bools : (f c b i g : Bool) → ((((f || c) || b) || i) || g) ≡ (((f || c) || ((b || g) || i)) || false)
-merge_bools true c b i g = refl
-merge_bools false true b i g = refl
-merge_bools false false true i g = refl
-merge_bools false false false true true = refl
-merge_bools false false false true false = refl
-merge_bools false false false false true = refl
-merge_bools false false false false false = refl
+merge_bools : (f b i g : Bool) → (((f || b) || i) || g) ≡ ((f || ((b || g) || i)) || false)
+merge_bools true b i g = refl
+merge_bools false true i g = refl
+merge_bools false false true true = refl
+merge_bools false false true false = refl
+merge_bools false false false true = refl
+merge_bools false false false false = refl
+
+-- the table after an item that may be missing is joined to the sequence before it; `f` is what
+-- stands before that
+linked_more : (b i : Option Expr) (n : ℕ) (f : Bool) (after : List ℕ) (s : Part) (q : std.Option Part) (p x : ℕ) → p < 10 → PartOf true b n s → ItemOf i (n + size_o b) q
+    → has (get_or after p 0) x ≡ ((f || follow_o b n p x) || follow_o i (n + size_o b) p x)
+    → has (get_or (linked_with after s q) p 0) x ≡ ((f || follow_o (seq_o b i) n p x) || false)
+unfolding linked_with
+linked_more none none n f after s None p x lt h k g = g
+linked_more (some b) none n f after s None p x lt h k g = g
+linked_more b none n f after s (Some q) p x lt h k g = absurd k
+linked_more b (some e) n f after s None p x lt h k g = absurd k
+linked_more b (some e) n f after s (Some q) p x lt h k g =
+    linked_at after s.last q.first p x lt
+    ∙ rw (g, h.lasts p, k.firsts x)
+    (merge_bools f (follow_o b n p x) (follow e (n + size_o b) p x) (last_o b n p && first e (n + size_o b) x)
+    ∙ ap (λ (y : Bool). (f || y) || false) (follow_seq b (some e) n p x))
 
 pub tracks_merged : (t : Tree) (s : Reading) → Tracks t s
     → Tracks (tree t.choice (seq_o t.before t.item) none t.stack t.letters) (merged s)
@@ -98,25 +109,19 @@ tracks_merged t s h =
     let n = sizes t.stack + size_o t.choice in
     let z = h.sized in let k = size_seq a b in
     record {
-      good = h.good;
-      filled = refl;
       depth = h.depth;
       letters = h.letters;
       few = h.few;
       sized = omega (arith, z, k);
       choice = h.choice;
-      before = seq_of a b n s.seq s.atom h.before h.item;
-      item = empty_of _;
+      before = seq_with_of a b n s.seq s.atom h.before h.item;
+      item = tt;
       frames = h.frames;
       alts_room = h.alts_room;
       seqs_room = h.seqs_room;
       labels_room = h.labels_room;
       goes_on = λ p x lt.
-          linked_at s.after s.seq.last s.atom.first p x lt
-          ∙ rw (h.goes_on p x lt, h.before.lasts p, h.item.firsts x)
-          (merge_bools (follows t.stack p x) (follow_o t.choice (sizes t.stack) p x) (follow_o a n p x) (follow_o b (n + size_o a) p x)
-          (last_o a n p && first_o b (n + size_o a) x)
-          ∙ ap (λ (y : Bool). ((follows t.stack p x || follow_o t.choice (sizes t.stack) p x) || y) || false) (follow_seq a b n p x));
+          linked_more a b n (follows t.stack p x || follow_o t.choice (sizes t.stack) p x) s.after s.seq s.atom p x lt h.before h.item (h.goes_on p x lt);
       labelled = (h.labelled.0, h.labelled.1, joined_labels a b n h.labelled.2 h.item_labelled);
       item_labelled = tt;
     }
@@ -139,15 +144,13 @@ unfolding sizes follows
 tracks_chosen c e st n s h =
     let z = h.sized in let k = size_alt c e in
     record {
-      good = h.good;
-      filled = refl;
       depth = h.depth;
       letters = h.letters;
       few = h.few;
       sized = omega (arith, z, k);
       choice = alt_of c e (sizes st) s.alt s.seq h.choice h.before;
       before = empty_of _;
-      item = empty_of _;
+      item = tt;
       frames = h.frames;
       alts_room = h.alts_room;
       seqs_room = h.seqs_room;
@@ -184,15 +187,13 @@ tracks_pushed c b st n s l h =
     let at-s : get_or (set s.seqs s.depth s.seq) (length st) no_part ≡ s.seq =
     ap (λ k. get_or (set s.seqs s.depth s.seq) k no_part) (sym d) ∙ get_or-set_same s.seqs s.depth s.seq no_part (omega arith) in
     record {
-      good = h.good;
-      filled = refl;
       depth = omega arith;
       letters = h.letters;
       few = h.few;
       sized = omega (arith, z);
       choice = none_of _;
       before = empty_of _;
-      item = empty_of _;
+      item = tt;
       frames = (
         frames_set st s.alts s.seqs s.depth s.alt s.seq (omega arith) h.frames,
         subst (PartOf false c (sizes st)) (sym at_a) h.choice,
@@ -213,8 +214,6 @@ tracks_popped v c b fs n s h =
     let z = h.sized in let d = h.depth in
     let m : s.depth - 1 ≡ length fs = omega arith in
     record {
-      good = h.good;
-      filled = refl;
       depth = m;
       letters = h.letters;
       few = h.few;
@@ -235,26 +234,24 @@ or_assoc : (a b c : Bool) → ((a || b) || c) ≡ (a || (b || c))
 or_assoc true b c = refl
 or_assoc false b c = refl
 
-pub tracks_repeated : (c b : Option Expr) (a : Expr) (st : List Frame) (n : ℕ) (s : Reading) → Tracks (tree c b (some a) st n) s
-    → Tracks (tree c b (some (star a)) st n) (repeated s)
+pub tracks_repeated : (c b : Option Expr) (a : Expr) (st : List Frame) (n : ℕ) (s : Reading) (q : Part) → Tracks (tree c b (some a) st n) s
+    → PartOf true (some a) (sizes ((c, b) ∷ st)) q → Tracks (tree c b (some (star a)) st n) (repeated s q)
 unfolding follow size
-tracks_repeated c b a st n s h = record {
-  good = h.good;
-  filled = refl;
+tracks_repeated c b a st n s q h k = record {
   depth = h.depth;
   letters = h.letters;
   few = h.few;
   sized = h.sized;
   choice = h.choice;
   before = h.before;
-  item = star_of a _ s.atom h.item;
+  item = star_of a _ q k;
   frames = h.frames;
   alts_room = h.alts_room;
   seqs_room = h.seqs_room;
   labels_room = h.labels_room;
   goes_on = λ p x lt.
-      linked_at s.after s.atom.last s.atom.first p x lt
-      ∙ rw (h.goes_on p x lt, h.item.lasts p, h.item.firsts x)
+      linked_at s.after q.last q.first p x lt
+      ∙ rw (h.goes_on p x lt, k.lasts p, k.firsts x)
       (or_assoc (follows ((c, b) ∷ st) p x) (follow a (sizes ((c, b) ∷ st)) p x) (last a (sizes ((c, b) ∷ st)) p && first a (sizes ((c, b) ∷ st)) x));
   labelled = h.labelled;
   item_labelled = h.item_labelled;
@@ -289,8 +286,6 @@ tracks_placed c b st n l s lt h =
     let e : s.letters ≡ sizes ((c, b) ∷ st) = h.letters ∙ sym m in
     let r = h.labels_room in let k = h.letters in
     record {
-      good = h.good;
-      filled = refl;
       depth = h.depth;
       letters = omega arith;
       few = omega arith;
@@ -312,15 +307,13 @@ tracks_placed c b st n l s lt h =
 pub tracks_fresh : Tracks (tree none none none [] 0) fresh
 unfolding fresh sizes follows
 tracks_fresh = record {
-  good = refl;
-  filled = refl;
   depth = refl;
   letters = refl;
   few = omega arith;
   sized = refl;
   choice = none_of _;
   before = empty_of _;
-  item = empty_of _;
+  item = tt;
   frames = tt;
   alts_room = refl;
   seqs_room = refl;

@@ -1,8 +1,8 @@
 -- What holds of the walk at each cell: its states are reached, live and told apart, and its cells
 -- lead where the sets say. Assumes nothing.
 use Prim.Native.Nat.{ℕ, zero, suc, ◌+◌, ◌*◌, ◌/◌, ◌%◌, ◌<◌, ◌≤◌, min}
-use mathlib.Core.Path.{◌≡◌, refl, sym, ap, ◌∙◌}
-use mathlib.Core.Bool.{true, false, false≢true}
+use mathlib.Core.Path.{◌≡◌, refl, ap, ◌∙◌}
+use mathlib.Core.Bool.{true, false}
 use mathlib.Core.Logic.{◌⊎◌, inl, inr, ⊎_elim}
 use mathlib.Core.List.{List, [], ◌∷◌, ◌++◌}
 use native.Mathlib.Omega.{arith}
@@ -11,10 +11,12 @@ use lib.Dec.{ltb}
 use lib.ListN.{length, get_or, set, take, replicate, length-set, length-replicate, get_or-replicate}
 use lib.Seq.{take-suc, take-suc-set, length-take-le, get_or-take, get_or-set_same, get_or-set_other}
 use borrow.Author.Tests.{ltb-true, ltb-false}
+use Rattle.std.specs.declared.option.Option.{Option}
+use Rattle.std.specs.declared.option.Option.TheVariants.{Some, None}
 use Rattle.scope_graph.proofs.Lists.{Two}
 use Rattle.path_rules.specs.Table.{Over, Met, start, nowhere, again, new}
 use Rattle.path_rules.specs.Vectors.{onward, same_on, place_same}
-use Rattle.path_rules.specs.Walk.{start_walk, to_state, to_new, too_many, arrived, reached, walk_turn, walk_to}
+use Rattle.path_rules.specs.Walk.{start_walk, to_state, to_new, arrived, reached, walk_turn, walk_to}
 use Rattle.path_rules.specs.declared.walk.Walk.{Walk}
 use Rattle.path_rules.proofs.Fill.{below_suc}
 use Rattle.path_rules.proofs.VectorLaws.{set_after}
@@ -57,9 +59,21 @@ module _ (vs after labels : List ℕ) (begin : ℕ) where
     pub live : (i : ℕ) → i < w.states → same_on vs (set_at w i) 0 ≡ false
     pub apart : (i j : ℕ) → i < j → j < w.states → same_on vs (set_at w i) (set_at w j) ≡ false
     pub unset : (j : ℕ) → k ≤ j → j < 128 → next_at w j ≡ 16
-    pub rows : w.over ≡ false → (j : ℕ) → j < k → j / 8 < w.states → Row w j
-    pub met : w.over ≡ false → Met (take (min k (w.states * 8)) w.next) w.states
-    pub more : w.over ≡ true → (w.states ≡ 16) × ((t : ℕ) × OneMore w t)
+    pub rows : (j : ℕ) → j < k → j / 8 < w.states → Row w j
+    pub met : Met (take (min k (w.states * 8)) w.next) w.states
+
+  -- a seventeenth state was met
+  pub record Full : Type 0 where
+    pub cell : ℕ
+    pub walk : Walk
+    pub walked : Walked cell walk
+    pub full : walk.states ≡ 16
+    pub set : ℕ
+    pub more : OneMore walk set
+
+  abbrev pub WalkedOrFull : ℕ → Option Walk → Type 0
+  WalkedOrFull k None = Full
+  WalkedOrFull k (Some w) = Walked k w
 
   set_after_more : (s : ℕ) (u : List ℕ) (l : ℕ) → set_after after labels s (u ++ l ∷ []) ≡ onward after labels (set_after after labels s u) l
   unfolding set_after
@@ -79,17 +93,16 @@ module _ (vs after labels : List ℕ) (begin : ℕ) where
       live = c.live;
       apart = c.apart;
       unset = λ j b d. c.unset j (omega arith) d;
-      rows = λ o j b d. c.rows o j (let y : j / 8 < w.states = d in omega arith) d;
-      met = λ o. (let e : min (suc k) (w.states * 8) ≡ min k (w.states * 8) = omega arith in rw e (c.met o));
-      more = c.more;
+      rows = λ j b d. c.rows j (let y : j / 8 < w.states = d in omega arith) d;
+      met = (let e : min (suc k) (w.states * 8) ≡ min k (w.states * 8) = omega arith in rw e c.met);
     }
 
     module _ (lt : k / 8 < w.states) where
       cells : min k (w.states * 8) ≡ k
       cells = omega arith
 
-      met_here : w.over ≡ false → Met (take k w.next) w.states
-      met_here o = rw cells at (c.met o)
+      met_here : Met (take k w.next) w.states
+      met_here = rw cells at c.met
 
       met_length : length (take k w.next) / 8 < w.states
       met_length = let e : length (take k w.next) ≡ k = (let r = c.room_next in length-take-le k w.next (omega arith)) in rw e lt
@@ -115,9 +128,8 @@ module _ (vs after labels : List ℕ) (begin : ℕ) where
             live = c.live;
             apart = c.apart;
             unset = λ j b d. c.unset j (omega arith) d;
-            rows = λ o j b d. ⊎_elim (λ (y : j < k). c.rows o j y d) (λ (y : j ≡ k). rw y (inl (dead, none))) (below_suc j k b);
-            met = λ o. rw (e, take-suc w.next k 16 (omega arith), none) (nowhere (take k w.next) w.states (met_here o) met_length);
-            more = c.more;
+            rows = λ j b d. ⊎_elim (λ (y : j < k). c.rows j y d) (λ (y : j ≡ k). rw y (inl (dead, none))) (below_suc j k b);
+            met = rw (e, take-suc w.next k 16 (omega arith), none) (nowhere (take k w.next) w.states met_here met_length);
           }
 
       next_other : (v j : ℕ) → (j ≡ k → ⊥) → get_or (set w.next k v) j 16 ≡ next_at w j
@@ -141,16 +153,15 @@ module _ (vs after labels : List ℕ) (begin : ℕ) where
             live = c.live;
             apart = c.apart;
             unset = λ j b d. next_other i j (λ y. omega arith) ∙ c.unset j (omega arith) d;
-            rows = λ o j b d. ⊎_elim (λ (y : j < k). old o j y d) (λ (y : j ≡ k). rw y (rw (next_here i) (inr (now, same)))) (below_suc j k b);
-            met = λ o. rw (e, take-suc-set w.next k i (omega arith)) (again (take k w.next) w.states i (met_here o) met_length b);
-            more = c.more;
+            rows = λ j b d. ⊎_elim (λ (y : j < k). old j y d) (λ (y : j ≡ k). rw y (rw (next_here i) (inr (now, same)))) (below_suc j k b);
+            met = rw (e, take-suc-set w.next k i (omega arith)) (again (take k w.next) w.states i met_here met_length b);
           }
         where
           now : i < w.states
           now = b
 
-          old : w.over ≡ false → (j : ℕ) → j < k → j / 8 < w.states → Row (to_state w k i) j
-          old o j y d = rw (next_other i j (λ z. omega arith)) (c.rows o j y d)
+          old : (j : ℕ) → j < k → j / 8 < w.states → Row (to_state w k i) j
+          old j y d = rw (next_other i j (λ z. omega arith)) (c.rows j y d)
 
       -- a new state
       set_other : (t i : ℕ) → i < w.states → get_or (set w.sets w.states t) i 0 ≡ set_at w i
@@ -176,11 +187,10 @@ module _ (vs after labels : List ℕ) (begin : ℕ) where
                 ⊎_elim (λ (y : j < w.states). rw (set_other t i (omega arith), set_other t j y) (c.apart i j l y))
                 (λ (y : j ≡ w.states). rw (y, set_here t room, set_other t i (omega arith)) (others i (omega arith))) (below j b);
             unset = λ j b d. next_other w.states j (λ y. omega arith) ∙ c.unset j (omega arith) d;
-            rows = λ o j b d. ⊎_elim (old o j) (λ (y : j ≡ k). rw y fresh_row) (below_suc j k b);
-            met = λ o.
+            rows = λ j b d. ⊎_elim (old j) (λ (y : j ≡ k). rw y fresh_row) (below_suc j k b);
+            met =
                 rw (e, take-suc-set w.next k w.states (omega arith), add-one w.states)
-                (new (take k w.next) w.states (met_here o) met_length);
-            more = λ o. absurd (let y = (c.more o).0 in omega arith);
+                (new (take k w.next) w.states met_here met_length);
           }
         where
           below : (i : ℕ) → i < w.states + 1 → (i < w.states) ⊎ (i ≡ w.states)
@@ -191,29 +201,13 @@ module _ (vs after labels : List ℕ) (begin : ℕ) where
               rw (next_here w.states, set_other (goes_to w k) (k / 8) lt, set_here (goes_to w k) room)
               (inr (omega arith, same_self vs (goes_to w k)))
 
-          old : w.over ≡ false → (j : ℕ) → j < k → Row (to_new w k (goes_to w k)) j
-          old o j y =
+          old : (j : ℕ) → j < k → Row (to_new w k (goes_to w k)) j
+          old j y =
               let q : j / 8 < w.states = omega arith in
               rw (next_other w.states j (λ z. omega arith), set_other (goes_to w k) (j / 8) q)
               (⊎_elim (λ x. inl x)
               (λ x. inr ((let g = x.0 in omega arith), rw (set_other (goes_to w k) (next_at w j) x.0) x.1))
-              (c.rows o j y q))
-
-      walked_over : 16 ≤ w.states → OneMore w (goes_to w k) → Walked (suc k) (too_many w)
-      walked_over full one = record {
-        room_sets = c.room_sets;
-        room_next = c.room_next;
-        some = c.some;
-        few = c.few;
-        head = c.head;
-        from = c.from;
-        live = c.live;
-        apart = c.apart;
-        unset = λ j b d. c.unset j (omega arith) d;
-        rows = λ o. absurd (false≢true (sym o));
-        met = λ o. absurd (false≢true (sym o));
-        more = λ o. ((let f = c.few in omega arith), (goes_to w k, one));
-      }
+              (c.rows j y q))
 
       sets_length : length (take w.states w.sets) ≡ w.states
       sets_length = let r = c.room_sets in let f = c.few in length-take-le w.states w.sets (omega arith)
@@ -221,46 +215,48 @@ module _ (vs after labels : List ℕ) (begin : ℕ) where
       states_at : (i : ℕ) → i < w.states → get_or (take w.states w.sets) i 0 ≡ set_at w i
       states_at i b = get_or-take w.states w.sets i 0 b
 
-      abbrev place : ℕ
+      abbrev place : Option ℕ
       place = place_same vs (take w.states w.sets) (goes_to w k)
 
-      walked_arrived : same_on vs (goes_to w k) 0 ≡ false → Walked (suc k) (arrived w k (goes_to w k) place)
+      walked_arrived : same_on vs (goes_to w k) 0 ≡ false → WalkedOrFull (suc k) (arrived w k (goes_to w k) place)
       unfolding arrived
-      walked_arrived alive = at (Two (ltb place w.states)) (Two (ltb w.states 16))
+      walked_arrived alive = at place refl (Two (ltb w.states 16))
         where
-          none : ltb place w.states ≡ false → OneMore w (goes_to w k)
+          none : place ≡ None → OneMore w (goes_to w k)
           none e = (
             reached_here,
             alive,
-            λ i b.
-                rw (states_at i b) at
-                (place_none vs (take w.states w.sets) (goes_to w k) (let y = ltb-false place w.states e in let z = sets_length in omega arith) i
-                (let z = sets_length in omega arith)),
+            λ i b. rw (states_at i b) at (place_none vs (take w.states w.sets) (goes_to w k) e i (let z = sets_length in omega arith)),
           )
 
-          at : (ltb place w.states ≡ true) ⊎ (ltb place w.states ≡ false) → (ltb w.states 16 ≡ true) ⊎ (ltb w.states 16 ≡ false)
-              → Walked (suc k) (arrived w k (goes_to w k) place)
-          at (inl e) f =
-              let b : place < w.states = ltb-true place w.states e in
-              rw (e, arrived)
-              (walked_known place b
-              (rw (states_at place b) at (place_found vs (take w.states w.sets) (goes_to w k) (let z = sets_length in omega arith))))
-          at (inr e) (inl f) = rw (e, f, arrived) (walked_new (ltb-true w.states 16 f) (none e))
-          at (inr e) (inr f) = rw (e, f, arrived) (walked_over (ltb-false w.states 16 f) (none e))
+          at : (j : Option ℕ) → place ≡ j → (ltb w.states 16 ≡ true) ⊎ (ltb w.states 16 ≡ false) → WalkedOrFull (suc k) (arrived w k (goes_to w k) j)
+          at (Some j) e f =
+              let (l, s) = place_found vs (take w.states w.sets) (goes_to w k) j e in
+              let b : j < w.states = (let z = sets_length in omega arith) in
+              walked_known j b (rw (states_at j b) at s)
+          at None e (inl f) = rw (f, WalkedOrFull) (walked_new (ltb-true w.states 16 f) (none e))
+          at None e (inr f) = rw (f, WalkedOrFull) record {
+            cell = k;
+            walk = w;
+            walked = c;
+            full = (let y = ltb-false w.states 16 f in let z = c.few in omega arith);
+            set = goes_to w k;
+            more = none e;
+          }
 
-      walked_reached : Walked (suc k) (reached vs w k (goes_to w k))
+      walked_reached : WalkedOrFull (suc k) (reached vs w k (goes_to w k))
       unfolding reached
       walked_reached = at (Two (same_on vs (goes_to w k) 0))
         where
-          at : (same_on vs (goes_to w k) 0 ≡ true) ⊎ (same_on vs (goes_to w k) 0 ≡ false) → Walked (suc k) (reached vs w k (goes_to w k))
+          at : (same_on vs (goes_to w k) 0 ≡ true) ⊎ (same_on vs (goes_to w k) 0 ≡ false) → WalkedOrFull (suc k) (reached vs w k (goes_to w k))
           at (inl e) = rw (e, reached) (walked_dead e)
           at (inr e) = rw (e, reached) (walked_arrived e)
 
-    walked_turn : Walked (suc k) (walk_turn vs after labels k w)
+    walked_turn : WalkedOrFull (suc k) (walk_turn vs after labels k w)
     unfolding walk_turn
     walked_turn = at (Two (ltb (k / 8) w.states))
       where
-        at : (ltb (k / 8) w.states ≡ true) ⊎ (ltb (k / 8) w.states ≡ false) → Walked (suc k) (walk_turn vs after labels k w)
+        at : (ltb (k / 8) w.states ≡ true) ⊎ (ltb (k / 8) w.states ≡ false) → WalkedOrFull (suc k) (walk_turn vs after labels k w)
         at (inl e) = rw (e, walk_turn) (walked_reached (ltb-true _ _ e))
         at (inr e) = rw (e, walk_turn) (walked_idle (ltb-false _ _ e))
 
@@ -276,12 +272,16 @@ module _ (vs after labels : List ℕ) (begin : ℕ) where
     live = λ i b. (let e : i ≡ 0 = omega arith in rw e alive);
     apart = λ i j l b. absurd (omega arith);
     unset = λ j b d. get_or-replicate {A = ℕ} 128 j 16 16 d;
-    rows = λ o j b. absurd (omega arith);
-    met = λ o. start;
-    more = λ o. absurd (false≢true o);
+    rows = λ j b. absurd (omega arith);
+    met = start;
   }
 
-  pub walked_to : same_on vs begin 0 ≡ false → (k : ℕ) → k ≤ 128 → Walked k (walk_to vs after labels begin k)
+  pub walked_to : same_on vs begin 0 ≡ false → (k : ℕ) → k ≤ 128 → WalkedOrFull k (walk_to vs after labels begin k)
   unfolding walk_to
   walked_to alive zero b = walked_start alive
-  walked_to alive (suc k) b = walked_turn k (walk_to vs after labels begin k) (walked_to alive k (omega arith)) (omega arith)
+  walked_to alive (suc k) b = on (walk_to vs after labels begin k) (walked_to alive k (omega arith))
+    where
+      on : (o : Option Walk) → WalkedOrFull k o
+          → WalkedOrFull (suc k) (elim o as (λ _. Option Walk) [ None ↦ None | Some w ↦ walk_turn vs after labels k w ])
+      on None h = h
+      on (Some w) h = walked_turn k w h (omega arith)

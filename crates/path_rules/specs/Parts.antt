@@ -33,7 +33,7 @@ abbrev pub star_part : Part → Part
 star_part a = record { nullable = true; first = a.first; last = a.last }
 
 -- f 0, f 1, .. up to n, without f n
-unfoldable pub tabulate : (ℕ → ℕ) → ℕ → List ℕ
+unfoldable pub tabulate : {A : Type 0} → (ℕ → A) → ℕ → List A
 tabulate f zero = []
 tabulate f (suc n) = tabulate f n ++ (f n ∷ [])
 

@@ -1,18 +1,20 @@
 -- An expression read byte by byte (02, K6): what is known after the bytes so far. Assumes nothing:
 -- these are definitions.
 use Rattle.std.specs.Prelude.{ℕ, ◌+◌, ◌-◌, ◌^◌, Bool, true, false, ◌&&◌, List, [], ◌∷◌, eqb, ltb, get_or, set, replicate}
+use Rattle.std.specs.Option.{is_some}
+use Rattle.std.specs.declared.option.Option.TheVariants.{Some, None}
+use Rattle.std.specs.declared.option.Option.{Option}
 use Rattle.path_rules.specs.Grammar.{place_of}
 use Rattle.path_rules.specs.Parts.{empty_part, no_part, letter_part, seq_part, alt_part, star_part, linked}
+use Rattle.path_rules.specs.declared.reading.Part.{Part}
 use Rattle.path_rules.specs.declared.reading.Reading.{Reading}
 
 -- nothing read yet
 unfoldable pub fresh : Reading
 fresh = record {
-  good = true;
-  filled = false;
   alt = no_part;
   seq = empty_part;
-  atom = empty_part;
+  atom = None;
   depth = 0;
   letters = 0;
   after = replicate 10 0;
@@ -21,33 +23,23 @@ fresh = record {
   seqs = replicate 64 empty_part;
 }
 
--- what was read is no beginning of an expression
-abbrev pub spoiled : Reading → Reading
-spoiled s = record {
-  good = false;
-  filled = s.filled;
-  alt = s.alt;
-  seq = s.seq;
-  atom = s.atom;
-  depth = s.depth;
-  letters = s.letters;
-  after = s.after;
-  labels = s.labels;
-  alts = s.alts;
-  seqs = s.seqs;
-}
+-- the item, if there is one, joined to the sequence before it
+unfoldable pub seq_with : Part → Option Part → Part
+seq_with a None = a
+seq_with a (Some b) = seq_part a b
 
--- the item joined to the sequence before it
+unfoldable pub linked_with : List ℕ → Part → Option Part → List ℕ
+linked_with after a None = after
+linked_with after a (Some b) = linked after a.last b.first
+
 abbrev pub merged : Reading → Reading
 merged s = record {
-  good = s.good;
-  filled = false;
   alt = s.alt;
-  seq = seq_part s.seq s.atom;
-  atom = empty_part;
+  seq = seq_with s.seq s.atom;
+  atom = None;
   depth = s.depth;
   letters = s.letters;
-  after = linked s.after s.seq.last s.atom.first;
+  after = linked_with s.after s.seq s.atom;
   labels = s.labels;
   alts = s.alts;
   seqs = s.seqs;
@@ -56,11 +48,9 @@ merged s = record {
 -- and the sequence to the choice before it
 abbrev pub chosen : Reading → Reading
 chosen s = record {
-  good = s.good;
-  filled = false;
   alt = alt_part s.alt s.seq;
   seq = empty_part;
-  atom = empty_part;
+  atom = None;
   depth = s.depth;
   letters = s.letters;
   after = s.after;
@@ -72,11 +62,9 @@ chosen s = record {
 -- choice and sequence laid aside while a bracket pair is read
 abbrev pub pushed : Reading → Reading
 pushed s = record {
-  good = s.good;
-  filled = false;
   alt = no_part;
   seq = empty_part;
-  atom = empty_part;
+  atom = None;
   depth = s.depth + 1;
   letters = s.letters;
   after = s.after;
@@ -88,11 +76,9 @@ pushed s = record {
 -- what was read between brackets is the next item behind what was laid aside
 abbrev pub popped : Reading → Reading
 popped s = record {
-  good = s.good;
-  filled = true;
   alt = get_or s.alts (s.depth - 1) no_part;
   seq = get_or s.seqs (s.depth - 1) no_part;
-  atom = s.alt;
+  atom = Some s.alt;
   depth = s.depth - 1;
   letters = s.letters;
   after = s.after;
@@ -102,16 +88,14 @@ popped s = record {
 }
 
 -- the item any number of times
-abbrev pub repeated : Reading → Reading
-repeated s = record {
-  good = s.good;
-  filled = true;
+abbrev pub repeated : Reading → Part → Reading
+repeated s a = record {
   alt = s.alt;
   seq = s.seq;
-  atom = star_part s.atom;
+  atom = Some (star_part a);
   depth = s.depth;
   letters = s.letters;
-  after = linked s.after s.atom.last s.atom.first;
+  after = linked s.after a.last a.first;
   labels = s.labels;
   alts = s.alts;
   seqs = s.seqs;
@@ -120,11 +104,9 @@ repeated s = record {
 -- a letter is the next item; its position is the number of letters before it
 abbrev pub placed : Reading → ℕ → Reading
 placed s label = record {
-  good = s.good;
-  filled = true;
   alt = s.alt;
   seq = s.seq;
-  atom = letter_part (2 ^ s.letters);
+  atom = Some (letter_part (2 ^ s.letters));
   depth = s.depth;
   letters = s.letters + 1;
   after = s.after;
@@ -133,33 +115,33 @@ placed s label = record {
   seqs = s.seqs;
 }
 
--- the five kinds of bytes: each says what must stand before it
-unfoldable pub opened : Reading → Reading
-opened s = elim (ltb s.depth 64) [ true ↦ pushed (merged s) | false ↦ spoiled s ]
+-- the five kinds of bytes: each says what must stand before it; no expression begins otherwise
+unfoldable pub opened : Reading → Option Reading
+opened s = elim (ltb s.depth 64) [ true ↦ Some (pushed (merged s)) | false ↦ None ]
 
-unfoldable pub closed : Reading → Reading
-closed s = elim (s.filled && ltb 0 s.depth) [ true ↦ popped (chosen (merged s)) | false ↦ spoiled s ]
+unfoldable pub closed : Reading → Option Reading
+closed s = elim (is_some s.atom && ltb 0 s.depth) [ true ↦ Some (popped (chosen (merged s))) | false ↦ None ]
 
-unfoldable pub starred : Reading → Reading
-starred s = elim s.filled [ true ↦ repeated s | false ↦ spoiled s ]
+unfoldable pub starred : Reading → Option Reading
+starred s = elim s.atom [ None ↦ None | Some a ↦ Some (repeated s a) ]
 
-unfoldable pub barred : Reading → Reading
-barred s = elim s.filled [ true ↦ chosen (merged s) | false ↦ spoiled s ]
+unfoldable pub barred : Reading → Option Reading
+barred s = elim (is_some s.atom) [ true ↦ Some (chosen (merged s)) | false ↦ None ]
 
-unfoldable pub lettered : Reading → ℕ → Reading
-lettered s label = elim (ltb label 8 && ltb s.letters 10) [ true ↦ placed (merged s) label | false ↦ spoiled s ]
+unfoldable pub lettered : Reading → ℕ → Option Reading
+lettered s label = elim (ltb label 8 && ltb s.letters 10) [ true ↦ Some (placed (merged s) label) | false ↦ None ]
 
 -- which of the four signs a byte is, and what it does; any other is a letter
-unfoldable pub by_kind : Bool → Bool → Bool → Bool → Reading → ℕ → Reading
+unfoldable pub by_kind : Bool → Bool → Bool → Bool → Reading → ℕ → Option Reading
 by_kind true close star bar s label = opened s
 by_kind false true star bar s label = closed s
 by_kind false false true bar s label = starred s
 by_kind false false false true s label = barred s
 by_kind false false false false s label = lettered s label
 
-unfoldable pub read_byte : List ℕ → Reading → ℕ → Reading
+unfoldable pub read_byte : List ℕ → Reading → ℕ → Option Reading
 read_byte ls s b = by_kind (eqb b 40) (eqb b 41) (eqb b 42) (eqb b 124) s (place_of 0 b ls)
 
-unfoldable pub read_all : List ℕ → Reading → List ℕ → Reading
-read_all ls s [] = s
-read_all ls s (b ∷ bs) = read_all ls (read_byte ls s b) bs
+unfoldable pub read_all : List ℕ → Reading → List ℕ → Option Reading
+read_all ls s [] = Some s
+read_all ls s (b ∷ bs) = elim (read_byte ls s b) [ None ↦ None | Some t ↦ read_all ls t bs ]

@@ -2,8 +2,11 @@
 -- K6). `after` has the set of positions behind each of ten positions, `labels` their labels; the
 -- word's end is number 10. Assumes nothing: these are definitions.
 use Rattle.std.specs.Prelude.{ℕ, zero, suc, ◌+◌, ◌/◌, ◌%◌, ◌^◌, Bool, true, false, not, ◌&&◌, List, [], ◌∷◌, eqb, ltb, get_or, set, length, take, replicate}
+use Rattle.std.specs.List.{position}
+use Rattle.std.specs.declared.option.Option.{Option}
 use Rattle.scope_graph.specs.Rows.{any_of}
 use Rattle.path_rules.specs.Sets.{has, only_if, gather, meets}
+use Rattle.path_rules.specs.declared.vectors.Found.{Found}
 
 -- the set of the word's end alone
 abbrev pub end_set : ℕ
@@ -24,10 +27,9 @@ module _ (after labels : List ℕ) where
   unfoldable pub onward : ℕ → ℕ → ℕ
   onward s l = gather (onward_cell s l) 10
 
--- sets found so far, in the first `count` cells
-pub record Found : Type 0 where
-  pub cells : List ℕ
-  pub count : ℕ
+-- the sets found so far, in the first `count` cells
+unfoldable pub vectors_of : Found → List ℕ
+vectors_of f = take f.count f.cells
 
 -- is the set a new one, for which there is room?
 unfoldable pub is_new : Found → ℕ → Bool
@@ -63,7 +65,6 @@ unfoldable pub same_on : List ℕ → ℕ → ℕ → Bool
 same_on [] a b = true
 same_on (v ∷ vs) a b = elim (alike_on v a b) [ true ↦ same_on vs a b | false ↦ false ]
 
--- the place of the first set that meets the same of `vs` as t does, or how many there are
-unfoldable pub place_same : List ℕ → List ℕ → ℕ → ℕ
-place_same vs [] t = 0
-place_same vs (s ∷ ss) t = elim (same_on vs s t) [ true ↦ 0 | false ↦ suc (place_same vs ss t) ]
+-- the place of the first set that meets the same of `vs` as t does, if there is one
+unfoldable pub place_same : List ℕ → List ℕ → ℕ → Option ℕ
+place_same vs ss t = position (λ s. same_on vs s t) ss

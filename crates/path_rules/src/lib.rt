@@ -7,127 +7,120 @@ mod sets;
 mod vectors;
 mod walk;
 
-ghost use Rattle.std.specs.Prelude.{◌≡◌, ◌<◌, ◌≤◌};
+ghost use Rattle.std.specs.Prelude.{◌≡◌, ◌<◌};
 ghost use Rattle.path_rules.specs.Parts.{tabulate};
-ghost use Rattle.path_rules.specs.Rules.{is_whole, after_end, start_set, refused_by, accept_cell, table_of, walk_of, whole_rules, rules_of};
+ghost use Rattle.path_rules.specs.Rules.{is_whole, after_end, start_set, accept_cell, table_of, walk_of, read_whole, whole_rules, rules_of};
 
 use crate::reading::{Part, Reading, finish, link, read};
-use crate::sets::{both, has_bit, only_if};
-use crate::vectors::find_vectors;
+use crate::sets::{END, POSITIONS, has_bit, only_if};
+use crate::vectors::{Positions, find_vectors};
 use crate::walk::{Walk, walk_all};
+pub use sets::LABELS;
+use std::array;
+use text_field::Refusal;
+pub use walk::{CELLS, NOWHERE, STATES};
+
+// How many bytes an expression may have.
+const EXPRESSION_BYTES: usize = 64;
 
 // The rows that an expression becomes: how many states there are, where each leads by each label,
-// at state * 8 + label, 16 for nowhere, and 1 for each state that accepts; or what the expression
-// is refused by, 12 or 13, else 0.
+// at state * 8 + label, 16 for nowhere, and whether it accepts.
 #[derive(Clone, Copy)]
 pub struct Rules {
-    pub refusal: u64,
     pub states: usize,
-    pub next: [u64; 128],
-    pub accepts: [u64; 16],
-}
-
-fn refuse(n: u64) -> Rules
-    ensures answer { result ≡ refused_by n }
-{
-    let next = [16; 128];
-    let accepts = [0; 16];
-    Rules {
-        refusal: n,
-        states: 0,
-        next,
-        accepts,
-    }
+    pub next: [u64; CELLS],
+    pub accepts: [bool; STATES],
 }
 
 // Is what was read a whole expression?
-fn is_whole(s: Reading) -> bool
-    ensures answer { result ≡ is_whole s }
+#[tactic(auto, unfolding(crate::specs::Rules::is_whole))]
+fn is_whole(s: &Reading) -> bool
+    ensures answer { result ≡ is_whole s.now }
 {
-    both(s.good, both(s.filled, s.depth == 0))
+    s.atom.is_some() && s.depth == 0
 }
 
 // Where the positions go on to, with the word's end behind the last.
-fn after_end(s: Reading) -> [u64; 10]
-    ensures answer { result ≡ after_end s }
+#[tactic(auto, unfolding(crate::specs::Rules::after_end))]
+fn after_end(s: &Reading) -> [u64; POSITIONS]
+    ensures answer { result ≡ after_end s.now }
 {
-    let after = s.after;
-    let e = s.alt;
-    link(after, e.last, 1024)
+    link(&s.after, s.alt.last, END)
 }
 
 // Where a word begins.
+#[tactic(auto, unfolding(crate::specs::Rules::start_set))]
 fn start_set(e: Part) -> u64
     ensures answer { result ≡ start_set e }
 {
-    e.first | only_if(e.nullable, 1024)
+    e.first | only_if(e.nullable, END)
 }
 
-// 1 if the state accepts: the word's end is in its set.
-fn accept_cell(sets: [u64; 16], q: usize) -> u64
+// Does state q accept? The word's end is in its set.
+#[tactic(auto, unfolding(crate::specs::Rules::accept_cell))]
+fn accept_cell(sets: &[u64; STATES], q: usize) -> bool
     requires state { q < 16 }
-    ensures answer { result ≡ accept_cell sets q }
+    ensures answer { result ≡ accept_cell sets.now q }
 {
-    only_if(has_bit(sets[q], 10), 1)
+    has_bit(sets[q], POSITIONS as u64)
 }
 
-fn accept_cells(sets: [u64; 16]) -> [u64; 16]
-    ensures answer { result ≡ tabulate (accept_cell sets) 16 }
+fn accept_cells(sets: &[u64; STATES]) -> [bool; STATES]
+    ensures answer { result ≡ tabulate (accept_cell sets.now) 16 }
 {
-    let mut t = [0; 16];
-    let mut q: usize = 0;
-    while q < 16 {
-        t[q] = accept_cell(sets, q);
-        q += 1;
-    }
-    t
+    array::from_fn(|q| accept_cell(sets, q))
 }
 
+#[tactic(auto, unfolding(crate::specs::Rules::table_of))]
 fn table(w: Walk) -> Rules
     ensures answer { result ≡ table_of w }
 {
-    if w.over {
-        return refuse(13);
-    }
-    let sets = w.sets;
-    let next = w.next;
-    let accepts = accept_cells(sets);
     Rules {
-        refusal: 0,
         states: w.states,
-        next,
-        accepts,
+        next: w.next,
+        accepts: accept_cells(&w.sets),
     }
 }
 
-fn walk_of(after: [u64; 10], labels: [u64; 10], start: u64) -> Walk
-    ensures answer { result ≡ walk_of after labels start }
+#[tactic(auto, unfolding(crate::specs::Rules::walk_of))]
+fn walk_of(positions: &Positions, start: u64) -> Option<Walk>
+    ensures answer { result ≡ walk_of positions.now.after positions.now.labels start }
 {
-    let mut cells = [0u64; 2048];
-    let count = find_vectors(after, labels, &mut cells);
-    walk_all(&cells[..count], after, labels, start)
+    walk_all(find_vectors(positions).sets(), positions, start)
 }
 
-// The table of a whole expression.
-fn whole_rules(s: Reading) -> Rules
-    ensures answer { result ≡ whole_rules s }
+// The table of a whole expression, unless it needs more than sixteen states.
+#[tactic(auto, unfolding(crate::specs::Rules::whole_rules, crate::specs::Rules::rules_from))]
+fn whole_rules(s: &Reading) -> Result<Rules, Refusal>
+    ensures answer { result ≡ whole_rules s.now }
 {
-    let labels = s.labels;
-    let e = s.alt;
-    table(walk_of(after_end(s), labels, start_set(e)))
+    let positions = Positions {
+        after: after_end(s),
+        labels: s.labels,
+    };
+    walk_of(&positions, start_set(s.alt))
+        .map(table)
+        .ok_or(Refusal::TooManyStates)
+}
+
+// The text as a whole expression; none if it is no expression.
+#[tactic(auto, unfolding(crate::specs::Rules::read_whole, crate::specs::Rules::whole_of))]
+fn read_whole(labels: &[u8], text: &[u8]) -> Option<Reading>
+    ensures answer { result ≡ read_whole labels.now text.now }
+{
+    if EXPRESSION_BYTES < text.len() {
+        return None;
+    }
+    let s = read(labels, text)?;
+    if is_whole(&s) { Some(finish(s)) } else { None }
 }
 
 // 02, K6: the rows of an expression over the labels, whose numbers are their places; 12 or 13
 // refuses.
-pub fn path_rules(labels: &[u8], text: &[u8]) -> Rules
+#[tactic(auto, unfolding(crate::specs::Rules::rules_of))]
+pub fn path_rules(labels: &[u8], text: &[u8]) -> Result<Rules, Refusal>
     ensures answer { result ≡ rules_of labels.now text.now }
 {
-    if 64 < text.len() {
-        return refuse(12);
-    }
-    let s = read(labels, text);
-    if is_whole(s) {
-        return whole_rules(finish(s));
-    }
-    refuse(12)
+    let s = read_whole(labels, text).ok_or(Refusal::NoExpression)?;
+    whole_rules(&s)
 }

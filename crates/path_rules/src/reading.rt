@@ -1,14 +1,18 @@
 // An expression read byte by byte (02, K6), with no tree in memory: of each part that is read only
 // which positions may come first and last, and whether it may be empty, and of all positions which
 // may follow which.
-ghost use Rattle.std.specs.Prelude.{◌≡◌, ◌<◌, ◌≤◌, length, drop};
-ghost use Rattle.path_rules.specs.Parts.{seq_part, alt_part, star_part, letter_part, empty_part, no_part, link_cell, linked};
+ghost use Rattle.std.specs.Prelude.{◌≡◌, ◌<◌, ◌≤◌};
+ghost use Rattle.path_rules.specs.Parts.{seq_part, alt_part, star_part, letter_part, link_cell, linked};
 ghost use Rattle.path_rules.specs.Grammar.{place_of};
-ghost use Rattle.path_rules.specs.Reading.{fresh, spoiled, merged, chosen, pushed, popped, repeated, opened, closed, starred, barred, placed, lettered, read_byte, read_all};
+ghost use Rattle.path_rules.specs.Reading.{fresh, merged, chosen, pushed, popped, repeated, opened, closed, starred, barred, placed, lettered, read_byte, read_all};
 
-use crate::sets::{bit, both, either, has_bit, only_if};
+use crate::sets::{LABELS, POSITIONS, bit, has_bit, only_if};
+use std::array;
 
-// What is kept of a part.
+// How many bracket pairs may be open at once: no more than an expression has bytes.
+pub const OPEN: usize = 64;
+
+// What is kept of a part: whether it may be empty, and which positions may come first and last.
 #[derive(Clone, Copy)]
 pub struct Part {
     pub nullable: bool,
@@ -16,41 +20,34 @@ pub struct Part {
     pub last: u64,
 }
 
-// What is known after the bytes so far: the choice, the sequence and the item being read, whether
-// there is an item, and those of the brackets around; where a position may go on to, and its label.
+// The part that is no word, which stands before the first sequence of a choice.
+const NO_PART: Part = Part {
+    nullable: false,
+    first: 0,
+    last: 0,
+};
+
+// The part that is the empty word only, which stands before the first item of a sequence.
+const EMPTY_PART: Part = Part {
+    nullable: true,
+    first: 0,
+    last: 0,
+};
+
+// What is known after the bytes so far: the choice and the sequence being read, the item before the
+// next byte, if there is one, and what stands before the open brackets; where a position may go on
+// to, and its label.
 #[derive(Clone, Copy)]
 pub struct Reading {
-    pub good: bool,
-    pub filled: bool,
     pub alt: Part,
     pub seq: Part,
-    pub atom: Part,
+    pub atom: Option<Part>,
     pub depth: usize,
     pub letters: usize,
-    pub after: [u64; 10],
-    pub labels: [u64; 10],
-    pub alts: [Part; 64],
-    pub seqs: [Part; 64],
-}
-
-fn no_part() -> Part
-    ensures answer { result ≡ no_part }
-{
-    Part {
-        nullable: false,
-        first: 0,
-        last: 0,
-    }
-}
-
-fn empty_part() -> Part
-    ensures answer { result ≡ empty_part }
-{
-    Part {
-        nullable: true,
-        first: 0,
-        last: 0,
-    }
+    pub after: [u64; POSITIONS],
+    pub labels: [u64; POSITIONS],
+    pub alts: [Part; OPEN],
+    pub seqs: [Part; OPEN],
 }
 
 fn letter_part(at: u64) -> Part
@@ -67,7 +64,7 @@ fn seq_part(a: Part, b: Part) -> Part
     ensures answer { result ≡ seq_part a b }
 {
     Part {
-        nullable: both(a.nullable, b.nullable),
+        nullable: a.nullable && b.nullable,
         first: a.first | only_if(a.nullable, b.first),
         last: b.last | only_if(b.nullable, a.last),
     }
@@ -77,7 +74,7 @@ fn alt_part(a: Part, b: Part) -> Part
     ensures answer { result ≡ alt_part a b }
 {
     Part {
-        nullable: either(a.nullable, b.nullable),
+        nullable: a.nullable || b.nullable,
         first: a.first | b.first,
         last: a.last | b.last,
     }
@@ -88,68 +85,51 @@ fn star_part(a: Part) -> Part
 {
     Part {
         nullable: true,
-        first: a.first,
-        last: a.last,
+        ..a
     }
 }
 
 // Where position p may go on to, when each of `lasts` may go on to `firsts` too.
-fn link_cell(after: [u64; 10], lasts: u64, firsts: u64, p: usize) -> u64
+#[tactic(auto, unfolding(crate::specs::Parts::link_cell))]
+fn link_cell(after: &[u64; POSITIONS], lasts: u64, firsts: u64, p: usize) -> u64
     requires position { p < 10 }
-    ensures answer { result ≡ link_cell after lasts firsts p }
+    ensures answer { result ≡ link_cell after.now lasts firsts p }
 {
     after[p] | only_if(has_bit(lasts, p as u64), firsts)
 }
 
-pub fn link(after: [u64; 10], lasts: u64, firsts: u64) -> [u64; 10]
-    ensures answer { result ≡ linked after lasts firsts }
+pub fn link(after: &[u64; POSITIONS], lasts: u64, firsts: u64) -> [u64; POSITIONS]
+    ensures answer { result ≡ linked after.now lasts firsts }
 {
-    let mut t = [0; 10];
-    let mut p: usize = 0;
-    while p < 10 {
-        t[p] = link_cell(after, lasts, firsts, p);
-        p += 1;
-    }
-    t
+    array::from_fn(|p| link_cell(after, lasts, firsts, p))
 }
 
-fn spoil(mut s: Reading) -> Reading
-    ensures answer { result ≡ spoiled s }
-{
-    s.good = false;
-    s
-}
-
-// The item joined to the sequence before it.
-fn merge(mut s: Reading) -> Reading
+// The item, if there is one, joined to the sequence before it.
+#[tactic(auto, unfolding(crate::specs::Reading::seq_with, crate::specs::Reading::linked_with))]
+fn merge(s: Reading) -> Reading
     ensures answer { result ≡ merged s }
 {
-    let seq = s.seq;
-    let atom = s.atom;
-    let after = s.after;
-    let linked = link(after, seq.last, atom.first);
-    let joined = seq_part(seq, atom);
-    let none = empty_part();
-    s.filled = false;
-    s.seq = joined;
-    s.atom = none;
-    s.after = linked;
-    s
+    match s.atom {
+        None => s,
+        Some(atom) => Reading {
+            seq: seq_part(s.seq, atom),
+            atom: None,
+            after: link(&s.after, s.seq.last, atom.first),
+            ..s
+        },
+    }
 }
 
 // The sequence joined to the choice before it.
-fn choose(mut s: Reading) -> Reading
+fn choose(s: Reading) -> Reading
     ensures answer { result ≡ chosen s }
 {
-    let alt = s.alt;
-    let seq = s.seq;
-    let joined = alt_part(alt, seq);
-    let none = empty_part();
-    s.filled = false;
-    s.alt = joined;
-    s.seq = none;
-    s.atom = none;
-    s
+    Reading {
+        alt: alt_part(s.alt, s.seq),
+        seq: EMPTY_PART,
+        atom: None,
+        ..s
+    }
 }
 
 // Choice and sequence laid aside while a bracket pair is read.
@@ -157,178 +137,158 @@ fn push(mut s: Reading) -> Reading
     requires depth { s.depth < 64 }
     ensures answer { result ≡ pushed s }
 {
-    let d = s.depth;
-    let alt = s.alt;
-    let seq = s.seq;
-    let none = no_part();
-    let empty = empty_part();
-    s.alts[d] = alt;
-    s.seqs[d] = seq;
-    s.filled = false;
-    s.alt = none;
-    s.seq = empty;
-    s.atom = empty;
-    s.depth = d + 1;
-    s
+    s.alts[s.depth] = s.alt;
+    s.seqs[s.depth] = s.seq;
+    Reading {
+        alt: NO_PART,
+        seq: EMPTY_PART,
+        atom: None,
+        depth: s.depth + 1,
+        ..s
+    }
 }
 
 // What was read between brackets is the next item behind what was laid aside.
-fn pop(mut s: Reading) -> Reading
+fn pop(s: Reading) -> Reading
     requires depth { (0 < s.depth) × (s.depth ≤ 64) }
     ensures answer { result ≡ popped s }
 {
-    let d = s.depth - 1;
-    let value = s.alt;
-    let alt = s.alts[d];
-    let seq = s.seqs[d];
-    s.filled = true;
-    s.alt = alt;
-    s.seq = seq;
-    s.atom = value;
-    s.depth = d;
-    s
+    let depth = s.depth - 1;
+    Reading {
+        alt: s.alts[depth],
+        seq: s.seqs[depth],
+        atom: Some(s.alt),
+        depth,
+        ..s
+    }
 }
 
 // The item any number of times.
-fn repeat(mut s: Reading) -> Reading
-    ensures answer { result ≡ repeated s }
+fn repeat(s: Reading, atom: Part) -> Reading
+    ensures answer { result ≡ repeated s atom }
 {
-    let atom = s.atom;
-    let after = s.after;
-    let linked = link(after, atom.last, atom.first);
-    let starred = star_part(atom);
-    s.filled = true;
-    s.atom = starred;
-    s.after = linked;
-    s
+    Reading {
+        atom: Some(star_part(atom)),
+        after: link(&s.after, atom.last, atom.first),
+        ..s
+    }
 }
 
 // A letter is the next item; its position is the number of letters before it.
-fn put_letter(mut s: Reading, label: u64) -> Reading
+fn put_letter(mut s: Reading, label: usize) -> Reading
     requires letters { s.letters < 10 }
     ensures answer { result ≡ placed s label }
 {
-    let n = s.letters;
-    let item = letter_part(bit(n as u64));
-    s.labels[n] = label;
-    s.filled = true;
-    s.atom = item;
-    s.letters = n + 1;
-    s
+    s.labels[s.letters] = label as u64;
+    Reading {
+        atom: Some(letter_part(bit(s.letters as u64))),
+        letters: s.letters + 1,
+        ..s
+    }
 }
 
-fn open(s: Reading) -> Reading
+#[tactic(auto, unfolding(crate::specs::Reading::opened))]
+fn open(s: Reading) -> Option<Reading>
     ensures answer { result ≡ opened s }
 {
-    if s.depth < 64 {
-        return push(merge(s));
+    if s.depth < OPEN {
+        Some(push(merge(s)))
+    } else {
+        None
     }
-    spoil(s)
 }
 
-fn close(s: Reading) -> Reading
+#[tactic(auto, unfolding(crate::specs::Reading::closed))]
+fn close(s: Reading) -> Option<Reading>
     requires depth { s.depth ≤ 64 }
     ensures answer { result ≡ closed s }
 {
-    if both(s.filled, 0 < s.depth) {
-        return pop(choose(merge(s)));
+    if s.atom.is_some() && 0 < s.depth {
+        Some(pop(choose(merge(s))))
+    } else {
+        None
     }
-    spoil(s)
 }
 
-fn star(s: Reading) -> Reading
+#[tactic(auto, unfolding(crate::specs::Reading::starred))]
+fn star(s: Reading) -> Option<Reading>
     ensures answer { result ≡ starred s }
 {
-    if s.filled {
-        return repeat(s);
-    }
-    spoil(s)
+    let atom = s.atom?;
+    Some(repeat(s, atom))
 }
 
-fn bar(s: Reading) -> Reading
+#[tactic(auto, unfolding(crate::specs::Reading::barred))]
+fn bar(s: Reading) -> Option<Reading>
     ensures answer { result ≡ barred s }
 {
-    if s.filled {
-        return choose(merge(s));
+    if s.atom.is_some() {
+        Some(choose(merge(s)))
+    } else {
+        None
     }
-    spoil(s)
 }
 
-fn letter(s: Reading, label: u64) -> Reading
+#[tactic(auto, unfolding(crate::specs::Reading::lettered))]
+fn letter(s: Reading, label: usize) -> Option<Reading>
     ensures answer { result ≡ lettered s label }
 {
-    if both(label < 8, s.letters < 10) {
-        return put_letter(merge(s), label);
+    if label < LABELS && s.letters < POSITIONS {
+        Some(put_letter(merge(s), label))
+    } else {
+        None
     }
-    spoil(s)
 }
 
 // The place of a byte among the labels; 8 if it is none of them.
-fn place(labels: &[u8], b: u8) -> u64
+fn place(labels: &[u8], b: u8) -> usize
     ensures answer { result ≡ place_of 0 b labels.now }
 {
-    let mut i: usize = 0;
-    while i < labels.len() {
-        if b == labels[i] {
-            return i as u64;
-        }
-        i += 1;
-    }
-    8
+    labels.iter().position(|l| *l == b).unwrap_or(LABELS)
 }
 
-fn read_byte(labels: &[u8], s: Reading, b: u8) -> Reading
+// What is known with one byte more; none if no expression begins so.
+#[tactic(auto, unfolding(crate::specs::Reading::read_byte, crate::specs::Reading::by_kind))]
+fn read_byte(labels: &[u8], s: Reading, b: u8) -> Option<Reading>
     requires depth { s.depth ≤ 64 }
     ensures answer { result ≡ read_byte labels.now s b }
 {
-    if b == b'(' {
-        return open(s);
+    match b {
+        b'(' => open(s),
+        b')' => close(s),
+        b'*' => star(s),
+        b'|' => bar(s),
+        _ => letter(s, place(labels, b)),
     }
-    if b == b')' {
-        return close(s);
-    }
-    if b == b'*' {
-        return star(s);
-    }
-    if b == b'|' {
-        return bar(s);
-    }
-    letter(s, place(labels, b))
 }
 
 // Nothing read yet.
+#[tactic(auto, unfolding(crate::specs::Reading::fresh))]
 fn nothing() -> Reading
     ensures answer { result ≡ fresh }
 {
-    let none = no_part();
-    let empty = empty_part();
-    let alts = [none; 64];
-    let seqs = [empty; 64];
     Reading {
-        good: true,
-        filled: false,
-        alt: none,
-        seq: empty,
-        atom: empty,
+        alt: NO_PART,
+        seq: EMPTY_PART,
+        atom: None,
         depth: 0,
         letters: 0,
-        after: [0; 10],
-        labels: [8; 10],
-        alts,
-        seqs,
+        after: [0; POSITIONS],
+        labels: [LABELS as u64; POSITIONS],
+        alts: [NO_PART; OPEN],
+        seqs: [EMPTY_PART; OPEN],
     }
 }
 
-pub fn read(labels: &[u8], text: &[u8]) -> Reading
+// What is known after all bytes; none if no expression begins so.
+pub fn read(labels: &[u8], text: &[u8]) -> Option<Reading>
     ensures answer { result ≡ read_all labels.now fresh text.now }
 {
     let mut s = nothing();
-    let mut i: usize = 0;
-    while i < text.len() {
-        s = read_byte(labels, s, text[i]);
-        i += 1;
+    for &b in text {
+        s = read_byte(labels, s, b)?;
     }
-    s
+    Some(s)
 }
 
 // The choice as a whole, with the last sequence and item.

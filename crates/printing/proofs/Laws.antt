@@ -13,14 +13,16 @@ use borrow.Author.Tests.{lt-ltb, le-ltb, lt-leb, ltb-true, ltb-false}
 use Rattle.scope_graph.specs.Graph.{Query}
 use Rattle.scope_graph.specs.Rows.{language}
 use Rattle.text_field.specs.Number.{number_text}
-use Rattle.text_field.specs.Buffer.{Buf, put, puts}
+use Rattle.text_field.specs.Buffer.{Buf, puts}
 use Rattle.text_field.proofs.NumberLaws.{length_below}
-use Rattle.text_field.proofs.BufferLaws.{puts_then, puts_fits}
+use Rattle.text_field.proofs.BufferLaws.{puts_fits}
 use Rattle.text_field.specs.Outcome.{Outcome, refused, done, and_then, refuse_if}
 use Rattle.graph_file.specs.File.{read_cells, WasRead}
 use Rattle.text_field.specs.Answer.{answer, leaves, answer_of}
-use Rattle.text_field.specs.declared.answer.Answer.{Answer}
-use Rattle.text_field.specs.declared.answer.Answer.TheVariants.{Refused, Written}
+use Rattle.std.specs.declared.result.Result.{Result}
+use Rattle.std.specs.declared.result.Result.TheVariants.{Ok, Err}
+use Rattle.text_field.specs.declared.refusal.Refusal.{Refusal}
+use Rattle.text_field.specs.Refusal.{number_of}
 use Rattle.graph_rows.specs.Decode.{rules_of, queries_of}
 use Rattle.graph_rows.proofs.DecodeWay.{done_is}
 use Rattle.resolution.specs.Listing.{listing_text, listing_of, summary_of}
@@ -28,18 +30,11 @@ use Rattle.board.specs.Queries.{query_at}
 use Rattle.resolution.specs.declared.sums.Figures.{Figures}
 use Rattle.resolution.specs.Figures.{no_figures, figures_over, figures_text}
 use Rattle.resolution.proofs.Buffers.{head_fits, short_answer, short_leaves, whole_answer, whole_leaves, own_within}
-use Rattle.graph_file.proofs.TableLaws.{ReadInto, made_read}
 use Rattle.resolution.proofs.Counts.{queries_few, figures_few, figures_text_lem, summary_short}
 use Rattle.printing.specs.Printed.{refused_line, in_place, lent, table_text, outcome_text, program_text, Due}
 use Rattle.printing.specs.Parts.{answered, part_text}
 
--- the line, in three writes
-pub refused_puts : (n : ℕ) (b c d e : Buf) → c ≡ puts b (114 ∷ 101 ∷ 102 ∷ 117 ∷ 115 ∷ 101 ∷ 100 ∷ 32 ∷ []) → d ≡ puts c (number_text n) → e ≡ put d 10
-    → e ≡ puts b (refused_line n)
-unfolding refused_line puts
-refused_puts n b c d e f g h =
-    puts_then b c e (114 ∷ 101 ∷ 102 ∷ 117 ∷ 115 ∷ 101 ∷ 100 ∷ 32 ∷ []) (number_text n ++ (10 ∷ [])) f (puts_then c d e (number_text n) (10 ∷ []) g h)
-
+-- a refusal's line is short
 pub refused_short : (n : ℕ) → n < 18446744073709551616 → length (refused_line n) ≤ 32
 unfolding refused_line
 refused_short n h =
@@ -48,17 +43,17 @@ refused_short n h =
     omega arith
 
 -- what stands in the buffer after an answer
-module _ (a : Answer) (out mid : List ℕ) (b : Buf) (stands : b ≡ answered a mid) where
+module _ (a : Result ℕ Refusal) (out mid : List ℕ) (b : Buf) (stands : b ≡ answered a mid) where
   refused_place : (n : ℕ) → answer_of a ≡ refused n → mid ≡ out → b ≡ puts (out, 0) (refused_line n)
   unfolding answered answer_of
   refused_place n e l = by a refl
     where
-      by : (x : Answer) → a ≡ x → b ≡ puts (out, 0) (refused_line n)
-      by (Refused m) f =
-          let z : ◌≡◌ {A = Outcome ℕ} (refused m) (refused n) = ap answer_of (sym f) ∙ e in
-          let k : m ≡ n = cc in
-          stands ∙ ap (λ (y : Answer). answered y mid) f ∙ ap (λ (y : List ℕ). puts (y, 0) (refused_line m)) l ∙ ap (λ (y : ℕ). puts (out, 0) (refused_line y)) k
-      by (Written m) f =
+      by : (x : Result ℕ Refusal) → a ≡ x → b ≡ puts (out, 0) (refused_line n)
+      by (Err m) f =
+          let z : ◌≡◌ {A = Outcome ℕ} (refused (number_of m)) (refused n) = ap answer_of (sym f) ∙ e in
+          let k : number_of m ≡ n = cc in
+          stands ∙ ap (λ (y : Result ℕ Refusal). answered y mid) f ∙ ap (λ (y : List ℕ). puts (y, 0) (refused_line (number_of m))) l ∙ ap (λ (y : ℕ). puts (out, 0) (refused_line y)) k
+      by (Ok m) f =
           let z : ◌≡◌ {A = Outcome ℕ} (done m) (refused n) = ap answer_of (sym f) ∙ e in
           absurd (let y : ◌≡◌ {A = ℕ} 0 1 = cc in omega arith)
 
@@ -66,16 +61,16 @@ module _ (a : Answer) (out mid : List ℕ) (b : Buf) (stands : b ≡ answered a 
   unfolding answered answer_of
   done_place text h e l = by a refl
     where
-      by : (x : Answer) → a ≡ x → b ≡ puts (out, 0) text
-      by (Refused m) f =
-          let z : ◌≡◌ {A = Outcome ℕ} (refused m) (done (length text)) = ap answer_of (sym f) ∙ e in
+      by : (x : Result ℕ Refusal) → a ≡ x → b ≡ puts (out, 0) text
+      by (Err m) f =
+          let z : ◌≡◌ {A = Outcome ℕ} (refused (number_of m)) (done (length text)) = ap answer_of (sym f) ∙ e in
           absurd (let y : ◌≡◌ {A = ℕ} 0 1 = cc in omega arith)
-      by (Written m) f =
+      by (Ok m) f =
           let z : ◌≡◌ {A = Outcome ℕ} (done m) (done (length text)) = ap answer_of (sym f) ∙ e in
           let k : m ≡ length text = done_is z in
           let i : 0 + length text ≤ length out = omega arith in
           let d : 0 + length text ≡ length text = omega arith in
-          stands ∙ ap (λ (y : Answer). answered y mid) f ∙ ap (λ (y : List ℕ). (y, m)) l ∙ ap (λ (y : ℕ). (text ++ drop (length text) out, y)) k
+          stands ∙ ap (λ (y : Result ℕ Refusal). answered y mid) f ∙ ap (λ (y : List ℕ). (y, m)) l ∙ ap (λ (y : ℕ). (text ++ drop (length text) out, y)) k
           ∙ sym (puts_fits out 0 text i ∙ ap (λ (y : ℕ). (text ++ drop y out, y)) d)
 
   -- the output, or its refusal's line in its place
@@ -265,24 +260,15 @@ pub for_refused : (text : List ℕ) (n : ℕ) → read_cells text ≡ refused n 
 unfolding program_text outcome_text
 for_refused text n e = ap outcome_text e
 
-pub for_read : (text : List ℕ) (n : ℕ) (t : List ℕ) → ReadInto text n t → program_text text ≡ table_text (take n t)
+pub for_read : (text cells : List ℕ) → read_cells text ≡ done cells → program_text text ≡ table_text cells
 unfolding program_text outcome_text
-for_read text n t m = ap outcome_text m.made
+for_read text cells e = ap outcome_text e
 
 pub refused_due : (text : List ℕ) (n : ℕ) → read_cells text ≡ refused n → n < 18446744073709551616 → Due text 0 (refused_line n)
 refused_due text n e h = due_whole text (refused_line n) (for_refused text n e) (let s = refused_short n h in omega arith)
 
-pub read_due : (text : List ℕ) (n : ℕ) (t : List ℕ) → ReadInto text n t → Due text 0 (table_text (take n t))
-read_due text n t m = due_whole text (table_text (take n t)) (for_read text n t m) (table_counted (take n t) (made_read text n t m))
-
--- an answer taken apart
-pub answered_written : (a : Answer) (n : ℕ) (out : List ℕ) → a ≡ Written n → (out, n) ≡ answered a out
-unfolding answered
-answered_written a n out e = rw e
-
-pub answered_refused : (a : Answer) (n : ℕ) (out : List ℕ) (b : Buf) → a ≡ Refused n → b ≡ puts (out, 0) (refused_line n) → b ≡ answered a out
-unfolding answered
-answered_refused a n out b e f = rw e f
+pub read_due : (text cells : List ℕ) → read_cells text ≡ done cells → Due text 0 (table_text cells)
+read_due text cells e = due_whole text (table_text cells) (for_read text cells e) (table_counted cells (text, e))
 
 -- a text that stands in the first k bytes of a buffer, and so is due where the text is
 pub record Stands (text h : List ℕ) (k : ℕ) : Type 0 where

@@ -1,8 +1,10 @@
 -- The output in the parts in which the code makes it. Assumes nothing: these are definitions.
 use Rattle.std.specs.Prelude.{ℕ, true, false, List, ltb, length}
 use Rattle.text_field.specs.Buffer.{Buf, puts}
-use Rattle.text_field.specs.declared.answer.Answer.{Answer}
-use Rattle.text_field.specs.declared.answer.Answer.TheVariants.{Refused, Written}
+use Rattle.std.specs.declared.result.Result.{Result}
+use Rattle.std.specs.declared.result.Result.TheVariants.{Ok, Err}
+use Rattle.text_field.specs.declared.refusal.Refusal.{Refusal}
+use Rattle.text_field.specs.Refusal.{number_of}
 use Rattle.text_field.specs.Outcome.{done}
 use Rattle.graph_rows.specs.Decode.{queries_of}
 use Rattle.resolution.specs.Listing.{listing_of, summary_of}
@@ -10,9 +12,9 @@ use Rattle.printing.specs.Printed.{refused_line, in_place}
 
 -- a buffer after an answer: the output stays as it was written, a refusal's line is put to the
 -- front
-unfoldable pub answered : Answer → List ℕ → Buf
-answered (Written n) out = (out, n)
-answered (Refused n) out = puts (out, 0) (refused_line n)
+unfoldable pub answered : Result ℕ Refusal → List ℕ → Buf
+answered (Ok n) out = (out, n)
+answered (Err r) out = puts (out, 0) (refused_line (number_of r))
 
 -- with so much room lent for each part of a table's output
 module _ (room : ℕ) (cells : List ℕ) where

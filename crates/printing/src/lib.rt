@@ -14,6 +14,7 @@ ghost use Rattle.text_field.specs.Buffer.{puts};
 ghost use Rattle.graph_rows.specs.Decode.{queries_of};
 ghost use Rattle.graph_file.specs.File.{WasRead};
 ghost use Rattle.text_field.specs.Outcome.{done};
+ghost use Rattle.text_field.specs.Refusal.{number_of};
 ghost use Rattle.board.specs.Made.{Made};
 ghost use Rattle.board.specs.Queries.{query_at};
 ghost use Rattle.resolution.specs.Listing.{found_for};
@@ -24,11 +25,11 @@ ghost use Rattle.printing.specs.Parts.{part_text};
 
 use block::SIZE;
 use board::put_board;
-use graph_file::{OWN_CELLS, read_over};
+use graph_file::with_graph;
 pub use parts::{put_answer, put_refused};
 use parts::{put_listing, put_summary};
-use resolution::{Figures, Found, counted, no_figures, query_count};
-use text_field::Answer;
+use resolution::{Figures, Found, counted, query_count};
+use text_field::Refusal;
 
 // The room that document 01 has the program lend for a listing; the summary, which is shorter, gets
 // it too.
@@ -53,12 +54,12 @@ fn emit(text: &[u8], sent: usize, piece: &[u8]) -> usize
 }
 
 // The line of a refused file; the place behind it.
-fn print_refused(text: &[u8], sent: usize, n: u64) -> usize
-    requires due { Due text.now sent (refused_line n) }
-    ensures answer { result ≡ sent + length (refused_line n) }
+fn print_refused(text: &[u8], sent: usize, r: Refusal) -> usize
+    requires due { Due text.now sent (refused_line (number_of r)) }
+    ensures answer { result ≡ sent + length (refused_line (number_of r)) }
 {
     let mut out = [0u8; LINE];
-    let k = put_refused(&mut out, n);
+    let k = put_refused(&mut out, r);
     emit(text, sent, &out[..k])
 }
 
@@ -75,7 +76,7 @@ fn print_listing(
     text: &[u8],
     sent: usize,
     table: &[u64],
-    block: &[u64],
+    block: &[u64; SIZE],
     i: usize,
     out: &mut [u8],
 ) -> Printed
@@ -89,10 +90,10 @@ fn print_listing(
     ensures memory { out.new ≡ (puts (out.old, 0) (part_text lent table.now i)).0 }
 {
     let p = put_listing(table, block, i, out);
-    let k = p.size;
-    let found = p.found;
-    let place = emit(text, sent, &out[..k]);
-    Printed { place, found }
+    Printed {
+        place: emit(text, sent, &out[..p.size]),
+        found: p.found,
+    }
 }
 
 // The summary of these figures, in one piece; the place behind it.
@@ -109,7 +110,7 @@ fn print_summary(text: &[u8], sent: usize, c: Figures, out: &mut [u8]) -> usize
 
 // All listings in turn, then the summary of what they told; the place behind them. One buffer is
 // lent to all of them, so that it is cleared once.
-fn print_parts(text: &[u8], sent: usize, table: &[u64], block: &[u64]) -> usize
+fn print_parts(text: &[u8], sent: usize, table: &[u64], block: &[u64; SIZE]) -> usize
     requires read { WasRead table.now }
     requires made { Made table.now block.now }
     requires due { Due text.now sent (table_text table.now) }
@@ -118,17 +119,13 @@ fn print_parts(text: &[u8], sent: usize, table: &[u64], block: &[u64]) -> usize
     let n = query_count(table, block);
     let mut out = [0u8; LENT];
     let mut place = sent;
-    let mut c = no_figures();
-    let mut i: usize = 0;
-    while i < n {
+    let mut c = Figures::default();
+    for i in 0..n {
         let p = print_listing(text, place, table, block, i, &mut out);
         place = p.place;
-        let found = p.found;
-        c = counted(c, found);
-        i += 1;
+        c = counted(c, p.found);
     }
-    let end = print_summary(text, place, c, &mut out);
-    end
+    print_summary(text, place, c, &mut out)
 }
 
 // The output for a table that was read, over its board, which is made once; the place behind it.
@@ -146,10 +143,8 @@ fn print_table(text: &[u8], sent: usize, table: &[u64]) -> usize
 pub fn print_for(text: &[u8]) -> usize
     ensures answer { result ≡ length (program_text text.now) }
 {
-    let mut table = [0u64; OWN_CELLS];
-    let a = read_over(text, &mut table);
-    match a {
-        Answer::Refused(n) => print_refused(text, 0, n),
-        Answer::Written(n) => print_table(text, 0, &table[..n]),
+    match with_graph(text, &mut |table: &[u64]| print_table(text, 0, table)) {
+        Ok(end) => end,
+        Err(r) => print_refused(text, 0, r),
     }
 }

@@ -2,6 +2,7 @@
 ghost use Rattle.std.specs.Prelude.{◌≡◌, ◌<◌, length};
 ghost use Rattle.text_field.specs.Buffer.{Buf, puts};
 ghost use Rattle.text_field.specs.Outcome.{done};
+ghost use Rattle.text_field.specs.Refusal.{number_of};
 ghost use Rattle.graph_rows.specs.Decode.{queries_of};
 ghost use Rattle.graph_file.specs.File.{WasRead};
 ghost use Rattle.board.specs.Made.{Made};
@@ -12,8 +13,9 @@ ghost use Rattle.resolution.specs.Figures.{Few, figures_text};
 ghost use Rattle.printing.specs.Printed.{refused_line, in_place};
 ghost use Rattle.printing.specs.Parts.{answered};
 
+use block::SIZE;
 use resolution::{Figures, Found, listing_on, summary_by};
-use text_field::{Answer, put_byte, put_bytes, put_number};
+use text_field::{Refusal, Writer};
 
 // A query's part: its bytes at the front of what was lent, and the query's `found`.
 #[derive(Clone, Copy)]
@@ -22,27 +24,29 @@ pub struct Part {
     pub found: Found,
 }
 
-// The line `refused N`.
-pub fn put_refused(out: &mut [u8], n: u64) -> usize
-    ensures written { ◌≡◌ {A = Buf} (out.new, result) (puts (out.old, 0) (refused_line n)) }
+// The line `refused N`, by the refusal's number.
+pub fn put_refused(out: &mut [u8], r: Refusal) -> usize
+    ensures written { ◌≡◌ {A = Buf} (out.new, result) (puts (out.old, 0) (refused_line (number_of r))) }
 {
-    let b = put_bytes(out, 0, b"refused ");
-    let c = put_number(out, b, n);
-    put_byte(out, c, 10)
+    let mut to = Writer::new(out);
+    to.put_bytes(b"refused ");
+    to.put_number(r.number());
+    to.put(b'\n');
+    to.end()
 }
 
 // What was written stays; for a refusal its line is put in its place.
-pub fn put_answer(out: &mut [u8], a: Answer) -> usize
+pub fn put_answer(out: &mut [u8], a: Result<usize, Refusal>) -> usize
     ensures written { ◌≡◌ {A = Buf} (out.new, result) (answered a out.old) }
 {
     match a {
-        Answer::Written(n) => n,
-        Answer::Refused(n) => put_refused(out, n),
+        Ok(n) => n,
+        Err(r) => put_refused(out, r),
     }
 }
 
 // The listing of query i.
-pub fn put_listing(table: &[u64], block: &[u64], i: usize, out: &mut [u8]) -> Part
+pub fn put_listing(table: &[u64], block: &[u64; SIZE], i: usize, out: &mut [u8]) -> Part
     requires read { WasRead table.now }
     requires made { Made table.now block.now }
     requires number { i < length (queries_of table.now) }
@@ -50,10 +54,10 @@ pub fn put_listing(table: &[u64], block: &[u64], i: usize, out: &mut [u8]) -> Pa
     ensures found { found_meaning result.found ≡ found_for table.now (query_at table.now i) }
 {
     let l = listing_on(table, block, i, out);
-    let a = l.answer;
-    let found = l.found;
-    let size = put_answer(out, a);
-    Part { size, found }
+    Part {
+        size: put_answer(out, l.answer),
+        found: l.found,
+    }
 }
 
 // The summary of these figures.

@@ -5,7 +5,7 @@ use mathlib.Core.Bool.{Bool, true, false}
 use mathlib.Core.List.{List, [], ◌∷◌}
 use native.Mathlib.Omega.{arith}
 use borrow.Author.Tests.{lt-leb, le-leb}
-use lib.ListN.{length, length-append, take, replicate, length-replicate}
+use lib.ListN.{length, length-append, replicate, length-replicate}
 use Rattle.scope_graph.specs.Graph.{Declaration}
 use Rattle.scope_graph.specs.Rows.{language}
 use Rattle.scope_graph.specs.Computed.{keep}
@@ -14,11 +14,10 @@ use Rattle.scope_graph.proofs.Lists.{keep_elim}
 use Rattle.scope_graph.proofs.Readers.{numbers_elim}
 use Rattle.text_field.specs.Outcome.{Outcome, refused, done, and_then, refuse_if}
 use Rattle.text_field.specs.Answer.{answer, leaves}
-use Rattle.graph_file.specs.File.{read_cells, WasRead}
+use Rattle.graph_file.specs.File.{WasRead}
 use Rattle.graph_rows.specs.Decode.{rules_of, scopes_of, graph_of}
-use Rattle.graph_file.proofs.TableLaws.{ReadInto, refused_then, made_then}
 use Rattle.graph_table.specs.declared.rows.DeclarationRow.{DeclarationRow}
-use Rattle.readers.specs.Readers.{readers_text, declaration_at, readers_of, readers_for}
+use Rattle.readers.specs.Readers.{readers_text, declaration_at, readers_of}
 use Rattle.readers.specs.Given.{declaration_on}
 use Rattle.readers.proofs.Texts.{text_short}
 use Rattle.readers.proofs.Asked.{scopes_few}
@@ -81,15 +80,3 @@ module _ (cells : List ℕ) where
             t.0 ∙ ap (λ (x : Outcome (List ℕ)). answer x (length out)) f,
             t.1 ∙ ap (λ (x : Outcome (List ℕ)). leaves x out) f,
           )
-
--- a text that was refused, and one that was read
-pub readers_refused : (text : List ℕ) (i n : ℕ) (out : List ℕ) → read_cells text ≡ refused n
-    → (refused n ≡ answer (readers_for text i) (length out)) × (out ≡ leaves (readers_for text i) out)
-unfolding readers_for
-readers_refused text i n out e = refused_then (λ cells. readers_of cells i) text n out e
-
-pub readers_made : (text : List ℕ) (i n : ℕ) (t : List ℕ) → ReadInto text n t → (r : Outcome ℕ) (o out : List ℕ)
-    → (r ≡ answer (readers_of (take n t) i) (length out)) × (o ≡ leaves (readers_of (take n t) i) out)
-    → (r ≡ answer (readers_for text i) (length out)) × (o ≡ leaves (readers_for text i) out)
-unfolding readers_for
-readers_made text i n t m r o out e = made_then (λ cells. readers_of cells i) text n t m r o out e

@@ -11,15 +11,8 @@ use Rattle.scope_graph.specs.Computed.{keep}
 use Rattle.scope_graph.specs.Readers.{numbers_below}
 use Rattle.scope_graph.proofs.Lists.{here, there}
 use Rattle.text_field.specs.Number.{number_text}
-use Rattle.text_field.specs.Buffer.{Buf, put, puts}
 use Rattle.text_field.proofs.NumberLaws.{length_below}
-use Rattle.text_field.proofs.BufferLaws.{puts_then}
 use Rattle.readers.specs.Readers.{scope_line, readers_text}
-
--- a scope and its line feed, written one after the other
-pub scope_puts : (s : ℕ) (b c d : Buf) → c ≡ puts b (number_text s) → d ≡ put c 10 → d ≡ puts b (scope_line s)
-unfolding scope_line puts
-scope_puts s b c d e f = puts_then b c d (number_text s) (10 ∷ []) e f
 
 keep_append : {A : Type 0} (f : A → Bool) (l k : List A) → keep f (l ++ k) ≡ keep f l ++ keep f k
 unfolding keep
@@ -56,28 +49,25 @@ module _ (test : ℕ → Bool) where
       ∙ ap (flat_map scope_line) (keep_append test (numbers_below n) (n ∷ []))
       ∙ lines_append (keep test (numbers_below n)) (keep test (n ∷ []))
 
-  pub lines_none : (b : Buf) → b ≡ puts b (lines_to 0)
-  unfolding numbers_below keep flat_map puts
-  lines_none b = refl
+  pub lines_none : lines_to 0 ≡ []
+  unfolding numbers_below keep flat_map
+  lines_none = refl
 
-  pub lines_passed : (n : ℕ) (b c : Buf) → test n ≡ false → c ≡ puts b (lines_to n) → c ≡ puts b (lines_to (n + 1))
+  pub lines_passed : (n : ℕ) → test n ≡ false → lines_to (n + 1) ≡ lines_to n
   unfolding flat_map
-  lines_passed n b c f e =
-      e ∙ ap (puts b) (sym (more n ∙ ap (λ (l : List ℕ). lines_to n ++ flat_map scope_line l) (kept_one n false f) ∙ append-nil (lines_to n)))
+  lines_passed n f = more n ∙ ap (λ (l : List ℕ). lines_to n ++ flat_map scope_line l) (kept_one n false f) ∙ append-nil (lines_to n)
 
-  pub lines_read : (n : ℕ) (b c d : Buf) → test n ≡ true → c ≡ puts b (lines_to n) → d ≡ puts c (scope_line n) → d ≡ puts b (lines_to (n + 1))
+  pub lines_read : (n : ℕ) → test n ≡ true → lines_to (n + 1) ≡ lines_to n ++ scope_line n
   unfolding flat_map
-  lines_read n b c d t e g =
-      puts_then b c d (lines_to n) (scope_line n) e g
-      ∙ ap (puts b)
-      (sym (more n
+  lines_read n t =
+      more n
       ∙ ap (λ (l : List ℕ). lines_to n ++ flat_map scope_line l) (kept_one n true t)
-      ∙ ap (λ (l : List ℕ). lines_to n ++ l) (append-nil (scope_line n))))
+      ∙ ap (λ (l : List ℕ). lines_to n ++ l) (append-nil (scope_line n))
 
   -- the names line before them
-  pub text_whole : (n m : ℕ) (b c d : Buf) → n ≡ m → c ≡ puts b (97 ∷ 116 ∷ 10 ∷ []) → d ≡ puts c (lines_to n) → d ≡ puts b (readers_text (keep test (numbers_below m)))
+  pub text_whole : (n m : ℕ) → n ≡ m → (97 ∷ 116 ∷ 10 ∷ []) ++ lines_to n ≡ readers_text (keep test (numbers_below m))
   unfolding readers_text
-  text_whole n m b c d all e f = puts_then b c d (97 ∷ 116 ∷ 10 ∷ []) (lines_to n) e f ∙ ap (λ (k : ℕ). puts b (97 ∷ 116 ∷ 10 ∷ lines_to k)) all
+  text_whole n m all = ap (λ (k : ℕ). 97 ∷ 116 ∷ 10 ∷ lines_to k) all
 
 -- a scope's line has three bytes at most, so 64 scopes have 192
 line_short : (s : ℕ) → s < 64 → length (scope_line s) ≤ 3

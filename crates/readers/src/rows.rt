@@ -6,11 +6,12 @@ ghost use Rattle.board.specs.Made.{Made};
 ghost use Rattle.readers.specs.Readers.{declaration_at};
 ghost use Rattle.readers.specs.Given.{declaration_on};
 
+use block::SIZE;
 use board::part;
 use graph_table::{DECLARATIONS, DeclarationRow, ROW, declaration_row, row_count};
 
 // How many declarations there are.
-pub(crate) fn declaration_count(table: &[u64], block: &[u64]) -> usize
+pub(crate) fn declaration_count(table: &[u64], block: &[u64; SIZE]) -> usize
     requires read { WasRead table.now }
     requires made { Made table.now block.now }
     ensures answer { result ≡ length (graph_of table.now).declarations }
@@ -19,7 +20,7 @@ pub(crate) fn declaration_count(table: &[u64], block: &[u64]) -> usize
 }
 
 // The declaration in row i.
-pub(crate) fn declaration_at(table: &[u64], block: &[u64], i: usize) -> DeclarationRow
+pub(crate) fn declaration_at(table: &[u64], block: &[u64; SIZE], i: usize) -> DeclarationRow
     requires read { WasRead table.now }
     requires made { Made table.now block.now }
     requires place { i < length (graph_of table.now).declarations }

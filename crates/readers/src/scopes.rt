@@ -5,6 +5,7 @@ ghost use Rattle.scope_graph.specs.Rows.{language};
 ghost use Rattle.scope_graph.specs.Ends.{ends_at};
 ghost use Rattle.scope_graph.specs.Readers.{query_for, readers};
 ghost use Rattle.text_field.specs.Buffer.{Buf, puts};
+ghost use Rattle.text_field.specs.Writing.{Wrote};
 ghost use Rattle.graph_rows.specs.Decode.{rules_of, scopes_of, graph_of};
 ghost use Rattle.graph_rows.specs.Format.{declaration_section};
 ghost use Rattle.graph_table.specs.Sections.{part_of};
@@ -13,15 +14,15 @@ ghost use Rattle.board.specs.Marks.{DeclaringIs};
 ghost use Rattle.readers.specs.Readers.{scope_line, readers_text};
 ghost use Rattle.readers.specs.Given.{declaration_on, Stands};
 
-use block::scope_count;
+use block::{SIZE, scope_count};
 use board::{declaring, part};
 use graph_table::{DECLARATIONS, DeclarationRow, QueryRow};
 use resolution::{ask_from, is_end};
-use text_field::{put_byte, put_bytes, put_number};
+use text_field::Writer;
 
 // Does the scope read the declaration? It does if a visible path from it ends at the declaration's
 // scope: every mark of the name there is then an entry.
-fn reads(table: &[u64], block: &[u64], d: DeclarationRow, declared: u64, s: u64) -> bool
+fn reads(table: &[u64], block: &[u64; SIZE], d: DeclarationRow, declared: u64, s: u64) -> bool
     requires stands { Stands table.now block.now d }
     requires declared { DeclaringIs (part_of declaration_section table.now) (packed d.name) declared }
     requires scope { s < scopes_of table.now }
@@ -34,29 +35,31 @@ fn reads(table: &[u64], block: &[u64], d: DeclarationRow, declared: u64, s: u64)
 }
 
 // A scope and the end of its line.
-fn put_scope(out: &mut [u8], n: usize, s: u64) -> usize
-    ensures written { ◌≡◌ {A = Buf} (out.new, result) (puts (out.old, n) (scope_line s)) }
+fn put_scope(to: &mut Writer, s: u64)
+    ensures wrote { Wrote to.old to.new (scope_line s) }
 {
-    let k = put_number(out, n, s);
-    put_byte(out, k, b'\n')
+    to.put_number(s);
+    to.put(b'\n');
 }
 
 // The names line, and a line for each scope that reads the declaration.
-pub(crate) fn put_readers(table: &[u64], block: &[u64], d: DeclarationRow, out: &mut [u8]) -> usize
+pub(crate) fn put_readers(
+    table: &[u64],
+    block: &[u64; SIZE],
+    d: DeclarationRow,
+    out: &mut [u8],
+) -> usize
     requires stands { Stands table.now block.now d }
     ensures written { ◌≡◌ {A = Buf} (out.new, result) (puts (out.old, 0) (readers_text (readers (language (rules_of table.now)) (graph_of table.now) (declaration_on table.now d)))) }
 {
     let declared = declaring(part(table, block, DECLARATIONS), d.name);
     let count = scope_count(block);
-    let mut n = put_bytes(out, 0, b"at\n");
-    let mut next: u64 = 0;
-    while next < count {
-        let s = next;
-        next += 1;
-        if !reads(table, block, d, declared, s) {
-            continue;
+    let mut to = Writer::new(out);
+    to.put_bytes(b"at\n");
+    for s in 0..count {
+        if reads(table, block, d, declared, s) {
+            put_scope(&mut to, s);
         }
-        n = put_scope(out, n, s);
     }
-    n
+    to.end()
 }

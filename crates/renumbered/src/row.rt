@@ -12,24 +12,15 @@ use graph_table::EDGES;
 pub fn new_number(was: &[u64], x: u64) -> u64
     ensures answer { result ≡ new_number was.now x }
 {
-    let mut i: usize = 0;
-    while i < was.len() {
-        if was[i] == x {
-            return i as u64;
-        }
-        i += 1;
-    }
-    i as u64
+    was.iter().position(|old| *old == x).unwrap_or(was.len()) as u64
 }
 
 // A value under its new number if it is a scope, else as it is.
+#[tactic(auto, using(crate::proofs::Numbers::value_steps))]
 fn new_value(was: &[u64], scope: bool, v: u64) -> u64
     ensures answer { result ≡ value_under (new_number was.now) scope v }
 {
-    if scope {
-        return new_number(was, v);
-    }
-    v
+    if scope { new_number(was, v) } else { v }
 }
 
 // The row at place p of the table, under the list's numbers. From the edges on every row stands at

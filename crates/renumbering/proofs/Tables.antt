@@ -1,30 +1,27 @@
 -- A table that was read, renumbered by a list of its scopes and written. Assumes nothing.
 use Prim.Native.Nat.{ℕ, ◌≤◌, ◌<◌}
 use mathlib.Core.Path.{◌≡◌, refl, sym, ap, ◌∙◌, subst}
-use mathlib.Core.Bool.{true, false}
 use mathlib.Core.List.{List, ◌++◌}
 use native.Mathlib.Omega.{arith}
 use lib.ListN.{length, take, drop, replicate, length-append, length-replicate}
 use lib.Seq.{take_at, length-take-le}
+use Rattle.std.specs.declared.option.Option.{Option}
+use Rattle.std.specs.declared.option.Option.TheVariants.{Some, None}
+use Rattle.std.proofs.lemmas.Option.{same_Some}
 use Rattle.text_field.specs.Buffer.{Buf, puts}
 use Rattle.text_field.specs.Outcome.{Outcome, refused, done, and_then}
-use Rattle.text_field.specs.Answer.{answer, leaves, answer_of}
-use Rattle.text_field.specs.declared.answer.Answer.{Answer}
-use Rattle.text_field.specs.declared.answer.Answer.TheVariants as told
+use Rattle.text_field.specs.Answer.{answer, leaves}
 use Rattle.text_field.proofs.AnswerLaws.{answer_refused, leaves_refused}
-use Rattle.text_field.proofs.ByteLaws.{clash}
 use Rattle.graph_rows.specs.Format.{most_scopes, own_cells}
 use Rattle.graph_rows.specs.Decode.{scopes_of}
 use Rattle.graph_rows.specs.Formed.{FormedTable}
 use Rattle.graph_file.specs.File.{read_cells, write_text, WasRead}
 use Rattle.graph_file.proofs.Promises.{read_formed, formed_written}
-use Rattle.graph_file.proofs.TableLaws.{ReadInto, refused_then, made_then}
 use Rattle.board.proofs.Queries.{accepted}
 use Rattle.renumbered.specs.Renumbered.{renumbered_by, EachOnce, back_of}
 use Rattle.renumbered.specs.Promises.{StillFormed}
 use Rattle.renumbered.proofs.Promises.{formed_given}
 use Rattle.renumbered.proofs.BackList.{back_length, back_once}
-use Rattle.was.specs.declared.text.WasList.{WasList}
 use Rattle.was.specs.Order.{was_list}
 use Rattle.was.specs.WasText.{was_text, read_was}
 use Rattle.was.specs.Cells.{in_cells, list_read}
@@ -33,10 +30,8 @@ use Rattle.was.proofs.CellLaws.{front_size, front_take}
 use Rattle.was.proofs.Breadth.{holds_size}
 use Rattle.was.proofs.Taken.{reads_right}
 use Rattle.was.proofs.Promises.{lists_right}
-use Rattle.renumbering.specs.declared.Numbered.{Numbered}
-use Rattle.renumbering.specs.declared.Numbered.TheVariants.{Refused, Written}
-use Rattle.renumbering.specs.Renumbering.{Renumbering, renumber_text, renumber_of, back_text, back_for}
-use Rattle.renumbering.proofs.Answers.{Told, told_as, told_refused, told_list, told_file, told_both, own_count, own_take}
+use Rattle.renumbering.specs.Renumbering.{Renumbering, renumber_text, back_text}
+use Rattle.renumbering.proofs.Answers.{Told, told_as, told_list, told_file, told_both, own_count, own_take}
 
 pub each_once : (n : ℕ) (l : List ℕ) → HoldsEach n l → EachOnce n l
 each_once n l h = record { count = holds_size n l h; distinct = h.once; below = λ x m. (h.are x).0 m }
@@ -138,51 +133,51 @@ module _ (cells : List ℕ) (was : WasRead cells) where
       unfolding renumber_text and_then
       text_is = rw (written (was_list cells) list_once).1
 
-      pub both_list : (out list : List ℕ) → length list < k → Told (renumber_text cells) out list (Refused 9) out list
+      pub both_list : (out list : List ℕ) → length list < k → Told (renumber_text cells) out list (refused 9) out list
       both_list out list h =
           let c = own_count (was_text (was_list cells)) lines k short lines_put in
-          told_as (done made) (renumber_text cells) out list (Refused 9) out list (sym text_is)
+          told_as (done made) (renumber_text cells) out list (refused 9) out list (sym text_is)
           (told_list file (was_text (was_list cells)) out list (omega arith))
 
-      module _ (out list : List ℕ) (a : Answer) (after : List ℕ)
-          (done-by : (answer_of a ≡ answer (write_text (renumbered_by (take n r) cells)) (length out)) × (after ≡ leaves (write_text (renumbered_by (take n r) cells)) out)) where
-        answered : answer_of a ≡ answer (write_text (renumbered_by (was_list cells) cells)) (length out)
+      module _ (out list : List ℕ) (a : Outcome ℕ) (after : List ℕ)
+          (done-by : (a ≡ answer (write_text (renumbered_by (take n r) cells)) (length out)) × (after ≡ leaves (write_text (renumbered_by (take n r) cells)) out)) where
+        answered : a ≡ answer (write_text (renumbered_by (was_list cells) cells)) (length out)
         answered = done-by.0 ∙ ap (λ (l : List ℕ). answer (write_text (renumbered_by l cells)) (length out)) list_taken
 
         left : after ≡ leaves (write_text (renumbered_by (was_list cells) cells)) out
         left = done-by.1 ∙ ap (λ (l : List ℕ). leaves (write_text (renumbered_by l cells)) out) list_taken
 
-        pub both_file : (m : ℕ) → a ≡ told.Refused m → Told (renumber_text cells) out list (Refused m) after list
+        pub both_file : (m : ℕ) → a ≡ refused m → Told (renumber_text cells) out list (refused m) after list
         both_file m e =
-            told_as (done made) (renumber_text cells) out list (Refused m) after list (sym text_is)
+            told_as (done made) (renumber_text cells) out list (refused m) after list (sym text_is)
             (told_file file (was_text (was_list cells)) out list (write_text (renumbered_by (was_list cells) cells)) (written (was_list cells) list_once).1 a answered after left m e)
 
-        pub both_all : k ≤ length list → (put : List ℕ) (j : ℕ) → ◌≡◌ {A = Buf} (put, j) (puts (list, 0) (take k lines)) → (m : ℕ) → a ≡ told.Written m
-            → Told (renumber_text cells) out list (Written m k) after put
+        pub both_all : k ≤ length list → (put : List ℕ) (j : ℕ) → ◌≡◌ {A = Buf} (put, j) (puts (list, 0) (take k lines)) → (m : ℕ) → a ≡ done m
+            → Told (renumber_text cells) out list (done (record { file = m; list = k })) after put
         both_all fits put j e m f =
             let c = own_count (was_text (was_list cells)) lines k short lines_put in
-            told_as (done made) (renumber_text cells) out list (Written m k) after put (sym text_is)
+            told_as (done made) (renumber_text cells) out list (done (record { file = m; list = k })) after put (sym text_is)
             (told_both file (was_text (was_list cells)) out list (write_text (renumbered_by (was_list cells) cells)) (written (was_list cells) list_once).1 a answered after left
             (omega arith) k c put j (e ∙ ap (puts (list, 0)) (own_take (was_text (was_list cells)) lines k short lines_put)) m f)
 
 -- what was read as a list
-module _ (o : Outcome (List ℕ)) (r : WasList) (is : r ≡ list_read o) where
-  read_yes : (p : Outcome (List ℕ)) → o ≡ p → r.ok ≡ true → (l : List ℕ) × (o ≡ done l) × (r.numbers ≡ in_cells l)
+module _ (o : Outcome (List ℕ)) (r : Option (List ℕ)) (is : r ≡ list_read o) where
+  read_yes : (p : Outcome (List ℕ)) → o ≡ p → (numbers : List ℕ) → r ≡ Some numbers → (l : List ℕ) × (o ≡ done l) × (numbers ≡ in_cells l)
   unfolding list_read
-  read_yes (refused n) e t = absurd (clash t (ap (λ (z : WasList). z.ok) (is ∙ ap list_read e)))
-  read_yes (done l) e t = (l, e, ap (λ (z : WasList). z.numbers) (is ∙ ap list_read e))
+  read_yes (refused n) e numbers t = let none : r ≡ None = is ∙ ap list_read e in let z : ◌≡◌ {A = ℕ} 0 1 = cc in absurd (omega arith)
+  read_yes (done l) e numbers t = (l, e, same_Some _ _ (sym t ∙ is ∙ ap list_read e))
 
-  read_no : (p : Outcome (List ℕ)) → o ≡ p → r.ok ≡ false → (k : ℕ) × (o ≡ refused k)
+  read_no : (p : Outcome (List ℕ)) → o ≡ p → r ≡ None → (k : ℕ) × (o ≡ refused k)
   unfolding list_read
   read_no (refused n) e t = (n, e)
-  read_no (done l) e t = absurd (clash (ap (λ (z : WasList). z.ok) (is ∙ ap list_read e)) t)
+  read_no (done l) e t = let some : r ≡ Some (in_cells l) = is ∙ ap list_read e in let z : ◌≡◌ {A = ℕ} 0 1 = cc in absurd (omega arith)
 
 -- the way back of a table that was read
-module _ (cells : List ℕ) (was : WasRead cells) (text : List ℕ) (n : ℕ) (count : n ≡ scopes_of cells) (r : WasList) (is : r ≡ list_read (read_was n text)) where
+module _ (cells : List ℕ) (was : WasRead cells) (text : List ℕ) (n : ℕ) (count : n ≡ scopes_of cells) (r : Option (List ℕ)) (is : r ≡ list_read (read_was n text)) where
   small : n ≤ most_scopes
   small = let m = scopes_most cells was in omega arith
 
-  pub back_none : r.ok ≡ false → (out : List ℕ) → (refused 17 ≡ answer (back_text text cells) (length out)) × (out ≡ leaves (back_text text cells) out)
+  pub back_none : r ≡ None → (out : List ℕ) → (refused 17 ≡ answer (back_text text cells) (length out)) × (out ≡ leaves (back_text text cells) out)
   unfolding back_text and_then
   back_none t out =
       let k = read_no (read_was n text) r is (read_was n text) refl t in
@@ -191,12 +186,12 @@ module _ (cells : List ℕ) (was : WasRead cells) (text : List ℕ) (n : ℕ) (c
       let b : back_text text cells ≡ refused 17 = rw e in
       (answer_refused (back_text text cells) 17 (length out) b, leaves_refused (back_text text cells) 17 out b)
 
-  module _ (t : r.ok ≡ true) where
+  module _ (numbers : List ℕ) (t : r ≡ Some numbers) where
     abbrev list : List ℕ
-    list = (read_yes (read_was n text) r is (read_was n text) refl t).0
+    list = (read_yes (read_was n text) r is (read_was n text) refl numbers t).0
 
     read_is : read_was n text ≡ done list
-    read_is = (read_yes (read_was n text) r is (read_was n text) refl t).1
+    read_is = (read_yes (read_was n text) r is (read_was n text) refl numbers t).1
 
     holds : HoldsEach n list
     holds = (((reads_right n text small).exactly list).0 read_is).1
@@ -204,26 +199,26 @@ module _ (cells : List ℕ) (was : WasRead cells) (text : List ℕ) (n : ℕ) (c
     once : EachOnce n list
     once = each_once n list holds
 
-    cells_is : r.numbers ≡ in_cells list
-    cells_is = (read_yes (read_was n text) r is (read_was n text) refl t).2
+    cells_is : numbers ≡ in_cells list
+    cells_is = (read_yes (read_was n text) r is (read_was n text) refl numbers t).2
 
-    numbers_taken : take n r.numbers ≡ list
-    numbers_taken = front_is list r.numbers n once.count small cells_is
+    numbers_taken : take n numbers ≡ list
+    numbers_taken = front_is list numbers n once.count small cells_is
 
-    pub numbers_within : n ≤ length r.numbers
-    numbers_within = front_within list r.numbers n once.count small cells_is
+    pub numbers_within : n ≤ length numbers
+    numbers_within = front_within list numbers n once.count small cells_is
 
-    pub numbers_count : n ≡ length (take n r.numbers)
-    numbers_count = front_count list r.numbers n once.count small cells_is
+    pub numbers_count : n ≡ length (take n numbers)
+    numbers_count = front_count list numbers n once.count small cells_is
 
-    pub numbers_most : length (take n r.numbers) ≤ most_scopes
+    pub numbers_most : length (take n numbers) ≤ most_scopes
     numbers_most = let c = numbers_count in let s = small in omega arith
 
-    pub numbers_once : EachOnce (length (take n r.numbers)) (take n r.numbers)
+    pub numbers_once : EachOnce (length (take n numbers)) (take n numbers)
     numbers_once =
         subst (λ (l : List ℕ). EachOnce (length l) l) (sym numbers_taken) (subst (λ (k : ℕ). EachOnce k list) (sym once.count) once)
 
-    module _ (back : List ℕ) (made : back ≡ in_cells (back_of (take n r.numbers))) where
+    module _ (back : List ℕ) (made : back ≡ in_cells (back_of (take n numbers))) where
       back_is : back ≡ in_cells (back_of list)
       back_is = made ∙ ap (λ (l : List ℕ). in_cells (back_of l)) numbers_taken
 
@@ -252,25 +247,3 @@ module _ (cells : List ℕ) (was : WasRead cells) (text : List ℕ) (n : ℕ) (c
       back_written a out left e =
           let same : write_text (renumbered_by (take n back) cells) ≡ back_text text cells = ap (λ (l : List ℕ). write_text (renumbered_by l cells)) back_taken ∙ sym back_text_lem in
           (e.0 ∙ ap (λ (x : Outcome (List ℕ)). answer x (length out)) same, e.1 ∙ ap (λ (x : Outcome (List ℕ)). leaves x out) same)
-
--- what is made of a text by reading it first
-module _ (text : List ℕ) where
-  pub text_refused : (n : ℕ) (out list : List ℕ) → read_cells text ≡ refused n → Told (renumber_of text) out list (Refused n) out list
-  unfolding renumber_of and_then
-  text_refused n out list e = told_refused (renumber_of text) n out list (rw e)
-
-  pub text_read : (n : ℕ) (t : List ℕ) → ReadInto text n t → (out list : List ℕ) (r : Numbered) (file lines : List ℕ)
-      → Told (renumber_text (take n t)) out list r file lines → Told (renumber_of text) out list r file lines
-  unfolding renumber_of and_then
-  text_read n t m out list r file lines e = told_as (renumber_text (take n t)) (renumber_of text) out list r file lines (rw m.made) e
-
-  pub back_refused : (was : List ℕ) (n : ℕ) (out : List ℕ) → read_cells text ≡ refused n
-      → (refused n ≡ answer (back_for text was) (length out)) × (out ≡ leaves (back_for text was) out)
-  unfolding back_for
-  back_refused was n out e = refused_then (back_text was) text n out e
-
-  pub back_read : (was : List ℕ) (n : ℕ) (t : List ℕ) → ReadInto text n t → (r : Outcome ℕ) (o out : List ℕ)
-      → (r ≡ answer (back_text was (take n t)) (length out)) × (o ≡ leaves (back_text was (take n t)) out)
-      → (r ≡ answer (back_for text was) (length out)) × (o ≡ leaves (back_for text was) out)
-  unfolding back_for
-  back_read was n t m r o out e = made_then (back_text was) text n t m r o out e

@@ -7,8 +7,10 @@ use Rattle.graph_rows.specs.Decode.{scopes_of}
 use Rattle.renumbered.specs.Renumbered.{renumbered_by, back_of}
 use Rattle.was.specs.Order.{was_list}
 use Rattle.was.specs.WasText.{was_text, read_was}
-use Rattle.renumbering.specs.declared.Numbered.{Numbered}
-use Rattle.renumbering.specs.declared.Numbered.TheVariants.{Refused, Written}
+use Rattle.std.specs.declared.result.Result.{Result}
+use Rattle.std.specs.declared.result.Result.TheVariants.{Ok, Err}
+use Rattle.text_field.specs.declared.refusal.Refusal.{Refusal}
+use Rattle.text_field.specs.Refusal.{number_of}
 
 -- what is put out: the new file and the list's text
 pub record Renumbering : Type 0 where
@@ -45,9 +47,9 @@ unfoldable pub list_of : Outcome Renumbering → Outcome (List ℕ)
 list_of o = and_then o (λ r. done r.list)
 
 -- what the host is told: a refusal by its number, or both sizes
-unfoldable pub numbered_of : Numbered → Outcome Sizes
-numbered_of (Refused n) = refused n
-numbered_of (Written file list) = done (record { file = file; list = list })
+unfoldable pub numbered_of : Result (ℕ × ℕ) Refusal → Outcome Sizes
+numbered_of (Ok (file, list)) = done (record { file = file; list = list })
+numbered_of (Err r) = refused (number_of r)
 
 -- The way back. Of a table and a list's text: 17 if the text is not one with each of the table's
 -- scopes once; else the table under the numbers that the list tells.

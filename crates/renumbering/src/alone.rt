@@ -4,25 +4,18 @@ ghost use Rattle.text_field.specs.Answer.{answer_of};
 ghost use Rattle.renumbering.specs.Renumbering.{numbered_of};
 ghost use Rattle.renumbering.specs.Alone.{file_size, list_size};
 
-use crate::Numbered;
-use text_field::Answer;
+use text_field::Refusal;
 
 // A renumbered file without its list.
-pub fn file_answer(a: Numbered) -> Answer
-    ensures answer { answer_of result ≡ file_size (numbered_of a) }
+pub fn file_answer(sizes: Result<(usize, usize), Refusal>) -> Result<usize, Refusal>
+    ensures answer { answer_of result ≡ file_size (numbered_of sizes) }
 {
-    match a {
-        Numbered::Refused(n) => Answer::Refused(n),
-        Numbered::Written(file, _) => Answer::Written(file),
-    }
+    sizes.map(|(file, _)| file)
 }
 
 // A list without its file.
-pub fn list_answer(a: Numbered) -> Answer
-    ensures answer { answer_of result ≡ list_size (numbered_of a) }
+pub fn list_answer(sizes: Result<(usize, usize), Refusal>) -> Result<usize, Refusal>
+    ensures answer { answer_of result ≡ list_size (numbered_of sizes) }
 {
-    match a {
-        Numbered::Refused(n) => Answer::Refused(n),
-        Numbered::Written(_, list) => Answer::Written(list),
-    }
+    sizes.map(|(_, list)| list)
 }

@@ -11,11 +11,8 @@ pub fn inverse(list: &[u64]) -> [u64; 64]
     ensures answer { result ≡ in_cells (back_of list.now) }
 {
     let mut out = [0u64; 64];
-    let mut i: usize = 0;
-    while i < list.len() {
-        let x = list[i] as usize;
-        out[x] = i as u64;
-        i += 1;
+    for (i, &x) in list.iter().enumerate() {
+        out[x as usize] = i as u64;
     }
     out
 }

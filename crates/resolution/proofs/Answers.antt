@@ -20,8 +20,9 @@ use Rattle.graph_rows.specs.Decode.{rows_in, rules_of, scopes_of, graph_of, open
 use Rattle.graph_rows.specs.Accepted.{EndListed}
 use Rattle.graph_table.specs.Sections.{part_of, rows_of}
 use Rattle.follow.proofs.TallyLaws.{joined}
-use Rattle.resolution.specs.declared.text.Awaits.{Awaits}
-use Rattle.resolution.specs.declared.text.Awaits.TheVariants.{Settled, Pair}
+use Rattle.std.specs.declared.option.Option.{Option as Maybe}
+use Rattle.std.specs.declared.option.Option.TheVariants.{Some, None as Nothing}
+use Rattle.graph_table.specs.declared.rows.OpenRow.{OpenRow}
 use Rattle.resolution.specs.Listing.{entries_text}
 use Rattle.resolution.specs.Asked.{Ready, query_in, entries_taken, followed_by, first_followed, awaits_meaning}
 use Rattle.resolution.proofs.ListLaws.{joined_map}
@@ -58,7 +59,7 @@ module _ (cells block ask : List ℕ) (ready : Ready cells block ask) where
     where
       one : (t : Bool)
           → awaits_meaning cells (first_followed block cells ask rows) ≡ first_of (followed_at L (graph_of cells) q) (map (open_pair_of (rules_of cells)) rows)
-          → awaits_meaning cells (elim t as (λ _. Awaits) [ true ↦ Pair (value row 0) (value row 1) | false ↦ first_followed block cells ask rows ])
+          → awaits_meaning cells (elim t as (λ _. Maybe OpenRow) [ true ↦ Some (record { at = value row 0; end = value row 1 }) | false ↦ first_followed block cells ask rows ])
           ≡ (elim t as (λ _. Option (OpenPair L)) [ true ↦ some (open_pair_of (rules_of cells) row) | false ↦ first_of (followed_at L (graph_of cells) q) (map (open_pair_of (rules_of cells)) rows) ])
       one true e = refl
       one false e = e
@@ -77,7 +78,7 @@ module _ (cells block ask : List ℕ) (ready : Ready cells block ask) where
       let n : value row 0 < scopes_of cells = t.open_at o (map_intro (open_pair_of (rules_of cells)) i) in
       record { scope = omega arith; end = end_small (value row 1) (rules_of cells).labels t.labels (t.open_end o (map_intro (open_pair_of (rules_of cells)) i)) }
 
-  pub awaits_is : (opens : List ℕ) → opens ≡ part_of open_section cells → (r : Awaits) → r ≡ first_followed block cells ask (rows_of opens)
+  pub awaits_is : (opens : List ℕ) → opens ≡ part_of open_section cells → (r : Maybe OpenRow) → r ≡ first_followed block cells ask (rows_of opens)
       → awaits_meaning cells r ≡ awaits L (graph_of cells) q (opens_of cells)
   unfolding awaits opens_of
   awaits_is opens p r e =
@@ -85,7 +86,7 @@ module _ (cells block ask : List ℕ) (ready : Ready cells block ask) where
       ∙ rw (rows_are cells ready.asked.read open_section) (first_is (rows_in open_section cells) open_small)
 
   -- nothing is open
-  pub awaits_none : (opens : List ℕ) → opens ≡ part_of open_section cells → length opens ≡ 0 → awaits_meaning cells Settled ≡ awaits L (graph_of cells) q (opens_of cells)
+  pub awaits_none : (opens : List ℕ) → opens ≡ part_of open_section cells → length opens ≡ 0 → awaits_meaning cells Nothing ≡ awaits L (graph_of cells) q (opens_of cells)
   unfolding first_followed rows_of
-  awaits_none [] p z = awaits_is [] p Settled refl
+  awaits_none [] p z = awaits_is [] p Nothing refl
   awaits_none (x ∷ opens) p z = absurd (omega arith)

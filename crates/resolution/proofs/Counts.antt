@@ -13,9 +13,7 @@ use Rattle.scope_graph.specs.Graph.{Query}
 use Rattle.scope_graph.specs.Rows.{language}
 use Rattle.scope_graph.specs.Computed.{Found, found_none, found_one, found_several}
 use Rattle.text_field.specs.Number.{number_text}
-use Rattle.text_field.specs.Buffer.{Buf, put, puts}
 use Rattle.text_field.proofs.NumberLaws.{length_below}
-use Rattle.text_field.proofs.BufferLaws.{puts_then}
 use Rattle.graph_rows.specs.Format.{query_section, queries, sections, section_at}
 use Rattle.graph_rows.specs.Decode.{rows_in, rules_of, query_of, queries_of}
 use Rattle.graph_file.specs.File.{WasRead}
@@ -124,32 +122,15 @@ module _ (cells : List ℕ) where
         let c : r.none ≡ count_found found_none founds = (let z = ap (λ (x : Figures). x.none) e ∙ over_none no_figures (queries_of cells) in omega arith) in
         ap (λ (n : ℕ). summary_text n r.one r.several r.none) (total_is ∙ sym (length-map (queries_of cells) (found_for cells))) ∙ rw (a, b, c)
 
--- one write after another
-pub field_puts : (v : ℕ) (b c d : Buf) → c ≡ puts b (number_text v) → d ≡ put c 32 → d ≡ puts b (field_text v)
-unfolding field_text puts
-field_puts v b c d e f = puts_then b c d (number_text v) (32 ∷ []) e f
-
-pub counts_puts : (x : Figures) (n : ℕ) (b c d e f g : Buf) → n ≡ total x → c ≡ puts b summary_line → d ≡ puts c (field_text n) → e ≡ puts d (field_text x.one)
-    → f ≡ puts e (field_text x.several) → g ≡ puts f (field_text x.none) → g ≡ puts b (counts_text x)
-unfolding counts_text
-counts_puts x n b c d e f g t h i j k l =
-    let one = field_text x.one in
-    let several = field_text x.several in
-    let none = field_text x.none in
-    let z = puts_then e f g several none k l in
-    let y = puts_then d e g one (several ++ none) j z in
-    let w = puts_then c d g (field_text n) (one ++ (several ++ none)) i y in
-    puts_then b c g summary_line (field_text n ++ (one ++ (several ++ none))) h w
-    ∙ ap (λ (v : ℕ). puts b (summary_line ++ (field_text v ++ (one ++ (several ++ none))))) t
-
-pub share_none : (n one : ℕ) (b c : Buf) → n ≡ 0 → c ≡ put b 45 → c ≡ puts b (share_text n one)
-unfolding share_text puts
-share_none n one b c e f = rw e f
-
-pub share_some : (n one v : ℕ) (b c : Buf) → (n ≡ 0 → ⊥) → v ≡ share one n → c ≡ puts b (number_text v) → c ≡ puts b (share_text n one)
+-- the share, as it is written
+pub share_none : (n one : ℕ) → n ≡ 0 → 45 ∷ [] ≡ share_text n one
 unfolding share_text
-share_some zero one v b c h e f = absurd (h refl)
-share_some (suc n) one v b c h e f = rw (← e) f
+share_none n one e = rw e
+
+pub share_some : (n one v : ℕ) → (n ≡ 0 → ⊥) → v ≡ share one n → number_text v ≡ share_text n one
+unfolding share_text
+share_some zero one v h e = absurd (h refl)
+share_some (suc n) one v h e = rw e
 
 parts : (n o s z e : List ℕ) → n ++ (32 ∷ (o ++ (32 ∷ (s ++ (32 ∷ (z ++ (32 ∷ e)))))))
     ≡ ((n ++ (32 ∷ [])) ++ ((o ++ (32 ∷ [])) ++ ((s ++ (32 ∷ [])) ++ (z ++ (32 ∷ []))))) ++ e
@@ -162,14 +143,12 @@ parts n o s z e =
     ∙ append_assoc s (32 ∷ []) ((z ++ (32 ∷ [])) ++ e)
     ∙ ap (λ (l : List ℕ). s ++ (32 ∷ l)) (append_assoc z (32 ∷ []) e))))
 
-pub summary_puts : (x : Figures) (n : ℕ) (b c d e : Buf) → n ≡ total x → c ≡ puts b (counts_text x) → d ≡ puts c (share_text n x.one) → e ≡ put d 10
-    → e ≡ puts b (figures_text x)
-unfolding counts_text field_text summary_text figures_text puts
-summary_puts x n b c d e t h i j =
-    let w = puts_then c d e (share_text n x.one) (10 ∷ []) i j in
-    puts_then b c e (counts_text x) (share_text n x.one ++ (10 ∷ [])) h w
-    ∙ ap (λ (v : ℕ). puts b (counts_text x ++ (share_text v x.one ++ (10 ∷ [])))) t
-    ∙ ap (λ (l : List ℕ). puts b (summary_line ++ l)) (sym (parts (number_text (total x)) (number_text x.one) (number_text x.several) (number_text x.none) (share_text (total x) x.one ++ (10 ∷ []))))
+-- the summary, as it is written
+pub summary_parts : (x : Figures) → counts_text x ++ (share_text (total x) x.one ++ (10 ∷ [])) ≡ figures_text x
+unfolding counts_text field_text summary_text figures_text
+summary_parts x =
+    append_assoc summary_line _ (share_text (total x) x.one ++ (10 ∷ []))
+    ∙ ap (λ (l : List ℕ). summary_line ++ l) (sym (parts (number_text (total x)) (number_text x.one) (number_text x.several) (number_text x.none) (share_text (total x) x.one ++ (10 ∷ []))))
 
 -- a summary is short
 three : (v : ℕ) → v ≤ 256 → length (number_text v) ≤ 3

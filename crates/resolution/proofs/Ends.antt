@@ -1,6 +1,9 @@
 -- `found` by the scopes where visible paths of a query end, as the code looks for them. Assumes
 -- nothing.
 use Prim.Native.Nat.{ℕ, ◌+◌, ◌≤◌, ◌<◌}
+use Rattle.std.specs.declared.option.Option.{Option as Maybe}
+use Rattle.std.specs.declared.option.Option.TheVariants.{Some, None as Nothing}
+use Rattle.std.specs.Option.{MatchOption}
 use mathlib.Core.Path.{◌≡◌, sym, ap, ◌∙◌}
 use mathlib.Core.Bool.{Bool, true, false}
 use mathlib.Core.Logic.{inl, inr, ⊎_elim}
@@ -32,40 +35,22 @@ use Rattle.board.proofs.Queries.{accepted, sound}
 use Rattle.follow.specs.Walk.{followed_in}
 use Rattle.resolution.specs.declared.text.Found.TheVariants.{None, One, Several}
 use Rattle.resolution.specs.Listing.{found_for}
-use Rattle.resolution.specs.Asked.{Ready, query_in, FirstEnd, found_meaning}
+use Rattle.resolution.specs.Asked.{Ready, query_in, NoEnd, EndAt, FirstEnd, found_meaning}
 use Rattle.resolution.proofs.Walked.{marks_part}
 use Rattle.resolution.proofs.Answers.{pair_is}
 use Rattle.resolution.proofs.Unfollowed.{by_walk}
 
 -- the search for the next end, whatever it is
 module _ (cells ask : List ℕ) where
-  abbrev ended : ℕ → Bool
+  abbrev pub ended : ℕ → Bool
   ended = ends_at (language (rules_of cells)) (graph_of cells) (query_in cells ask)
 
-  -- in a loop over the scopes: none was met up to this one
-  pub record Unmet (from s : ℕ) : Type 0 where
-    pub behind : from ≤ s
-    pub none_met : (t : ℕ) → from ≤ t → t < s → t < 64 → ended t ≡ false
-
-  pub unmet_first : (from : ℕ) → Unmet from from
-  unmet_first from = record { behind = omega arith; none_met = λ t h k l. absurd (omega arith) }
-
-  pub unmet_next : (from s : ℕ) → Unmet from s → ended s ≡ false → Unmet from (s + 1)
-  unmet_next from s u e = record {
-    behind = (let b = u.behind in omega arith);
-    none_met = λ t h k l.
-        ⊎_elim (λ z. rw (eqb-true t s z) e) (λ z. let n = eqb-false t s z in u.none_met t h (omega arith) l) (Two (eqb t s));
-  }
-
-  pub unmet_end : (from s : ℕ) → Unmet from s → ended s ≡ true → FirstEnd cells (query_in cells ask) from s
-  unmet_end from s u e = record { none_before = u.none_met; on_from = λ h. u.behind; ends = λ h. e }
-
-  pub unmet_all : (from s : ℕ) → Unmet from s → 64 ≤ s → FirstEnd cells (query_in cells ask) from 64
-  unmet_all from s u h = record {
-    none_before = λ t k l m. u.none_met t k (omega arith) m;
-    on_from = λ k. absurd (omega arith);
-    ends = λ k. absurd (omega arith);
-  }
+  -- what a search over the scopes tells
+  pub searched : (from : ℕ) (r : Maybe ℕ)
+      → MatchOption r ((k : ℕ) → from ≤ k → k < 64 → ended k ≡ false) (λ i. (from ≤ i) × (i < 64) × (ended i ≡ true) × ((k : ℕ) → from ≤ k → k < i → ended k ≡ false))
+      → FirstEnd cells (query_in cells ask) from r
+  searched from Nothing h = record { none_before = λ s a b c. h s a c }
+  searched from (Some i) h = record { none_before = λ s a b c. h.3 s a b; below = h.1; on_from = h.0; ends = h.2 }
 
 module _ (cells block ask : List ℕ) (ready : Ready cells block ask) where
   abbrev L : Language
@@ -124,32 +109,29 @@ module _ (cells block ask : List ℕ) (ready : Ready cells block ask) where
       ∙ ap (λ (y : PackedName). has_second (marks_in (part_of declaration_section cells) s y)) n
       ∙ ap has_second (marks_part cells block ask ready s))
 
-  module _ (first : ℕ) (is : FirstEnd cells q 0 first) where
-    pub ends_none : 63 < first → found_meaning None ≡ found_for cells q
+  pub ends_none : NoEnd cells q 0 64 → found_meaning None ≡ found_for cells q
+  unfolding found_meaning
+  ends_none is = found_by found_none (λ s k. is.none_before s (omega arith) k k)
+
+  module _ (first : ℕ) (is : EndAt cells q 0 first) where
+    pub ends_second : several_marks L g q first ≡ true → found_meaning Several ≡ found_for cells q
     unfolding found_meaning
-    ends_none h = found_by found_none (λ s k. is.none_before s (omega arith) (omega arith) k)
+    ends_second e = found_by found_several (inl (first, is.below, is.ends, e))
 
-    module _ (below : first < 64) where
-      pub ends_second : several_marks L g q first ≡ true → found_meaning Several ≡ found_for cells q
-      unfolding found_meaning
-      ends_second e = found_by found_several (inl (first, below, is.ends below, e))
+    pub ends_two : (next : ℕ) → EndAt cells q (first + 1) next → found_meaning Several ≡ found_for cells q
+    unfolding found_meaning
+    ends_two next more = found_by found_several (inr (first, next, (let k = more.on_from in omega arith), more.below, is.ends, more.ends))
 
-      module _ (next : ℕ) (more : FirstEnd cells q (first + 1) next) where
-        pub ends_two : next < 64 → found_meaning Several ≡ found_for cells q
-        unfolding found_meaning
-        ends_two h = found_by found_several (inr (first, next, (let k = more.on_from h in omega arith), h, is.ends below, more.ends h))
-
-        pub ends_one : 64 ≤ next → several_marks L g q first ≡ false
-            → found_meaning One ≡ found_for cells q
-        unfolding found_meaning
-        ends_one h e = found_by found_one (first, below, is.ends below, e, alone)
-          where
-            alone : (t : ℕ) → t < 64 → ends_at L g q t ≡ true → t ≡ first
-            alone t k m =
-                ⊎_elim (λ z. eqb-true t first z)
-                (λ z.
-                let n = eqb-false t first z in
-                ⊎_elim (λ (l : t < first). absurd (true_false m (is.none_before t (omega arith) l k)))
-                (λ (l : first ≤ t). absurd (true_false m (more.none_before t (omega arith) (omega arith) k)))
-                (below_or t first))
-                (Two (eqb t first))
+    pub ends_one : NoEnd cells q (first + 1) 64 → several_marks L g q first ≡ false → found_meaning One ≡ found_for cells q
+    unfolding found_meaning
+    ends_one more e = found_by found_one (first, is.below, is.ends, e, alone)
+      where
+        alone : (t : ℕ) → t < 64 → ends_at L g q t ≡ true → t ≡ first
+        alone t k m =
+            ⊎_elim (λ z. eqb-true t first z)
+            (λ z.
+            let n = eqb-false t first z in
+            ⊎_elim (λ (l : t < first). absurd (true_false m (is.none_before t (omega arith) l k)))
+            (λ (l : first ≤ t). absurd (true_false m (more.none_before t (omega arith) k k)))
+            (below_or t first))
+            (Two (eqb t first))

@@ -40,8 +40,9 @@ use Rattle.follow.specs.Walk.{letter_bytes}
 use Rattle.follow.proofs.TakeLaws.{fits_true, fits_false}
 use Rattle.follow.proofs.TallyLaws.{joined, rows_text, tallied}
 use Rattle.resolution.specs.declared.text.Found as told
-use Rattle.resolution.specs.declared.text.Awaits.{Awaits}
-use Rattle.resolution.specs.declared.text.Awaits.TheVariants.{Settled, Pair}
+use Rattle.std.specs.declared.option.Option.{Option as Maybe}
+use Rattle.std.specs.declared.option.Option.TheVariants.{Some, None as Nothing}
+use Rattle.graph_table.specs.declared.rows.OpenRow.{OpenRow}
 use Rattle.resolution.specs.Listing.{awaits_text, shown_text, found_for, entries_text, listing_text, listing_of, found_at}
 use Rattle.resolution.specs.Asked.{Ready, query_in, entries_taken, found_meaning, awaits_meaning, awaits_bytes, query_text, head_text, query_head}
 use Rattle.resolution.proofs.Given.{letters_same}
@@ -56,12 +57,12 @@ module _ (cells block : List ℕ) (was : WasRead cells) (made : Made cells block
   end_same zero = refl
   end_same (suc l) = letters_same cells was block made l
 
-  awaits_same : (a : Awaits) → awaits_bytes block a ≡ awaits_text cells (awaits_meaning cells a)
+  awaits_same : (a : Maybe OpenRow) → awaits_bytes block a ≡ awaits_text cells (awaits_meaning cells a)
   unfolding awaits_bytes awaits_text awaits_meaning
-  awaits_same Settled = refl
-  awaits_same (Pair at end) = ap (λ (x : ℕ). number_text at ++ (x ∷ [])) (end_same end)
+  awaits_same Nothing = refl
+  awaits_same (Some o) = ap (λ (x : ℕ). number_text o.at ++ (x ∷ [])) (end_same o.end)
 
-  pub head_is : (ask : List ℕ) (f : told.Found) (a : Awaits) (b c : Buf) → found_meaning f ≡ found_for cells (query_in cells ask)
+  pub head_is : (ask : List ℕ) (f : told.Found) (a : Maybe OpenRow) (b c : Buf) → found_meaning f ≡ found_for cells (query_in cells ask)
       → awaits_meaning cells a ≡ awaits (language (rules_of cells)) (graph_of cells) (query_in cells ask) (opens_of cells)
       → c ≡ puts b (head_text (table_form cells) block ask f a) → c ≡ puts b (query_head cells ask)
   unfolding head_text query_head

@@ -11,10 +11,10 @@ pub mod Answers
 pub mod Unfollowed
 pub mod Noted
 pub mod Ends
+pub mod Chunks
 pub mod Seconds
 pub mod First
 pub mod Buffers
-pub mod Reading
 pub mod Asks
 pub mod Texts
 pub mod Counts

@@ -1,7 +1,9 @@
--- How the code asks the walk for a query, and how it holds what it is told: `found` and `awaits` as
--- enums. Assumes nothing: these are definitions.
+-- How the code asks the walk for a query, and how it holds what it is told: `found` as an enum and
+-- `awaits` as an open row, or none. Assumes nothing: these are definitions.
 use Rattle.std.specs.Prelude.{ℕ, ◌≤◌, ◌<◌, ◌^◌, ◌≡◌, Bool, true, false, ◌&&◌, ◌||◌, List, [], ◌∷◌, ◌++◌, map, ltb}
 use Rattle.std.proofs.Math.Option.{Option, some, none}
+use Rattle.std.specs.declared.option.Option.{Option as Maybe}
+use Rattle.std.specs.declared.option.Option.TheVariants.{Some, None as Nothing}
 use Rattle.scope_graph.specs.Graph.{Query, OpenPair}
 use Rattle.scope_graph.specs.Path.{row_declaration}
 use Rattle.scope_graph.specs.Rows.{language}
@@ -16,6 +18,7 @@ use Rattle.block.specs.Block.{accept_set, usable_set, pair_flag}
 use Rattle.block.specs.Ask.{IsAsk, ask_start, ask_name, ask_goal}
 use Rattle.search.specs.Tables.{place_flag}
 use Rattle.search.specs.Conditions.{free_at, LiveAt, AwayAt}
+use Rattle.graph_table.specs.declared.rows.OpenRow.{OpenRow}
 use Rattle.graph_table.specs.declared.rows.QueryRow.{QueryRow}
 use Rattle.board.specs.Made.{Made}
 use Rattle.graph_rows.specs.Format.{declaration_section}
@@ -32,8 +35,6 @@ use Rattle.follow.specs.Walk.{letter_bytes, followed_in}
 use Rattle.resolution.specs.Listing.{awaits_text, entry_text, found_for}
 use Rattle.resolution.specs.declared.text.Found as told
 use Rattle.resolution.specs.declared.text.Found.TheVariants.{None, One, Several}
-use Rattle.resolution.specs.declared.text.Awaits.{Awaits}
-use Rattle.resolution.specs.declared.text.Awaits.TheVariants.{Settled, Pair}
 
 -- the query of a query's own block
 abbrev pub query_in : (cells ask : List ℕ) → Query (language (rules_of cells))
@@ -68,12 +69,21 @@ entries_taken cells q =
 abbrev pub TallyOf : (cells : List ℕ) → Query (language (rules_of cells)) → Bounds → Tally → Type 0
 TallyOf cells q bounds t = (out : List ℕ) × ((take_rows bounds (out, tally.none) (entries_taken cells q)).1 ≡ t)
 
--- the first scope from a given one on at which a visible path of the query ends; past 63 where none
--- is
-pub record FirstEnd (cells : List ℕ) (q : Query (language (rules_of cells))) (from first : ℕ) : Type 0 where
-  pub none_before : (s : ℕ) → from ≤ s → s < first → s < 64 → ends_at (language (rules_of cells)) (graph_of cells) q s ≡ false
-  pub on_from : first < 64 → from ≤ first
-  pub ends : first < 64 → ends_at (language (rules_of cells)) (graph_of cells) q first ≡ true
+-- the first scope from a given one on at which a visible path of the query ends, if there is one
+module _ (cells : List ℕ) (q : Query (language (rules_of cells))) (from : ℕ) where
+  -- none of these ends one
+  pub record NoEnd (to : ℕ) : Type 0 where
+    pub none_before : (s : ℕ) → from ≤ s → s < to → s < 64 → ends_at (language (rules_of cells)) (graph_of cells) q s ≡ false
+
+  pub record EndAt (first : ℕ) : Type 0 where
+    pub none_before : (s : ℕ) → from ≤ s → s < first → s < 64 → ends_at (language (rules_of cells)) (graph_of cells) q s ≡ false
+    pub below : first < 64
+    pub on_from : from ≤ first
+    pub ends : ends_at (language (rules_of cells)) (graph_of cells) q first ≡ true
+
+  abbrev pub FirstEnd : Maybe ℕ → Type 0
+  FirstEnd Nothing = NoEnd 64
+  FirstEnd (Some first) = EndAt first
 
 -- `found` as the code holds it
 unfoldable pub found_meaning : told.Found → Found
@@ -99,26 +109,27 @@ module _ (block table ask : List ℕ) where
   followed_by at end =
       elim (ltb at 64 && ltb end 9) [ true ↦ followed_in block table ask (2 ^ at) (usable_set block end) end | false ↦ false ]
 
-  unfoldable pub first_followed : List Row → Awaits
-  first_followed [] = Settled
-  first_followed (row ∷ rows) = elim (followed_by (value row 0) (value row 1)) [ true ↦ Pair (value row 0) (value row 1) | false ↦ first_followed rows ]
+  unfoldable pub first_followed : List Row → Maybe OpenRow
+  first_followed [] = Nothing
+  first_followed (row ∷ rows) =
+      elim (followed_by (value row 0) (value row 1)) [ true ↦ Some (record { at = value row 0; end = value row 1 }) | false ↦ first_followed rows ]
 
 -- `awaits` as the rules have it, and its text; an end is 0 for the end mark and n + 1 for the label
 -- n
-unfoldable pub awaits_meaning : (cells : List ℕ) → Awaits → Option (OpenPair (language (rules_of cells)))
-awaits_meaning cells Settled = none
-awaits_meaning cells (Pair at end) = some (record { at = at; end = end_of end })
+unfoldable pub awaits_meaning : (cells : List ℕ) → Maybe OpenRow → Option (OpenPair (language (rules_of cells)))
+awaits_meaning cells Nothing = none
+awaits_meaning cells (Some o) = some (record { at = o.at; end = end_of o.end })
 
-unfoldable pub awaits_bytes : List ℕ → Awaits → List ℕ
-awaits_bytes block Settled = 45 ∷ []
-awaits_bytes block (Pair at end) = number_text at ++ (end_text (letter_bytes block) (end_of end) ∷ [])
+unfoldable pub awaits_bytes : List ℕ → Maybe OpenRow → List ℕ
+awaits_bytes block Nothing = 45 ∷ []
+awaits_bytes block (Some o) = number_text o.at ++ (end_text (letter_bytes block) (end_of o.end) ∷ [])
 
 -- a listing up to its rows, by the file's form: the names line with the query, then `found`,
 -- `awaits` and the line above the rows
 unfoldable pub query_text : Form → List ℕ → List ℕ
 query_text form ask = head_line form ++ (number_text (ask_start ask) ++ (32 ∷ (seek_columns form (ask_name ask) ++ (32 ∷ []))))
 
-unfoldable pub head_text : Form → (block ask : List ℕ) → told.Found → Awaits → List ℕ
+unfoldable pub head_text : Form → (block ask : List ℕ) → told.Found → Maybe OpenRow → List ℕ
 head_text form block ask f a = query_text form ask ++ (found_text (found_meaning f) ++ (32 ∷ (awaits_bytes block a ++ (10 ∷ rows_line))))
 
 -- the same of a query of a table, with `found` and `awaits` as the rules have them

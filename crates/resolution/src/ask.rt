@@ -8,7 +8,7 @@ ghost use Rattle.board.specs.Marks.{DeclaringIs};
 ghost use Rattle.resolution.specs.Asked.{Asking};
 ghost use Rattle.board.specs.Queries.{query_on, Asked};
 
-use block::{ASKSIZE, FROM, GOAL, HIGH, KIND, LOW, taken};
+use block::{ASKSIZE, FROM, GOAL, HIGH, KIND, LOW, SIZE, taken};
 use board::{declaring, part};
 use graph_table::{DECLARATIONS, QueryRow};
 use search::{ALL, goal_table};
@@ -21,11 +21,7 @@ fn with_room(tables: [u64; TABLES]) -> [u64; ASKSIZE]
     ensures same { (i : ℕ) → i < 192 → get_or result i 0 ≡ get_or tables i 0 }
 {
     let mut ask = [0u64; ASKSIZE];
-    let mut i: usize = 0;
-    while i < TABLES {
-        ask[i] = tables[i];
-        i += 1;
-    }
+    ask[..TABLES].copy_from_slice(&tables);
     ask
 }
 
@@ -33,7 +29,7 @@ fn with_room(tables: [u64; TABLES]) -> [u64; ASKSIZE]
 // declare that name: one such set serves every start. Left open is what its tables of places and
 // distances hold beyond a closed table: more places, or other distances, cost time and change no
 // answer.
-pub fn ask_from(table: &[u64], block: &[u64], q: QueryRow, goal: u64) -> [u64; ASKSIZE]
+pub fn ask_from(table: &[u64], block: &[u64; SIZE], q: QueryRow, goal: u64) -> [u64; ASKSIZE]
     requires made { Made table.now block.now }
     requires asked { Asked table.now (query_on table.now q) }
     requires goal { DeclaringIs (part_of declaration_section table.now) (packed q.name) goal }
@@ -51,7 +47,7 @@ pub fn ask_from(table: &[u64], block: &[u64], q: QueryRow, goal: u64) -> [u64; A
 
 // The ask of a query of a table that was read. What is left open is as in `ask_from`: more places,
 // or other distances, cost time and change no answer.
-pub fn ask_of(table: &[u64], block: &[u64], q: QueryRow) -> [u64; ASKSIZE]
+pub fn ask_of(table: &[u64], block: &[u64; SIZE], q: QueryRow) -> [u64; ASKSIZE]
     requires made { Made table.now block.now }
     requires asked { Asked table.now (query_on table.now q) }
     ensures asking { Asking table.now block.now q result }

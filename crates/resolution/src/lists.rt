@@ -5,7 +5,6 @@ ghost use Rattle.text_field.specs.Buffer.{Buf, puts};
 ghost use Rattle.text_field.specs.Outcome.{done};
 ghost use Rattle.text_field.specs.Answer.{answer, leaves, answer_of};
 ghost use Rattle.graph_file.specs.File.{WasRead};
-ghost use Rattle.graph_file.specs.Reader.{TextRoom};
 ghost use Rattle.board.specs.Made.{Made};
 ghost use Rattle.resolution.specs.Listing.{found_for, found_at, listing_text, listing_of, listing_for};
 ghost use Rattle.resolution.specs.Asked.{Ready, query_in, found_meaning, query_head};
@@ -16,12 +15,12 @@ use crate::found::found_by;
 use crate::queries::{query_at, query_count};
 use crate::text::{Found, put_head};
 use crate::walks::{MOST, take_entries};
-use block::SIZE;
+use block::{ASKSIZE, SIZE};
 use board::put_board;
 use follow::Bounds;
-use graph_file::{OWN_CELLS, SHORT_CELLS, is_short, read_over};
+use graph_file::with_graph;
 use graph_table::form_of;
-use text_field::{Answer, put_bytes};
+use text_field::{Refusal, Writer, put_bytes};
 
 // Room for what stands above a listing's rows: two names lines and the query's line, at most 73
 // bytes. The proof bounds it by 128.
@@ -35,23 +34,31 @@ const KEPT: usize = 512;
 // too. If there is no such query, it is `none`.
 #[derive(Clone, Copy)]
 pub struct Listed {
-    pub answer: Answer,
+    pub answer: Result<usize, Refusal>,
     pub found: Found,
 }
 
 // The listing up to its rows.
-fn put_heading(table: &[u64], block: &[u64], ask: &[u64], f: Found, out: &mut [u8]) -> usize
+fn put_heading(
+    table: &[u64],
+    block: &[u64; SIZE],
+    ask: &[u64; ASKSIZE],
+    f: Found,
+    out: &mut [u8],
+) -> usize
     requires ready { Ready table.now block.now ask.now }
     requires found { found_meaning f ≡ found_for table.now (query_in table.now ask.now) }
     ensures written { ◌≡◌ {A = Buf} (out.new, result) (puts (out.old, 0) (query_head table.now ask.now)) }
 {
     let a = awaits_of(table, block, ask);
-    put_head(form_of(table), block, ask, f, a, out)
+    let mut to = Writer::new(out);
+    put_head(&mut to, form_of(table), block, ask, f, a);
+    to.end()
 }
 
 // The listing of the query that the ask is of. Where its rows alone do not fit, `awaits`, which can
 // take long, is not needed.
-pub fn list(table: &[u64], block: &[u64], ask: &[u64], out: &mut [u8]) -> Listed
+pub fn list(table: &[u64], block: &[u64; SIZE], ask: &[u64; ASKSIZE], out: &mut [u8]) -> Listed
     requires ready { Ready table.now block.now ask.now }
     ensures answer { answer_of result.answer ≡ answer (done (listing_text table.now (query_in table.now ask.now))) (length out.old) }
     ensures memory { out.new ≡ leaves (done (listing_text table.now (query_in table.now ask.now))) out.old }
@@ -69,7 +76,7 @@ pub fn list(table: &[u64], block: &[u64], ask: &[u64], out: &mut [u8]) -> Listed
     let found = found_by(table, block, ask, bounds, t);
     if t.over {
         return Listed {
-            answer: Answer::Refused(9),
+            answer: Err(Refusal::NoRoom),
             found,
         };
     }
@@ -77,7 +84,7 @@ pub fn list(table: &[u64], block: &[u64], ask: &[u64], out: &mut [u8]) -> Listed
     let h = put_heading(table, block, ask, found, &mut head);
     if room - n < h {
         return Listed {
-            answer: Answer::Refused(9),
+            answer: Err(Refusal::NoRoom),
             found,
         };
     }
@@ -86,7 +93,7 @@ pub fn list(table: &[u64], block: &[u64], ask: &[u64], out: &mut [u8]) -> Listed
     if n <= KEPT {
         put_bytes(out, h, &kept[..n]);
         return Listed {
-            answer: Answer::Written(size),
+            answer: Ok(size),
             found,
         };
     }
@@ -97,13 +104,13 @@ pub fn list(table: &[u64], block: &[u64], ask: &[u64], out: &mut [u8]) -> Listed
     };
     take_entries(table, block, ask, all, out, h);
     Listed {
-        answer: Answer::Written(size),
+        answer: Ok(size),
         found,
     }
 }
 
 // The listing of query i of a table that was read, over its board.
-pub fn listing_on(table: &[u64], block: &[u64], i: usize, out: &mut [u8]) -> Listed
+pub fn listing_on(table: &[u64], block: &[u64; SIZE], i: usize, out: &mut [u8]) -> Listed
     requires read { WasRead table.now }
     requires made { Made table.now block.now }
     ensures answer { answer_of result.answer ≡ answer (listing_of table.now i) (length out.old) }
@@ -112,7 +119,7 @@ pub fn listing_on(table: &[u64], block: &[u64], i: usize, out: &mut [u8]) -> Lis
 {
     if query_count(table, block) <= i {
         return Listed {
-            answer: Answer::Refused(7),
+            answer: Err(Refusal::NoQuery),
             found: Found::None,
         };
     }
@@ -121,7 +128,7 @@ pub fn listing_on(table: &[u64], block: &[u64], i: usize, out: &mut [u8]) -> Lis
 }
 
 // The listing of a query of a table that was read.
-pub fn listing_of(table: &[u64], query: usize, out: &mut [u8]) -> Answer
+pub fn listing_of(table: &[u64], query: usize, out: &mut [u8]) -> Result<usize, Refusal>
     requires accepted { WasRead table.now }
     ensures answer { answer_of result ≡ answer (listing_of table.now query) (length out.old) }
     ensures memory { out.new ≡ leaves (listing_of table.now query) out.old }
@@ -132,29 +139,11 @@ pub fn listing_of(table: &[u64], query: usize, out: &mut [u8]) -> Answer
     l.answer
 }
 
-// The listing of a query of a text, which is read over a table that has room for it.
-fn listing_over(text: &[u8], table: &mut [u64], query: usize, out: &mut [u8]) -> Answer
-    requires room { TextRoom text.now (length table.old) }
-    ensures answer { answer_of result ≡ answer (listing_for text.now query) (length out.old) }
-    ensures memory { out.new ≡ leaves (listing_for text.now query) out.old }
-{
-    let a = read_over(text, table);
-    match a {
-        Answer::Refused(n) => Answer::Refused(n),
-        Answer::Written(n) => listing_of(&table[..n], query, out),
-    }
-}
-
 // The listing of a query of a text: refusals 1 to 6, then 7, then 9. After a refusal the buffer is
 // as it was.
-pub fn listing(text: &[u8], query: usize, out: &mut [u8]) -> Answer
+pub fn listing(text: &[u8], query: usize, out: &mut [u8]) -> Result<usize, Refusal>
     ensures answer { answer_of result ≡ answer (listing_for text.now query) (length out.old) }
     ensures memory { out.new ≡ leaves (listing_for text.now query) out.old }
 {
-    if is_short(text) {
-        let mut table = [0u64; SHORT_CELLS];
-        return listing_over(text, &mut table, query, out);
-    }
-    let mut table = [0u64; OWN_CELLS];
-    listing_over(text, &mut table, query, out)
+    with_graph(text, &mut |table: &[u64]| listing_of(table, query, out))?
 }

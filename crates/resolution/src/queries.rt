@@ -5,11 +5,12 @@ ghost use Rattle.graph_file.specs.File.{WasRead};
 ghost use Rattle.board.specs.Made.{Made};
 ghost use Rattle.board.specs.Queries.{query_at, query_on, Asked};
 
+use block::SIZE;
 use board::part;
 use graph_table::{QUERIES, QueryRow, ROW, query_row, row_count};
 
 // How many queries there are.
-pub fn query_count(table: &[u64], block: &[u64]) -> usize
+pub fn query_count(table: &[u64], block: &[u64; SIZE]) -> usize
     requires read { WasRead table.now }
     requires made { Made table.now block.now }
     ensures answer { result ≡ length (queries_of table.now) }
@@ -18,7 +19,7 @@ pub fn query_count(table: &[u64], block: &[u64]) -> usize
 }
 
 // Query i.
-pub fn query_at(table: &[u64], block: &[u64], i: usize) -> QueryRow
+pub fn query_at(table: &[u64], block: &[u64; SIZE], i: usize) -> QueryRow
     requires read { WasRead table.now }
     requires made { Made table.now block.now }
     requires number { i < length (queries_of table.now) }

@@ -8,7 +8,7 @@ ghost use Rattle.resolution.specs.Asked.{Ready, query_in, entries_taken, found_m
 
 use crate::found::found_by;
 use crate::text::Found;
-use block::{accept_set, ask_goal};
+use block::{ASKSIZE, SIZE, accept_set, ask_goal};
 use follow::{Aim, Bounds, Seen, Tally, Task, walk};
 
 // Once rows are only counted, a walk that has met so many entries and seen one declaration is
@@ -19,8 +19,8 @@ pub const MOST: u64 = 16;
 // The rows of the query's entries taken within bounds, from byte `from` of the memory on.
 pub fn take_entries(
     table: &[u64],
-    block: &[u64],
-    ask: &[u64],
+    block: &[u64; SIZE],
+    ask: &[u64; ASKSIZE],
     bounds: Bounds,
     out: &mut [u8],
     from: usize,
@@ -53,7 +53,7 @@ pub fn take_entries(
 
 // `found` alone: nothing is kept, and the walk ends at the first entry that is of another
 // declaration, or after as many entries of one as are counted.
-pub fn found_of(table: &[u64], block: &[u64], ask: &[u64]) -> Found
+pub fn found_of(table: &[u64], block: &[u64; SIZE], ask: &[u64; ASKSIZE]) -> Found
     requires ready { Ready table.now block.now ask.now }
     ensures answer { found_meaning result ≡ found_for table.now (query_in table.now ask.now) }
 {

@@ -117,15 +117,15 @@ module _ (next : List ℕ) (states labels : ℕ) where
       next_none (map transition_of rows) q l
       (λ u m a b. let c = of_cell u m in let at = c.2 in let low = c.7 in omega arith)
 
-module _ (cells : List ℕ) (states : ℕ) where
-  abbrev cell : ℕ → ℕ
-  cell q = get_or cells q 0
+module _ (cells : List Bool) (states : ℕ) where
+  abbrev cell : ℕ → Bool
+  cell q = get_or cells q false
 
   abbrev firsts : List ℕ
   firsts = map (λ (row : Row). value row 0) (accepts_to cells states 16)
 
   -- what an accepting state is
-  of_accepting : (a : ℕ) → a ∈ firsts → (a < states) × (eqb (cell a) 1 ≡ true)
+  of_accepting : (a : ℕ) → a ∈ firsts → (a < states) × (cell a ≡ true)
   unfolding accepts_to
   of_accepting a m =
       let b = map_elim (λ (row : Row). value row 0) (accepts_to cells states 16) m in
@@ -133,20 +133,20 @@ module _ (cells : List ℕ) (states : ℕ) where
       let i = accept_is cells states r.0 b.0 r.2 in
       let at : a ≡ r.0 = b.2 ∙ ap (λ (row : Row). value row 0) i.0 in
       let less : r.0 < states = i.1 in
-      (omega arith, ap (λ (x : ℕ). eqb (cell x) 1) at ∙ i.2)
+      (omega arith, ap cell at ∙ i.2)
 
-  pub accepts_is : (q : ℕ) → q < states → q < 16 → any_of (eqb q) firsts ≡ eqb (cell q) 1
+  pub accepts_is : (q : ℕ) → q < states → q < 16 → any_of (eqb q) firsts ≡ cell q
   unfolding accepts_to accept_at is_accepting
   accepts_is q h s =
       ⊎_elim
-      (λ (y : eqb (cell q) 1 ≡ true).
+      (λ (y : cell q ≡ true).
       any_of_intro (eqb q) (map_intro (λ (row : Row). value row 0) (rows_in_lem _ 16 q (accepting q) s (kept_in (is_accepting states q (cell q)) _ (and_both _ _ (lt-ltb q states h) y)))) (eq-eqb q q refl)
       ∙ sym y)
-      (λ (z : eqb (cell q) 1 ≡ false).
+      (λ (z : cell q ≡ false).
       any_of_false (eqb q) firsts
-      (λ a m e. true_false (of_accepting a m).1 (ap (λ (x : ℕ). eqb (cell x) 1) (sym (eqb-true q a e)) ∙ z))
+      (λ a m e. true_false (of_accepting a m).1 (ap cell (sym (eqb-true q a e)) ∙ z))
       ∙ sym z)
-      (Two (eqb (cell q) 1))
+      (Two (cell q))
 
   pub accepts_none : (q : ℕ) → states ≤ q → any_of (eqb q) firsts ≡ false
   accepts_none q h =

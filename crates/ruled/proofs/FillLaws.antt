@@ -6,24 +6,25 @@ use mathlib.Core.List.{List, ◌++◌}
 use native.Mathlib.Omega.{arith}
 use lib.ListN.{length, take, drop, length-append, length-take, length-drop}
 use lib.Seq.{take_at, length-take-le}
-use borrow.Author.Tests.{eq-eqb, ne_eqb}
+use Rattle.std.specs.declared.result.Result.TheVariants.{Ok, Err}
 use Rattle.text_field.specs.Buffer.{Buf, puts}
-use Rattle.text_field.specs.Outcome.{Outcome, refused, refuse_if}
-use Rattle.text_field.specs.Answer.{answer, leaves}
+use Rattle.text_field.specs.Outcome.{Outcome, refused, and_then}
+use Rattle.text_field.specs.Answer.{answer, leaves, answer_of}
+use Rattle.text_field.specs.Refusal.{number_of}
+use Rattle.text_field.specs.declared.refusal.Refusal.{Refusal}
 use Rattle.text_field.proofs.BufferLaws.{puts_then, puts_fits, puts_length}
 use Rattle.text_field.proofs.AnswerLaws.{answer_refused, leaves_refused}
 use Rattle.graph_rows.specs.Accepted.{AcceptedTable}
 use Rattle.graph_rows.specs.Decode.{letters_of}
-use Rattle.graph_file.specs.File.{WasRead, read_cells, write_text}
+use Rattle.graph_file.specs.File.{WasRead, write_text}
 use Rattle.graph_rows.specs.Formed.{cells_of}
 use Rattle.graph_file.proofs.Promises.{read_accepted}
 use Rattle.graph_file.proofs.SectionLaws.{part_is, part_length}
-use Rattle.graph_file.proofs.TableLaws.{ReadInto, refused_then, made_then}
 use Rattle.graph_table.specs.Sections.{leading, start_of}
 use Rattle.graph_table.proofs.Leading.{start_next, start_within}
 use Rattle.path_rules.specs.Rules.{rules_of}
 use Rattle.path_rules.specs.declared.Rules.{Rules}
-use Rattle.ruled.specs.Ruled.{transitions_to, accepts_to, transition_rows, accept_rows, ruled_cells, ruled_text, text_by, ruled_of}
+use Rattle.ruled.specs.Ruled.{transitions_to, accepts_to, transition_rows, accept_rows, ruled_cells, ruled_text, text_by}
 use Rattle.ruled.specs.Letters.{label_count}
 use Rattle.ruled.proofs.Places.{start_at, read_some, cells_size, ruled_parts}
 use Rattle.ruled.proofs.RowLaws.{transitions_most, transitions_five, accepts_most, accepts_five}
@@ -114,8 +115,9 @@ module _ (cells : List ℕ) (was : WasRead cells) (r : Rules) where
 
   -- what the four calls put, at places that `Where` tells of
   pub filled : (before behind n : ℕ) (b₀ b₁ b₂ b₃ b₄ : Buf) → before ≡ start_of 2 cells → behind ≡ start_of 4 cells → n ≡ labels
-      → b₁ ≡ puts b₀ (take before cells) → b₂ ≡ puts b₁ (cells_of 2 (transitions_to r.next r.states n 128)) → b₃ ≡ puts b₂ lower
+      → b₁ ≡ puts b₀ (take before cells) → b₂ ≡ puts b₁ (cells_of 2 (transition_rows r n)) → b₃ ≡ puts b₂ (cells_of 3 (accept_rows r))
       → b₄ ≡ puts b₃ (take (length cells - behind) (drop behind cells)) → b₄ ≡ puts b₀ (ruled_cells r cells)
+  unfolding transition_rows accept_rows
   filled before behind n b₀ b₁ b₂ b₃ b₄ at to is e₁ e₂ e₃ e₄ =
       four_puts b₀ b₁ b₂ b₃ b₄ (take (start_of 2 cells) cells) middle lower (drop (start_of 4 cells) cells)
       (e₁ ∙ ap (λ (j : ℕ). puts b₀ (take j cells)) at)
@@ -147,33 +149,18 @@ module _ (cells : List ℕ) (was : WasRead cells) (r : Rules) where
       (f.0 ∙ ap (λ (x : List ℕ). answer (write_text x) (length out)) same, f.1 ∙ ap (λ (x : List ℕ). leaves (write_text x) out) same)
 
 -- a refusal by 12 or 13, and the table's text
-module _ (cells expression : List ℕ) (r : Rules) (is : r ≡ rules_of (letters_of cells) expression) (out : List ℕ) where
-  text_is : text_by expression cells ≡ ruled_text r cells
-  unfolding text_by
-  text_is = ap (λ (x : Rules). ruled_text x cells) (sym is)
+module _ (cells expression out : List ℕ) where
+  pub text_refused : (f : Refusal) → rules_of (letters_of cells) expression ≡ Err f
+      → (refused (number_of f) ≡ answer (text_by expression cells) (length out)) × (out ≡ leaves (text_by expression cells) out)
+  unfolding text_by ruled_text answer_of and_then
+  text_refused f is =
+      let e : text_by expression cells ≡ refused (number_of f) = rw is in
+      (answer_refused (text_by expression cells) (number_of f) (length out) e, leaves_refused (text_by expression cells) (number_of f) out e)
 
-  pub text_refused : (r.refusal ≡ 0 → ⊥) → (refused r.refusal ≡ answer (text_by expression cells) (length out)) × (out ≡ leaves (text_by expression cells) out)
-  unfolding ruled_text refuse_if
-  text_refused other =
-      let e : text_by expression cells ≡ refused r.refusal = text_is ∙ rw (ne_eqb r.refusal 0 other) in
-      (answer_refused (text_by expression cells) r.refusal (length out) e, leaves_refused (text_by expression cells) r.refusal out e)
-
-  pub text_written : r.refusal ≡ 0 → (a : Outcome ℕ) (o : List ℕ)
+  pub text_written : (r : Rules) → rules_of (letters_of cells) expression ≡ Ok r → (a : Outcome ℕ) (o : List ℕ)
       → (a ≡ answer (write_text (ruled_cells r cells)) (length out)) × (o ≡ leaves (write_text (ruled_cells r cells)) out)
       → (a ≡ answer (text_by expression cells) (length out)) × (o ≡ leaves (text_by expression cells) out)
-  unfolding ruled_text refuse_if
-  text_written none a o e =
-      let same : write_text (ruled_cells r cells) ≡ text_by expression cells = sym (text_is ∙ rw (eq-eqb r.refusal 0 none)) in
+  unfolding text_by ruled_text answer_of and_then
+  text_written r is a o e =
+      let same : write_text (ruled_cells r cells) ≡ text_by expression cells = rw is in
       (e.0 ∙ ap (λ (x : Outcome (List ℕ)). answer x (length out)) same, e.1 ∙ ap (λ (x : Outcome (List ℕ)). leaves x out) same)
-
--- a text that is refused, and one that is read
-pub file_refused : (expression text : List ℕ) (n : ℕ) (out : List ℕ) → read_cells text ≡ refused n
-    → (refused n ≡ answer (ruled_of expression text) (length out)) × (out ≡ leaves (ruled_of expression text) out)
-unfolding ruled_of
-file_refused expression text n out e = refused_then (text_by expression) text n out e
-
-pub file_made : (expression text : List ℕ) (n : ℕ) (t : List ℕ) → ReadInto text n t → (r : Outcome ℕ) (o out : List ℕ)
-    → (r ≡ answer (text_by expression (take n t)) (length out)) × (o ≡ leaves (text_by expression (take n t)) out)
-    → (r ≡ answer (ruled_of expression text) (length out)) × (o ≡ leaves (ruled_of expression text) out)
-unfolding ruled_of
-file_made expression text n t m r o out e = made_then (text_by expression) text n t m r o out e

@@ -9,7 +9,12 @@ use native.Mathlib.Omega.{arith}
 use lib.Dec.{eqb, ltb}
 use lib.ListN.{length, get_or, take}
 use lib.Seq.{get_or-take, length-take-le, ext_get_or}
-use borrow.Author.Tests.{eqb-true, eqb-false, lt-ltb, ltb-true, ltb-false}
+use borrow.Author.Tests.{lt-ltb, ltb-true, ltb-false}
+use Rattle.std.specs.declared.result.Result.{Result}
+use Rattle.std.specs.declared.result.Result.TheVariants.{Ok, Err}
+use Rattle.text_field.specs.Refusal.{number_of}
+use Rattle.text_field.specs.declared.refusal.Refusal.{Refusal}
+use Rattle.text_field.specs.declared.refusal.Refusal.TheVariants.{NoExpression}
 use Rattle.scope_graph.specs.Rows.{any_of, next_by, language}
 use Rattle.scope_graph.proofs.Lists.{Two, true_false}
 use Rattle.text_field.specs.Outcome.{done}
@@ -58,10 +63,7 @@ cell_target x h = by (ltb x 16) refl
     by true e = rw (e, made.target)
     by false e = let least = ltb-false x 16 e in let z : 16 ≡ x = omega arith in rw (e, made.target) z
 
-module _ (expression cells : List ℕ) (was : WasRead cells) where
-  abbrev r : Rules
-  r = made.rules_of (letters_of cells) expression
-
+module _ (expression cells : List ℕ) (was : WasRead cells) (r : Rules) (is : made.rules_of (letters_of cells) expression ≡ Ok r) where
   abbrev after : List ℕ
   after = ruled_cells r cells
 
@@ -99,7 +101,7 @@ module _ (expression cells : List ℕ) (was : WasRead cells) where
     next_same q l h i =
         let n = labels_are cells was in
         let eight = letters_most cells was in
-        let size = next_size (letters_of cells) expression in
+        let size = next_size (letters_of cells) expression r is in
         ap (λ (rows : List Row). next_by (map transition_of rows) q l) (transitions_are cells was r)
         ∙ next_is r.next r.states (length (rows_in 0 cells)) q l h (omega arith) (omega arith) (omega arith)
         ∙ ap made.target (same_default r.next (q * 8 + l) 0 16 (omega arith))
@@ -127,7 +129,7 @@ module _ (expression cells : List ℕ) (was : WasRead cells) where
           let n = labels_are cells was in
           ap (λ (rows : List Row). cell_of (next_by (map transition_of rows) (k / 8) (k % 8))) (transitions_are cells was r)
           ∙ ap cell_of (no_label r.next r.states (length (rows_in 0 cells)) (k / 8) (k % 8) (omega arith))
-          ∙ sym (leads_nowhere (k % 8) (omega arith) (letters_of cells) expression i k (omega arith) refl)
+          ∙ sym (leads_nowhere (k % 8) (omega arith) (letters_of cells) expression i r is k (omega arith) refl)
 
       pub cell_is : cell_of ((language (rules_of after)).next (k / 8) (k % 8)) ≡ get_or r.next k 16
       cell_is =
@@ -139,7 +141,7 @@ module _ (expression cells : List ℕ) (was : WasRead cells) where
     unfolding cells_in
     in_sequence met =
         let f : ℕ → ℕ = λ k. cell_of ((language (rules_of after)).next (k / 8) (k % 8)) in
-        let n = next_size (letters_of cells) expression in
+        let n = next_size (letters_of cells) expression r is in
         let size = tabulate_length f (r.states * 8) in
         let taken = length-take-le (r.states * 8) r.next (omega arith) in
         subst (λ (rs : List ℕ). Met rs r.states)
@@ -151,49 +153,50 @@ module _ (expression cells : List ℕ) (was : WasRead cells) where
         ∙ sym (get_or-take (r.states * 8) r.next k 16 (omega arith)))))
         met
 
-  has_rules : (e : Expr) → Expression (letters_of cells) e expression → r.refusal ≡ 0 → HasRules after e r.states
-  has_rules e x none =
+  has_rules : (e : Expr) → Expression (letters_of cells) e expression → HasRules after e r.states
+  has_rules e x =
       let p : RowPromises (letters_of cells) expression e = promises.rows (letters_of cells) expression e (letters_most cells was) x in
       let d : Decides (length (letters_of cells)) (In e) r.states (made.next_in r) (made.accepts_in r) =
-      decides_fewer (length (letters_of cells)) 8 r.states (In e) (made.next_in r) (made.accepts_in r) (letters_most cells was) (p.decides none) in
+      decides_fewer (length (letters_of cells)) 8 r.states (In e) (made.next_in r) (made.accepts_in r) (letters_most cells was) (p.decides r is) in
       record {
         decides =
             subst (λ (ls : List ℕ). Decides (length ls) (In e) r.states (language (rules_of after)).next (language (rules_of after)).accepts) (sym letters_stay)
-            (decides_same (length (letters_of cells)) r.states (In e) (language (rules_of after)).next (made.next_in r) (language (rules_of after)).accepts (made.accepts_in r) (next_same p.few) (accepts_same p.few) d);
-        fewest = subst (λ (ls : List ℕ). AtLeast (length ls) (In e) r.states) (sym letters_stay) (p.fewest none);
-        few = p.few;
-        numbered = in_sequence p.few (p.numbered none);
+            (decides_same (length (letters_of cells)) r.states (In e) (language (rules_of after)).next (made.next_in r) (language (rules_of after)).accepts (made.accepts_in r) (next_same (p.few r is)) (accepts_same (p.few r is)) d);
+        fewest = subst (λ (ls : List ℕ). AtLeast (length ls) (In e) r.states) (sym letters_stay) (p.fewest r is);
+        few = p.few r is;
+        numbered = in_sequence (p.few r is) (p.numbered r is);
         met_goes_on = goes_on;
         met_accepts = accepts_below;
       }
 
 -- what is put out
 module _ (expression text cells other : List ℕ) (read : read_cells text ≡ done cells) (put : ruled_of expression text ≡ done other) where
-  abbrev it : Rules
-  it = made.rules_of (letters_of cells) expression
+  unrefused : (r : Rules) × (made.rules_of (letters_of cells) expression ≡ Ok r)
+  unrefused = by (made.rules_of (letters_of cells) expression) refl
+    where
+      by : (m : Result Rules Refusal) → made.rules_of (letters_of cells) expression ≡ m → (r : Rules) × (made.rules_of (letters_of cells) expression ≡ Ok r)
+      by (Ok r) e = (r, e)
+      by (Err f) e = absurd (not_done (number_of f) other (sym (of_refused expression text cells read f e) ∙ put))
 
-  unrefused : it.refusal ≡ 0
-  unrefused =
-      ⊎_elim (λ (y : eqb it.refusal 0 ≡ true). eqb-true it.refusal 0 y)
-      (λ (z : eqb it.refusal 0 ≡ false). absurd (not_done it.refusal other (sym (of_refused expression text cells read (eqb-false it.refusal 0 z)) ∙ put)))
-      (Two (eqb it.refusal 0))
-
-  written : write_text (ruled_cells it cells) ≡ done other
-  written = sym (of_done expression text cells read unrefused) ∙ put
+  written : write_text (ruled_cells unrefused.0 cells) ≡ done other
+  written = sym (of_done expression text cells read unrefused.0 unrefused.1) ∙ put
 
   is_expression : IsExpression cells expression
-  is_expression = (promises.taken (letters_of cells) expression).0 (λ e. let z : ◌≡◌ {A = ℕ} 0 12 = sym unrefused ∙ e in omega arith)
+  is_expression = (promises.taken (letters_of cells) expression).0 (λ e. apart (sym unrefused.1 ∙ e))
+    where
+      apart : ◌≡◌ {A = Result Rules Refusal} (Ok unrefused.0) (Err NoExpression) → ⊥
+      apart e = cc
 
   out : (after : List ℕ) × (read_cells other ≡ done after) × (form_in after ≡ form_in cells)
       × ((k : ℕ) → k < 9 → ¬ (k ≡ transition_section) → ¬ (k ≡ accept_section) → rows_in k after ≡ rows_in k cells)
       × ((e : Expr) × Expression (letters_of cells) e expression × ((states : ℕ) × HasRules after e states))
   out =
-      let x = is_expression in (
-        ruled_cells it cells,
-        written_then_read (ruled_cells it cells) other written,
-        form_stays cells (text, read) it,
-        others_stay cells (text, read) it,
-        (x.0, x.1, (it.states, has_rules expression cells (text, read) x.0 x.1 unrefused)),
+      let x = is_expression in let r = unrefused.0 in (
+        ruled_cells r cells,
+        written_then_read (ruled_cells r cells) other written,
+        form_stays cells (text, read) r,
+        others_stay cells (text, read) r,
+        (x.0, x.1, (r.states, has_rules expression cells (text, read) r unrefused.1 x.0 x.1)),
       )
 
 pub put_out : PutOut

@@ -1,73 +1,26 @@
 -- Laws of cells and rows put into a table. Assumes nothing.
-use Prim.Native.Nat.{ℕ, ◌+◌, ◌/◌, ◌%◌, ◌≤◌, ◌<◌}
+use Prim.Native.Nat.{ℕ, ◌+◌, ◌-◌, ◌≤◌}
 use mathlib.Core.Path.{◌≡◌, refl, sym, ap, ◌∙◌}
-use mathlib.Core.Bool.{Bool, true, false}
 use mathlib.Core.List.{List, [], ◌∷◌, ◌++◌, append-nil, append_assoc}
 use native.Mathlib.Omega.{arith}
-use native.Mathlib.Nat.{add-zero}
 use native.Mathlib.Numerals.{add-one}
-use lib.Dec.{eqb, ltb}
-use lib.ListN.{length, get_or, set, drop}
-use borrow.Author.Tests.{lt-ltb, le-ltb}
+use borrow.Rule.Slice.PartMut.{put_mid}
+use lib.ListN.{length, take, drop}
+use lib.Seq.{drop-drop}
+use Rattle.std.specs.Option.{option_to_list}
+use Rattle.std.specs.declared.option.Option.TheVariants.{Some, None}
 use Rattle.text_field.specs.Buffer.{Buf, puts}
-use Rattle.text_field.proofs.BufferLaws.{put_in, puts_one, puts_none, puts_then, puts_step}
-use Rattle.text_field.proofs.Steps.{drop_next, drop_end}
+use Rattle.text_field.proofs.BufferLaws.{puts_fits, puts_then}
 use Rattle.graph_rows.specs.Admission.{Row}
-use Rattle.graph_rows.specs.Decode.{kept_if}
 use Rattle.graph_rows.specs.Formed.{cells_of}
-use Rattle.ruled.specs.Ruled.{rows_to, is_transition, is_accepting}
+use Rattle.ruled.specs.Ruled.{rows_to}
 
--- cells put one after the other
-pub cells_start : (t cells : List ℕ) (n : ℕ) → puts (t, n + 0) (drop 0 cells) ≡ puts (t, n) cells
-cells_start t cells n = ap (λ (j : ℕ). puts (t, j) cells) (add-zero n)
-
-module _ (t cells : List ℕ) (n i : ℕ) (w : Buf) where
-  pub cells_next : n + i < length t → i < length cells → puts (t, n + i) (drop i cells) ≡ w
-      → puts (set t (n + i) (get_or cells i 0), n + (i + 1)) (drop (i + 1) cells) ≡ w
-  cells_next h l e =
-      let x : ℕ = get_or cells i 0 in
-      let on : n + (i + 1) ≡ n + i + 1 = omega arith in
-      let one : ◌≡◌ {A = Buf} (set t (n + i) x, n + (i + 1)) (puts (t, n + i) (x ∷ [])) =
-      ap (λ (j : ℕ). (set t (n + i) x, j)) on ∙ sym (put_in t (n + i) x h) ∙ puts_one (t, n + i) x in
-      puts_step (t, n + i) (set t (n + i) x, n + (i + 1)) w (x ∷ []) (drop (i + 1) cells) (drop i cells) one (drop_next cells i l) e
-
-  pub cells_all : length cells ≤ i → puts (t, n + i) (drop i cells) ≡ w → (t, n + i) ≡ w
-  cells_all h e = puts_none (t, n + i) (drop i cells) (drop_end cells i h) ∙ e
-
--- whether a cell has a row
-module _ (states labels k to : ℕ) where
-  pub no_state : states ≤ k / 8 → false ≡ is_transition states labels k to
-  unfolding is_transition
-  no_state h = rw (le-ltb (k / 8) states h)
-
-  pub no_label : k / 8 < states → labels ≤ k % 8 → false ≡ is_transition states labels k to
-  unfolding is_transition
-  no_label h l = rw (lt-ltb (k / 8) states h, le-ltb (k % 8) labels l)
-
-  pub by_target : k / 8 < states → k % 8 < labels → ltb to 16 ≡ is_transition states labels k to
-  unfolding is_transition
-  by_target h l = rw (lt-ltb (k / 8) states h, lt-ltb (k % 8) labels l)
-
-module _ (states q cell : ℕ) where
-  pub not_accepting : states ≤ q → false ≡ is_accepting states q cell
-  unfolding is_accepting
-  not_accepting h = rw (le-ltb q states h)
-
-  pub by_cell : q < states → eqb cell 1 ≡ is_accepting states q cell
-  unfolding is_accepting
-  by_cell h = rw (lt-ltb q states h)
-
--- a row that is put, and one that is left out
-module _ (t : List ℕ) (n s : ℕ) (row : Row) (b test : Bool) (is : b ≡ test) where
-  pub row_put : (u : List ℕ) → b ≡ true → ◌≡◌ {A = Buf} (u, n + 6) (puts (t, n) (s ∷ row)) → ◌≡◌ {A = Buf} (u, n + 6) (puts (t, n) (cells_of s (kept_if test row [])))
-  unfolding kept_if cells_of
-  row_put u so e =
-      let yes : test ≡ true = sym is ∙ so in
-      rw yes (e ∙ ap (λ (l : List ℕ). puts (t, n) (s ∷ l)) (sym (append-nil row)))
-
-  pub row_left : b ≡ false → (t, n) ≡ puts (t, n) (cells_of s (kept_if test row []))
-  unfolding kept_if cells_of puts
-  row_left so = let no : test ≡ false = sym is ∙ so in rw no refl
+-- cells copied over others
+pub put_copied : (t cells part : List ℕ) (n : ℕ) → part ≡ cells → n + length cells ≤ length t
+    → ◌≡◌ {A = Buf} (put_mid n (n + length cells - n) t part, n + length cells) (puts (t, n) cells)
+put_copied t cells part n e h =
+    let k : n + length cells - n ≡ length cells = omega arith in
+    sym (puts_fits t n cells h ∙ rw (k, e, drop-drop (length cells) n t, append_assoc (take n t) cells (drop (n + length cells) t)))
 
 -- rows after rows
 pub cells_append : (s : ℕ) (xs ys : List Row) → cells_of s (xs ++ ys) ≡ cells_of s xs ++ cells_of s ys
@@ -87,3 +40,12 @@ rows_more f s k b c d e g =
     puts_then b c d (cells_of s (rows_to f k)) (cells_of s (f k)) e g
     ∙ ap (puts b) (sym (cells_append s (rows_to f k) (f k)))
     ∙ ap (λ (j : ℕ). puts b (cells_of s (rows_to f j))) (sym (add-one k))
+
+-- a row that may be missing
+pub row_put : (s : ℕ) (row : Row) (rows : List Row) (b c : Buf) → option_to_list (Some row) ≡ rows → c ≡ puts b (s ∷ row) → c ≡ puts b (cells_of s rows)
+unfolding cells_of
+row_put s row rows b c e p = rw (sym e) (p ∙ ap (λ (l : List ℕ). puts b (s ∷ l)) (sym (append-nil row)))
+
+pub row_left : (s : ℕ) (rows : List Row) (b : Buf) → option_to_list {X = Row} None ≡ rows → b ≡ puts b (cells_of s rows)
+unfolding cells_of puts
+row_left s rows b e = rw (sym e)

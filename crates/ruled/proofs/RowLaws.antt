@@ -7,7 +7,7 @@ use mathlib.Core.Logic.{⊎_elim}
 use mathlib.Core.List.Memᴰ
 use mathlib.Core.List.{List, [], ◌∷◌}
 use native.Mathlib.Omega.{arith}
-use lib.Dec.{eqb, ltb}
+use lib.Dec.{ltb}
 use lib.ListN.{length, get_or, length-append}
 use borrow.Author.Tests.{ltb-true}
 use Rattle.scope_graph.specs.Language.{◌∈◌}
@@ -79,11 +79,11 @@ module _ (next : List ℕ) (states labels : ℕ) where
   unfolding transitions_to
   transitions_five n row m = let r = rows_of _ n row m in let e = transition_is r.0 row r.2 in ap length e.0
 
-module _ (cells : List ℕ) (states : ℕ) where
-  abbrev cell : ℕ → ℕ
-  cell q = get_or cells q 0
+module _ (cells : List Bool) (states : ℕ) where
+  abbrev cell : ℕ → Bool
+  cell q = get_or cells q false
 
-  pub accept_is : (q : ℕ) (row : Row) → row ∈ accept_at states q (cell q) → (row ≡ accepting q) × (q < states) × (eqb (cell q) 1 ≡ true)
+  pub accept_is : (q : ℕ) (row : Row) → row ∈ accept_at states q (cell q) → (row ≡ accepting q) × (q < states) × (cell q ≡ true)
   unfolding accept_at is_accepting
   accept_is q row m =
       let r = kept_is (is_accepting states q (cell q)) (accepting q) row m in

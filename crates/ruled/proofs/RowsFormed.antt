@@ -2,7 +2,7 @@
 -- too. Assumes nothing.
 use Prim.Native.Nat.{ℕ, ◌/◌, ◌%◌, ◌<◌}
 use mathlib.Core.Path.{◌≡◌, refl, sym, subst, ◌∙◌}
-use mathlib.Core.Bool.{true, false}
+use mathlib.Core.Bool.{Bool, true, false}
 use mathlib.Core.Logic.{⊎_elim}
 use mathlib.Core.List.{List, [], ◌∷◌}
 use native.Mathlib.Omega.{arith}
@@ -77,7 +77,7 @@ module _ (form scopes : ℕ) (next : List ℕ) (states labels : ℕ) where
       apart : (j k : ℕ) (a b : Row) → j < k → a ∈ transition_at states labels j (get_or next j 0) → b ∈ transition_at states labels k (get_or next k 0) → key_less (0 ∷ 1 ∷ []) a b ≡ true
       apart j k a b h m n = rw ((transition_is next states labels j a m).0, (transition_is next states labels k b n).0) (transition_less j k (get_or next j 0) (get_or next k 0) h)
 
-module _ (form labels scopes : ℕ) (cells : List ℕ) (states : ℕ) where
+module _ (form labels scopes : ℕ) (cells : List Bool) (states : ℕ) where
   accepts_formed : FormedSection labels scopes form 3 (accepts_to cells states 16)
   unfolding section_at sections accepts accepts_to accept_at
   accepts_formed = record {
@@ -90,10 +90,10 @@ module _ (form labels scopes : ℕ) (cells : List ℕ) (states : ℕ) where
     most = accepts_most cells states 16;
   }
     where
-      own : (k : ℕ) → Pairwise (λ (a b : Row). key_less (0 ∷ []) a b ≡ true) (accept_at states k (get_or cells k 0))
-      own k = kept_pairwise (λ (a b : Row). key_less (0 ∷ []) a b ≡ true) (is_accepting states k (get_or cells k 0)) (accepting k)
+      own : (k : ℕ) → Pairwise (λ (a b : Row). key_less (0 ∷ []) a b ≡ true) (accept_at states k (get_or cells k false))
+      own k = kept_pairwise (λ (a b : Row). key_less (0 ∷ []) a b ≡ true) (is_accepting states k (get_or cells k false)) (accepting k)
 
-      apart : (j k : ℕ) (a b : Row) → j < k → a ∈ accept_at states j (get_or cells j 0) → b ∈ accept_at states k (get_or cells k 0) → key_less (0 ∷ []) a b ≡ true
+      apart : (j k : ℕ) (a b : Row) → j < k → a ∈ accept_at states j (get_or cells j false) → b ∈ accept_at states k (get_or cells k false) → key_less (0 ∷ []) a b ≡ true
       apart j k a b h m n = rw ((accept_is cells states j a m).0, (accept_is cells states k b n).0) (accept_less j k h)
 
 -- the rows of all sections

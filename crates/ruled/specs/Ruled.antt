@@ -1,7 +1,10 @@
 -- The text of a gym file whose path rules are those of an expression (02, K6). Assumes nothing:
 -- these are definitions.
-use Rattle.std.specs.Prelude.{ℕ, zero, suc, ◌/◌, ◌%◌, Bool, not, ◌&&◌, List, [], ◌∷◌, ◌++◌, eqb, ltb, length, get_or}
-use Rattle.text_field.specs.Outcome.{Outcome, and_then, refuse_if}
+use Rattle.std.specs.Prelude.{ℕ, zero, suc, ◌/◌, ◌%◌, Bool, false, ◌&&◌, List, [], ◌∷◌, ◌++◌, ltb, length, get_or}
+use Rattle.std.specs.declared.result.Result.{Result}
+use Rattle.text_field.specs.Outcome.{Outcome, and_then}
+use Rattle.text_field.specs.Answer.{answer_of}
+use Rattle.text_field.specs.declared.refusal.Refusal.{Refusal}
 use Rattle.graph_rows.specs.Format.{label_section, transition_section, accept_section, state_count}
 use Rattle.graph_rows.specs.Admission.{Row}
 use Rattle.graph_file.specs.File.{read_cells, write_text}
@@ -25,18 +28,18 @@ unfoldable pub transition_at : ℕ → ℕ → ℕ → ℕ → List Row
 transition_at states labels k to = kept_if (is_transition states labels k to) (k / 8 ∷ k % 8 ∷ to ∷ 0 ∷ 0 ∷ []) []
 
 -- the row of state q, if it accepts: `accept`
-unfoldable pub is_accepting : ℕ → ℕ → ℕ → Bool
-is_accepting states q cell = ltb q states && eqb cell 1
+unfoldable pub is_accepting : ℕ → ℕ → Bool → Bool
+is_accepting states q accepts = ltb q states && accepts
 
-unfoldable pub accept_at : ℕ → ℕ → ℕ → List Row
-accept_at states q cell = kept_if (is_accepting states q cell) (q ∷ 0 ∷ 0 ∷ 0 ∷ 0 ∷ []) []
+unfoldable pub accept_at : ℕ → ℕ → Bool → List Row
+accept_at states q accepts = kept_if (is_accepting states q accepts) (q ∷ 0 ∷ 0 ∷ 0 ∷ 0 ∷ []) []
 
 -- the rows of the first n cells, which have their own sequence: by state, then by label
 unfoldable pub transitions_to : List ℕ → ℕ → ℕ → ℕ → List Row
 transitions_to next states labels n = rows_to (λ k. transition_at states labels k (get_or next k 0)) n
 
-unfoldable pub accepts_to : List ℕ → ℕ → ℕ → List Row
-accepts_to accepts states n = rows_to (λ q. accept_at states q (get_or accepts q 0)) n
+unfoldable pub accepts_to : List Bool → ℕ → ℕ → List Row
+accepts_to accepts states n = rows_to (λ q. accept_at states q (get_or accepts q false)) n
 
 -- the rows that an expression becomes
 unfoldable pub transition_rows : Rules → ℕ → List Row
@@ -55,8 +58,8 @@ unfoldable pub ruled_cells : Rules → List ℕ → List ℕ
 ruled_cells r cells = table_of (form_in cells) (ruled_rows r (λ k. rows_in k cells))
 
 -- its text, unless the expression was refused: 12 or 13
-unfoldable pub ruled_text : Rules → List ℕ → Outcome (List ℕ)
-ruled_text r cells = refuse_if (not (eqb r.refusal 0)) r.refusal (write_text (ruled_cells r cells))
+unfoldable pub ruled_text : Result Rules Refusal → List ℕ → Outcome (List ℕ)
+ruled_text r cells = and_then (answer_of r) (λ rules. write_text (ruled_cells rules cells))
 
 -- the expression is over the letters of the file
 unfoldable pub text_by : List ℕ → List ℕ → Outcome (List ℕ)

@@ -6,9 +6,9 @@ ghost use Rattle.graph_file.specs.File.{WasRead};
 ghost use Rattle.ruled.specs.Ruled.{ruled_cells};
 
 use crate::letters::label_count;
-use crate::put::{put_accepts, put_cells, put_transitions};
-use graph_table::{COUNT, SECTION, TRANSITIONS, rows_from};
-use path_rules::Rules;
+use crate::put::{accept_row, put_cells, put_rows, transition_row};
+use graph_table::{ACCEPTS, COUNT, SECTION, TRANSITIONS, rows_from};
+use path_rules::{CELLS, Rules, STATES};
 
 // The cells of the largest table, and six for each row that the two sections admit, so that the new
 // rows have room whatever the old ones were; and the same for a short table.
@@ -18,19 +18,22 @@ pub const SHORT_FILLED: usize = 1117;
 
 // The cells of the table with these rules, put into a table of one's own that has room for as many
 // rows as the two sections admit: how many they are.
-pub fn fill(table: &[u64], r: Rules, own: &mut [u64]) -> usize
+pub fn fill(table: &[u64], r: &Rules, own: &mut [u64]) -> usize
     requires read { WasRead table.now }
     requires room { length table.now + 864 ≤ length own.old }
-    ensures written { ◌≡◌ {A = Buf} (own.new, result) (puts (own.old, 0) (ruled_cells r table.now)) }
+    ensures written { ◌≡◌ {A = Buf} (own.new, result) (puts (own.old, 0) (ruled_cells r.now table.now)) }
 {
     let labels = label_count(table);
     let before = rows_from(table, SECTION, TRANSITIONS as u64, 1);
     let behind = rows_from(table, SECTION, COUNT as u64, before);
     let above = put_cells(&table[..before], own, 0);
-    let states = r.states;
-    let next = r.next;
-    let accepts = r.accepts;
-    let middle = put_transitions(next, states, labels, own, above);
-    let below = put_accepts(accepts, states, own, middle);
+    let middle = put_rows(
+        TRANSITIONS,
+        CELLS,
+        |k| transition_row(r, labels, k),
+        own,
+        above,
+    );
+    let below = put_rows(ACCEPTS, STATES, |q| accept_row(r, q), own, middle);
     put_cells(&table[behind..], own, below)
 }

@@ -10,31 +10,30 @@ mod put;
 ghost use Rattle.std.specs.Prelude.{◌≡◌, ◌+◌, ◌≤◌, length};
 ghost use Rattle.text_field.specs.Answer.{answer, leaves, answer_of};
 ghost use Rattle.graph_file.specs.File.{WasRead, write_text};
-ghost use Rattle.graph_file.specs.Reader.{TextRoom};
 ghost use Rattle.ruled.specs.Ruled.{ruled_cells, text_by, ruled_of};
 
 use crate::fill::{FILLED_CELLS, SHORT_FILLED, fill};
 use crate::letters::rules_by;
-use graph_file::{OWN_CELLS, SHORT_CELLS, is_short, read_over, write};
+use graph_file::{SHORT_CELLS, with_graph, write};
 use path_rules::Rules;
-use text_field::Answer;
+use text_field::Refusal;
 
 // The table's text with these rules, over a table of one's own that has room for them.
-fn write_over(table: &[u64], r: Rules, own: &mut [u64], out: &mut [u8]) -> Answer
+fn write_over(table: &[u64], r: &Rules, own: &mut [u64], out: &mut [u8]) -> Result<usize, Refusal>
     requires read { WasRead table.now }
     requires room { length table.now + 864 ≤ length own.old }
-    ensures answer { answer_of result ≡ answer (write_text (ruled_cells r table.now)) (length out.old) }
-    ensures memory { out.new ≡ leaves (write_text (ruled_cells r table.now)) out.old }
+    ensures answer { answer_of result ≡ answer (write_text (ruled_cells r.now table.now)) (length out.old) }
+    ensures memory { out.new ≡ leaves (write_text (ruled_cells r.now table.now)) out.old }
 {
     let n = fill(table, r, own);
     write(&own[..n], out)
 }
 
 // The table's text with these rules.
-fn write_with(table: &[u64], r: Rules, out: &mut [u8]) -> Answer
+fn write_with(table: &[u64], r: &Rules, out: &mut [u8]) -> Result<usize, Refusal>
     requires read { WasRead table.now }
-    ensures answer { answer_of result ≡ answer (write_text (ruled_cells r table.now)) (length out.old) }
-    ensures memory { out.new ≡ leaves (write_text (ruled_cells r table.now)) out.old }
+    ensures answer { answer_of result ≡ answer (write_text (ruled_cells r.now table.now)) (length out.old) }
+    ensures memory { out.new ≡ leaves (write_text (ruled_cells r.now table.now)) out.old }
 {
     if table.len() <= SHORT_CELLS {
         let mut own = [0u64; SHORT_FILLED];
@@ -45,41 +44,20 @@ fn write_with(table: &[u64], r: Rules, out: &mut [u8]) -> Answer
 }
 
 // The table's text with the expression's rules, or 12 or 13.
-fn write_by(table: &[u64], expression: &[u8], out: &mut [u8]) -> Answer
+fn write_by(table: &[u64], expression: &[u8], out: &mut [u8]) -> Result<usize, Refusal>
     requires read { WasRead table.now }
     ensures answer { answer_of result ≡ answer (text_by expression.now table.now) (length out.old) }
     ensures memory { out.new ≡ leaves (text_by expression.now table.now) out.old }
 {
-    let r = rules_by(table, expression);
-    if r.refusal != 0 {
-        return Answer::Refused(r.refusal);
-    }
-    write_with(table, r, out)
-}
-
-// The text with the expression's rules, read over a table that has room for it.
-fn rules_over(text: &[u8], table: &mut [u64], expression: &[u8], out: &mut [u8]) -> Answer
-    requires room { TextRoom text.now (length table.old) }
-    ensures answer { answer_of result ≡ answer (ruled_of expression.now text.now) (length out.old) }
-    ensures memory { out.new ≡ leaves (ruled_of expression.now text.now) out.old }
-{
-    let a = read_over(text, table);
-    match a {
-        Answer::Refused(n) => Answer::Refused(n),
-        Answer::Written(n) => write_by(&table[..n], expression, out),
-    }
+    let r = rules_by(table, expression)?;
+    write_with(table, &r, out)
 }
 
 // The text with the expression's rows in place of its own transitions and accepting states:
 // refusals 1 to 6, then 12, then 13, then 9. After a refusal the buffer is as it was.
-pub fn rules(text: &[u8], expression: &[u8], out: &mut [u8]) -> Answer
+pub fn rules(text: &[u8], expression: &[u8], out: &mut [u8]) -> Result<usize, Refusal>
     ensures answer { answer_of result ≡ answer (ruled_of expression.now text.now) (length out.old) }
     ensures memory { out.new ≡ leaves (ruled_of expression.now text.now) out.old }
 {
-    if is_short(text) {
-        let mut table = [0u64; SHORT_CELLS];
-        return rules_over(text, &mut table, expression, out);
-    }
-    let mut table = [0u64; OWN_CELLS];
-    rules_over(text, &mut table, expression, out)
+    with_graph(text, &mut |table: &[u64]| write_by(table, expression, out))?
 }

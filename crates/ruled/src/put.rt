@@ -1,21 +1,14 @@
 // Cells and rows put into a table that has room for them.
-ghost use Rattle.std.specs.Prelude.{◌≡◌, ◌+◌, ◌≤◌, length};
+ghost use Rattle.std.specs.Prelude.{◌≡◌, ℕ, ◌+◌, ◌*◌, ◌≤◌, ◌<◌, false, List, length, get_or};
+ghost use Rattle.std.specs.Option.{option_to_list};
+ghost use Rattle.std.specs.declared.option.Option.{Option};
 ghost use Rattle.text_field.specs.Buffer.{Buf, puts};
-ghost use Rattle.graph_rows.specs.Format.{transition_section, accept_section};
+ghost use Rattle.graph_rows.specs.Admission.{Row};
 ghost use Rattle.graph_rows.specs.Formed.{cells_of};
-ghost use Rattle.ruled.specs.Ruled.{is_transition, is_accepting, transition_at, accept_at, transitions_to, accepts_to};
+ghost use Rattle.ruled.specs.Ruled.{rows_to, transition_at, accept_at};
 
-use graph_table::{ACCEPTS, ROW, TRANSITIONS, put_row};
-
-// The rules' table has a cell for each of so many states and labels, the most that a file may have.
-const STATES: usize = 16;
-
-const LABELS: usize = 8;
-
-const CELLS: usize = STATES * LABELS;
-
-// What a cell holds that leads nowhere: a number past all states.
-const NOWHERE: u64 = 16;
+use graph_table::{ROW, put_row};
+use path_rules::{LABELS, NOWHERE, Rules};
 
 // The cells from place n on: the place after them.
 pub fn put_cells(cells: &[u64], table: &mut [u64], n: usize) -> usize
@@ -23,104 +16,60 @@ pub fn put_cells(cells: &[u64], table: &mut [u64], n: usize) -> usize
     ensures written { ◌≡◌ {A = Buf} (table.new, result) (puts (table.old, n) cells.now) }
     ensures place { result ≡ n + length cells.now }
 {
-    let mut i: usize = 0;
-    while i < cells.len() {
-        table[n + i] = cells[i];
-        i += 1;
-    }
-    n + i
+    let end = n + cells.len();
+    table[n..end].copy_from_slice(cells);
+    end
 }
 
-// Is there a row for cell k of the transitions, which leads to a state?
-fn is_transition(to: u64, k: usize, states: usize, labels: usize) -> bool
-    ensures answer { result ≡ is_transition states labels k to }
+// The row of cell k of the transitions, if it leads to a state by a label.
+#[tactic(auto, unfolding(crate::specs::Ruled::transition_at, crate::specs::Ruled::is_transition, graph_rows::specs::Decode::kept_if))]
+pub fn transition_row(r: &Rules, labels: usize, k: usize) -> Option<[u64; 5]>
+    requires cell { k < 128 }
+    ensures answer { option_to_list result ≡ transition_at r.now.states labels k (get_or r.now.next k 0) }
 {
-    if states <= k / LABELS {
-        return false;
-    }
-    if labels <= k % LABELS {
-        return false;
-    }
-    to < NOWHERE
-}
-
-// The row of cell k of the transitions, if any: the place after it.
-fn put_transition(
-    to: u64,
-    k: usize,
-    states: usize,
-    labels: usize,
-    table: &mut [u64],
-    n: usize,
-) -> usize
-    requires room { n + 6 ≤ length table.old }
-    ensures written { ◌≡◌ {A = Buf} (table.new, result) (puts (table.old, n) (cells_of transition_section (transition_at states labels k to))) }
-    ensures place { result ≤ n + 6 }
-{
-    if is_transition(to, k, states, labels) {
+    let to = r.next[k];
+    if k / LABELS < r.states && k % LABELS < labels && to < NOWHERE {
         let state = (k / LABELS) as u64;
         let label = (k % LABELS) as u64;
-        put_row(table, n, TRANSITIONS as u64, [state, label, to, 0, 0]);
-        return n + ROW;
+        Some([state, label, to, 0, 0])
+    } else {
+        None
     }
-    n
 }
 
-// The transitions: the place after them.
-pub fn put_transitions(
-    next: [u64; 128],
-    states: usize,
-    labels: usize,
+// The row of state q, if it accepts.
+#[tactic(auto, unfolding(crate::specs::Ruled::accept_at, crate::specs::Ruled::is_accepting, graph_rows::specs::Decode::kept_if))]
+pub fn accept_row(r: &Rules, q: usize) -> Option<[u64; 5]>
+    requires cell { q < 16 }
+    ensures answer { option_to_list result ≡ accept_at r.now.states q (get_or r.now.accepts q false) }
+{
+    if q < r.states && r.accepts[q] {
+        Some([q as u64, 0, 0, 0, 0])
+    } else {
+        None
+    }
+}
+
+// The rows of a section by their numbers, each of which may have none: the place after them.
+pub fn put_rows<F: Fn(usize) -> Option<[u64; 5]>>(
+    section: usize,
+    count: usize,
+    row_of: F,
     table: &mut [u64],
     n: usize,
 ) -> usize
-    requires room { n + 768 ≤ length table.old }
-    ensures written { ◌≡◌ {A = Buf} (table.new, result) (puts (table.old, n) (cells_of transition_section (transitions_to next states labels 128))) }
-    ensures place { result ≤ n + 768 }
+    requires room { n + 6 * count ≤ length table.old }
+    requires callable { (k : ℕ) → k < count → F.pre row_of k }
+    ensures written { (f : ℕ → List Row) → ((k : ℕ) (o : Option Row) → k < count → F.post row_of k o → option_to_list o ≡ f k)
+        → ◌≡◌ {A = Buf} (table.new, result) (puts (table.old, n) (cells_of section (rows_to f count))) }
+    ensures place { result ≤ n + 6 * count }
 {
     let mut at = n;
-    let mut k: usize = 0;
-    while k < CELLS {
-        at = put_transition(next[k], k, states, labels, table, at);
-        k += 1;
-    }
-    at
-}
-
-// Does state q accept?
-fn is_accepting(cell: u64, q: usize, states: usize) -> bool
-    ensures answer { result ≡ is_accepting states q cell }
-{
-    if states <= q {
-        return false;
-    }
-    cell == 1
-}
-
-// The row of state q, if it accepts: the place after it.
-fn put_accept(cell: u64, q: usize, states: usize, table: &mut [u64], n: usize) -> usize
-    requires room { n + 6 ≤ length table.old }
-    ensures written { ◌≡◌ {A = Buf} (table.new, result) (puts (table.old, n) (cells_of accept_section (accept_at states q cell))) }
-    ensures place { result ≤ n + 6 }
-{
-    if is_accepting(cell, q, states) {
-        put_row(table, n, ACCEPTS as u64, [q as u64, 0, 0, 0, 0]);
-        return n + ROW;
-    }
-    n
-}
-
-// The accepting states: the place after them.
-pub fn put_accepts(accepts: [u64; 16], states: usize, table: &mut [u64], n: usize) -> usize
-    requires room { n + 96 ≤ length table.old }
-    ensures written { ◌≡◌ {A = Buf} (table.new, result) (puts (table.old, n) (cells_of accept_section (accepts_to accepts states 16))) }
-    ensures place { result ≤ n + 96 }
-{
-    let mut at = n;
-    let mut q: usize = 0;
-    while q < STATES {
-        at = put_accept(accepts[q], q, states, table, at);
-        q += 1;
+    for k in 0..count {
+        if let Some(row) = row_of(k) {
+            put_row(table, at, section as u64, row);
+            at += ROW;
+        }
     }
     at
 }

@@ -2,8 +2,8 @@
 -- ends mean. Assumes nothing: these are definitions.
 use Rattle.std.specs.Prelude.{ℕ, zero, suc}
 use Rattle.std.proofs.Math.Option.{Option, some, none}
-use Rattle.scope_graph.specs.declared.Turn.{Turn}
-use Rattle.scope_graph.specs.declared.Turn.TheVariants.{None, Of}
+use Rattle.std.specs.declared.option.Option.{Option as CodeOption}
+use Rattle.std.specs.declared.option.Option.TheVariants.{Some, None}
 use Rattle.scope_graph.specs.declared.End.{End as CodeEnd}
 use Rattle.scope_graph.specs.declared.End.TheVariants.{Stop, Label}
 use Rattle.scope_graph.specs.Language.{End, stop, by}
@@ -14,10 +14,10 @@ unfoldable pub end_of : ℕ → End ℕ
 end_of zero = stop
 end_of (suc n) = by n
 
--- what values of the code's enums mean (01, "Where each language form goes"; the turn, 02, K12)
-unfoldable pub turn_meaning : Turn → Option ℕ
+-- what the code's values mean (01, "Where each language form goes"; the turn, 02, K12)
+unfoldable pub turn_meaning : CodeOption ℕ → Option ℕ
 turn_meaning None = none
-turn_meaning (Of n) = some n
+turn_meaning (Some n) = some n
 
 unfoldable pub meaning : CodeEnd → End Turned
 meaning Stop = stop

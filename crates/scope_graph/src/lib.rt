@@ -3,20 +3,14 @@
 // themselves in the other files there: this crate has no functions.
 #![tactic(auto)]
 
-// The turn of a step: a step that is no edge row has none.
-#[derive(Clone, Copy)]
-pub enum Turn {
-    None,
-    Of(u64),
-}
-
 // The form that document 01 binds for order pairs ("Where each language form goes"): a struct of
 // two of these, and a preference test that matches on both (`preferred` of crate `comparison`). A
-// label has its number and, since two steps of one label are told apart by it (02, K12), a turn.
+// label has its number and, since two steps of one label are told apart by it (02, K12), a turn; a
+// step that is no edge row has none.
 #[derive(Clone, Copy)]
 pub enum End {
     Stop,
-    Label(u64, Turn),
+    Label(u64, Option<u64>),
 }
 
 #[derive(Clone, Copy)]

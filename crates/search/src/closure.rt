@@ -3,7 +3,6 @@
 ghost use Rattle.std.specs.Prelude.{◌≡◌, true, false, ℕ, ◌≤◌, ◌<◌, length};
 ghost use Rattle.scope_graph.specs.Turns.{Turned};
 ghost use Rattle.block.specs.Sets.{has_scope, has_state};
-ghost use Rattle.block.specs.Layout.{IsBlock};
 ghost use Rattle.block.specs.Block.{Bounds, next_cell, hop_of};
 ghost use Rattle.search.specs.Tables.{place_flag};
 ghost use Rattle.search.specs.Conditions.{way_of};
@@ -12,8 +11,8 @@ ghost use Rattle.search.specs.Steps.{HopClosed, ScopeClosed, HopsClosed, Leading
 use crate::places::ALL_STATES;
 use crate::scan::{least_of, rest_of};
 use block::{
-    accept_set, edge_at, edge_label, edge_scope, edges_end, edges_from, has, has_state, next_state,
-    pair, state_count,
+    SIZE, accept_set, edge_at, edge_label, edge_scope, edges_end, edges_from, has, has_state,
+    next_state, pair, state_count,
 };
 
 // The first n states, as a set; all 16 from 16 on.
@@ -23,9 +22,10 @@ fn first_states(n: u64) -> u64
     if n < 16 { (1 << n) - 1 } else { ALL_STATES }
 }
 
-// The states from which a label may lead on.
-pub fn leading(block: &[u64]) -> u64
-    requires block { IsBlock block.now }
+// The states from which a label may lead on. (That the block's cells are within bounds is asked by
+// clauses, here and above, and kept by no type: the block is a plain array that is filled cell by
+// cell, and has bounds only once it is whole.)
+pub fn leading(block: &[u64; SIZE]) -> u64
     requires bounds { Bounds block.now }
     ensures leading { Leading block.now result }
 {
@@ -33,23 +33,20 @@ pub fn leading(block: &[u64]) -> u64
 }
 
 // The states in which stopping cuts the label at the scope.
-pub fn barred(block: &[u64], cutting: u64, s: u64, label: u64) -> u64
-    requires block { IsBlock block.now }
+pub fn barred(block: &[u64; SIZE], cutting: u64, s: u64, label: u64) -> u64
     requires scope { s < 64 }
     requires label { label < 8 }
     ensures cut { (q : ℕ) (t : Turned) → t.label ≡ label → has_state result q ≡ true → way_of block.now cutting s q t ≡ false }
 {
-    if has(cutting, s) {
-        if pair(block, 0, label + 1) {
-            return accept_set(block);
-        }
+    if has(cutting, s) && pair(block, 0, label + 1) {
+        accept_set(block)
+    } else {
+        0
     }
-    0
 }
 
 // Does the label lead from a state of `from` into the set?
-fn leads_into(block: &[u64], from: u64, set: u64, label: u64) -> bool
-    requires block { IsBlock block.now }
+fn leads_into(block: &[u64; SIZE], from: u64, set: u64, label: u64) -> bool
     requires label { label < 8 }
     ensures none { result ≡ false → (q : ℕ) → has_state from q ≡ true → has_state set (next_cell block.now q label) ≡ false }
 {
@@ -67,7 +64,7 @@ fn leads_into(block: &[u64], from: u64, set: u64, label: u64) -> bool
 // Does the table lack a place of the scope that the edge leads from? `full` are the states that
 // matter.
 fn edge_lacks(
-    block: &[u64],
+    block: &[u64; SIZE],
     cutting: u64,
     free: u64,
     full: u64,
@@ -75,7 +72,6 @@ fn edge_lacks(
     s: u64,
     x: u64,
 ) -> bool
-    requires block { IsBlock block.now }
     requires leading { Leading block.now full }
     requires table { 64 ≤ length table.now }
     requires scope { s < 64 }
@@ -83,10 +79,7 @@ fn edge_lacks(
 {
     let to = edge_scope(x);
     let set = table[to as usize];
-    if set == 0 {
-        return false;
-    }
-    if !has(free, to) {
+    if set == 0 || !has(free, to) {
         return false;
     }
     let label = edge_label(x);
@@ -95,8 +88,14 @@ fn edge_lacks(
 }
 
 // Does the table lack no place of the scope? It lacks none if it holds all states that matter.
-fn scope_closed(block: &[u64], cutting: u64, free: u64, full: u64, table: &[u64], s: u64) -> bool
-    requires block { IsBlock block.now }
+fn scope_closed(
+    block: &[u64; SIZE],
+    cutting: u64,
+    free: u64,
+    full: u64,
+    table: &[u64],
+    s: u64,
+) -> bool
     requires leading { Leading block.now full }
     requires table { 64 ≤ length table.now }
     requires scope { s < 64 }
@@ -107,19 +106,16 @@ fn scope_closed(block: &[u64], cutting: u64, free: u64, full: u64, table: &[u64]
         return true;
     }
     let end = edges_end(block, s);
-    let mut p = edges_from(block, s);
-    while p < end {
+    for p in edges_from(block, s)..end {
         if edge_lacks(block, cutting, free, full, table, s, edge_at(block, p)) {
             return false;
         }
-        p += 1;
     }
     true
 }
 
 // Does the table lack nothing that an edge leads from, of free scopes?
-pub fn is_closed(block: &[u64], cutting: u64, free: u64, full: u64, table: &[u64]) -> bool
-    requires block { IsBlock block.now }
+pub fn is_closed(block: &[u64; SIZE], cutting: u64, free: u64, full: u64, table: &[u64]) -> bool
     requires leading { Leading block.now full }
     requires table { 64 ≤ length table.now }
     ensures closed { result ≡ true → HopsClosed block.now (way_of block.now cutting) (has_scope free) (place_flag table.now) }

@@ -1,7 +1,6 @@
 // Which ends are cut at a node, and what is learnt of its ends on the way.
 ghost use Rattle.std.specs.Prelude.{◌≡◌, ℕ, ◌<◌, ◌≤◌, length};
 ghost use Rattle.scope_graph.specs.Order.{end_of};
-ghost use Rattle.block.specs.Layout.{IsBlock};
 ghost use Rattle.block.specs.Block.{Bounds, pair_flag};
 ghost use Rattle.block.specs.Sets.{has_bit, has_scope};
 ghost use Rattle.search.specs.Board.{cut_here};
@@ -11,12 +10,11 @@ ghost use Rattle.search.specs.Conditions.{Inside, LiveAt, Known, behind_end};
 use crate::exists::{Table, exists_from, is_goal};
 use crate::straight::straight;
 use crate::{Learnt, Node};
-use block::{BETTER, edges_from, has, single};
+use block::{BETTER, SIZE, edges_from, has, single};
 
 // Does what is sought lie at the end with number a: here, or behind a hop with its label? The
 // nearest way is tried first.
-fn end_leads(block: &[u64], goal: u64, live: &[u64], n: Node, a: u64) -> bool
-    requires block { IsBlock block.now }
+fn end_leads(block: &[u64; SIZE], goal: u64, live: &[u64], n: Node, a: u64) -> bool
     requires bounds { Bounds block.now }
     requires table { 64 ≤ length live.now }
     requires inside { Inside n }
@@ -43,8 +41,7 @@ fn end_leads(block: &[u64], goal: u64, live: &[u64], n: Node, a: u64) -> bool
 }
 
 // The ends that are preferred to the end with number c, as a set.
-fn better(block: &[u64], c: u64) -> u64
-    requires block { IsBlock block.now }
+fn better(block: &[u64; SIZE], c: u64) -> u64
     requires end { c < 9 }
     ensures answer { (a : ℕ) → has_bit result a ≡ pair_flag block.now a c }
 {
@@ -54,8 +51,7 @@ fn better(block: &[u64], c: u64) -> u64
 // Is the end with number c cut at the node, by its label alone? Only ends that are preferred to it
 // are asked about, and each once for all questions at the node: what was learnt is handed on. Of
 // which ends `known` tells more is left open: whatever it tells is so, and saves a later question.
-pub fn learn(block: &[u64], goal: u64, live: &[u64], n: Node, known: u64, c: u64) -> Learnt
-    requires block { IsBlock block.now }
+pub fn learn(block: &[u64; SIZE], goal: u64, live: &[u64], n: Node, known: u64, c: u64) -> Learnt
     requires bounds { Bounds block.now }
     requires table { 64 ≤ length live.now }
     requires inside { Inside n }
@@ -76,10 +72,8 @@ pub fn learn(block: &[u64], goal: u64, live: &[u64], n: Node, known: u64, c: u64
         return Learnt { known, cut: false };
     }
     let mut out = known;
-    let mut a: u64 = 0;
-    while a < 9 {
+    for a in 0..9 {
         if !has(ask, a) {
-            a += 1;
             continue;
         }
         if end_leads(block, goal, live, n, a) {
@@ -89,7 +83,6 @@ pub fn learn(block: &[u64], goal: u64, live: &[u64], n: Node, known: u64, c: u64
             };
         }
         out = out | single(16 + a);
-        a += 1;
     }
     Learnt {
         known: out,

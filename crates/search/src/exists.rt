@@ -1,7 +1,6 @@
 // Is what is sought at the end of a path that goes on from a node? Two functions that call each
 // other: one for a node, one for its hops.
 ghost use Rattle.std.specs.Prelude.{◌≡◌, suc, ◌<◌, ◌≤◌, length};
-ghost use Rattle.block.specs.Layout.{IsBlock};
 ghost use Rattle.block.specs.Block.{Bounds, accept_set, hops_on};
 ghost use Rattle.block.specs.Sets.{has_scope, places_of};
 ghost use Rattle.search.specs.Board.{exists_from};
@@ -12,18 +11,14 @@ ghost use Rattle.search.specs.Steps.{leads_by};
 use crate::hops::{entered, next_hop, worth};
 use crate::tables::live_table;
 use crate::{ALL_LABELS, Node};
-use block::{accept_set, edge_at, edges_end, edges_from, has, has_state};
+use block::{SIZE, accept_set, edge_at, edges_end, edges_from, has, has_state};
 
 // Is what is sought at the place?
-pub fn is_goal(block: &[u64], goal: u64, s: u64, q: u64) -> bool
-    requires block { IsBlock block.now }
+pub fn is_goal(block: &[u64; SIZE], goal: u64, s: u64, q: u64) -> bool
     requires scope { s < 64 }
     ensures answer { result ≡ places_of goal (accept_set block.now) s q }
 {
-    if !has(goal, s) {
-        return false;
-    }
-    has_state(accept_set(block), q)
+    has(goal, s) && has_state(accept_set(block), q)
 }
 
 // The table at hand: the one handed down, or one made anew for the scopes that are free at the
@@ -36,8 +31,7 @@ pub enum Table {
 
 // Is what is sought at the node itself or behind it?
 #[cycle(exists_at_exists_from)]
-pub(crate) fn exists_at(block: &[u64], goal: u64, live: &[u64], n: Node) -> bool
-    requires block { IsBlock block.now }
+pub(crate) fn exists_at(block: &[u64; SIZE], goal: u64, live: &[u64], n: Node) -> bool
     requires bounds { Bounds block.now }
     requires table { 64 ≤ length live.now }
     requires inside { Inside n }
@@ -63,7 +57,7 @@ pub(crate) fn exists_at(block: &[u64], goal: u64, live: &[u64], n: Node) -> bool
 // node.
 #[cycle(exists_at_exists_from)]
 pub fn exists_from(
-    block: &[u64],
+    block: &[u64; SIZE],
     goal: u64,
     live: &[u64],
     n: Node,
@@ -71,7 +65,6 @@ pub fn exists_from(
     made: Table,
     p: u64,
 ) -> bool
-    requires block { IsBlock block.now }
     requires bounds { Bounds block.now }
     requires table { 64 ≤ length live.now }
     requires inside { Inside n }
@@ -91,11 +84,8 @@ pub fn exists_from(
     if exists_at(block, goal, live, entered(n, x, r)) {
         return true;
     }
-    match made {
-        Table::Anew => {
-            return exists_from(block, goal, live, n, labels, Table::Anew, i + 1);
-        }
-        Table::Handed => {}
+    if let Table::Anew = made {
+        return exists_from(block, goal, live, n, labels, Table::Anew, i + 1);
     }
     let j = next_hop(block, live, n, labels, i + 1);
     if end <= j {

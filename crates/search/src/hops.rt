@@ -1,18 +1,16 @@
 // The hops of a node that are worth entering.
 ghost use Rattle.std.specs.Prelude.{◌≡◌, ◌<◌, ◌≤◌, length};
-ghost use Rattle.block.specs.Layout.{IsBlock};
 ghost use Rattle.block.specs.Block.{hop_of};
 ghost use Rattle.search.specs.Conditions.{Inside};
 ghost use Rattle.search.specs.Steps.{worth_state, next_hop, Entered};
 
 use crate::Node;
 use crate::places::place;
-use block::{edge_at, edge_label, edge_scope, edges_end, has, next_state, taken};
+use block::{SIZE, edge_at, edge_label, edge_scope, edges_end, has, next_state, taken};
 
 // The state after edge x's hop if its label is asked for and it is worth entering, else 16. Whether
 // the scope is free comes first, as the cheapest test.
-pub fn worth(block: &[u64], table: &[u64], n: Node, labels: u64, x: u64) -> u64
-    requires block { IsBlock block.now }
+pub fn worth(block: &[u64; SIZE], table: &[u64], n: Node, labels: u64, x: u64) -> u64
     requires table { 64 ≤ length table.now }
     requires inside { Inside n }
     ensures answer { result ≡ worth_state block.now table.now n.free n.state labels (hop_of x) }
@@ -31,21 +29,18 @@ pub fn worth(block: &[u64], table: &[u64], n: Node, labels: u64, x: u64) -> u64
 
 // The next edge, from number p on, of the node's scope whose hop is asked for and worth entering. If
 // there is none, the number behind the scope's last edge, or p if that is behind it already.
-pub fn next_hop(block: &[u64], table: &[u64], n: Node, labels: u64, p: u64) -> u64
-    requires block { IsBlock block.now }
+pub fn next_hop(block: &[u64; SIZE], table: &[u64], n: Node, labels: u64, p: u64) -> u64
     requires table { 64 ≤ length table.now }
     requires inside { Inside n }
     ensures answer { result ≡ next_hop block.now table.now n labels p }
 {
     let end = edges_end(block, n.scope);
-    let mut i = p;
-    while i < end {
+    for i in p..end {
         if worth(block, table, n, labels, edge_at(block, i)) < 16 {
             return i;
         }
-        i += 1;
     }
-    i
+    end.max(p)
 }
 
 // The node behind edge x's hop, in state r.

@@ -3,7 +3,6 @@
 ghost use Rattle.std.specs.Prelude.{◌≡◌, ◌&&◌, ◌≤◌, length};
 ghost use Rattle.scope_graph.specs.Language.{by};
 ghost use Rattle.scope_graph.specs.Turns.{later_step};
-ghost use Rattle.block.specs.Layout.{IsBlock};
 ghost use Rattle.block.specs.Block.{Bounds, edge_cell, hop_of, block_hops};
 ghost use Rattle.block.specs.Sets.{has_scope};
 ghost use Rattle.search.specs.Board.{hop_leads, cut_here};
@@ -15,11 +14,10 @@ use crate::ends::learn;
 use crate::exists::exists_at;
 use crate::hops::{entered, worth};
 use crate::{ALL_LABELS, Learnt, Node};
-use block::{edge_at, edge_label, edge_turn, edges_end, edges_from, is_later, most_turn};
+use block::{SIZE, edge_at, edge_label, edge_turn, edges_end, edges_from, is_later, most_turn};
 
 // Is edge number p later than edge x, and does its hop lead from the node to what is sought?
-fn later_edge(block: &[u64], goal: u64, live: &[u64], n: Node, x: u64, p: u64) -> bool
-    requires block { IsBlock block.now }
+fn later_edge(block: &[u64; SIZE], goal: u64, live: &[u64], n: Node, x: u64, p: u64) -> bool
     requires bounds { Bounds block.now }
     requires table { 64 ≤ length live.now }
     requires inside { Inside n }
@@ -41,8 +39,7 @@ fn later_edge(block: &[u64], goal: u64, live: &[u64], n: Node, x: u64, p: u64) -
 }
 
 // Does a hop of edge x's label and a higher turn lead from the node to what is sought?
-fn later_leads(block: &[u64], goal: u64, live: &[u64], n: Node, x: u64) -> bool
-    requires block { IsBlock block.now }
+fn later_leads(block: &[u64; SIZE], goal: u64, live: &[u64], n: Node, x: u64) -> bool
     requires bounds { Bounds block.now }
     requires table { 64 ≤ length live.now }
     requires inside { Inside n }
@@ -50,12 +47,10 @@ fn later_leads(block: &[u64], goal: u64, live: &[u64], n: Node, x: u64) -> bool
     ensures answer { result ≡ later_leads (table_board block.now goal) n (hop_of x).step (block_hops block.now n.scope) }
 {
     let end = edges_end(block, n.scope);
-    let mut p = edges_from(block, n.scope);
-    while p < end {
+    for p in edges_from(block, n.scope)..end {
         if later_edge(block, goal, live, n, x, p) {
             return true;
         }
-        p += 1;
     }
     false
 }
@@ -63,8 +58,7 @@ fn later_leads(block: &[u64], goal: u64, live: &[u64], n: Node, x: u64) -> bool
 // Is edge x's step cut at the node? What was learnt of its ends is handed on, as `learn` does. An
 // edge whose turn no other is above, as all are in a file without turns, is cut as its label is. Of
 // which ends `known` tells more is left open: whatever it tells is so, and saves a later question.
-pub fn edge_cut(block: &[u64], goal: u64, live: &[u64], n: Node, known: u64, x: u64) -> Learnt
-    requires block { IsBlock block.now }
+pub fn edge_cut(block: &[u64; SIZE], goal: u64, live: &[u64], n: Node, known: u64, x: u64) -> Learnt
     requires bounds { Bounds block.now }
     requires table { 64 ≤ length live.now }
     requires inside { Inside n }

@@ -22,7 +22,9 @@ pub use places::place;
 pub use tables::{away_table, goal_table, live_table};
 
 // Where a walk stands: the scopes that are not on its path, how many hops it may still enter, and
-// the scope and state that it has come to.
+// the scope and state that it has come to. (That these are within the tables is asked by clauses, as
+// `Inside n`, and is no ghost field: with one `entered`, which takes any state, would ask for more
+// than it does.)
 #[derive(Clone, Copy)]
 pub struct Node {
     pub free: u64,

@@ -1,10 +1,9 @@
 // How far what is sought is from each place: hints, so promised is only that memory keeps its size.
 ghost use Rattle.std.specs.Prelude.{◌≤◌, ◌<◌, length};
-ghost use Rattle.block.specs.Layout.{IsBlock};
 
 use crate::grow::{Way, first_edge, hinted, seed};
 use crate::scan::{least_of, rest_of};
-use block::{BACK, BEFORE, back_label, back_scope, single};
+use block::{BACK, BEFORE, SIZE, back_label, back_scope, single};
 
 // A graph with so many edges is dense: distances are counted there, and the nearest way is tried.
 // With fewer that takes more than it saves, and a table is grown within what the start reaches.
@@ -62,8 +61,7 @@ fn note_layer(out: &mut [u64], layer: &[u64], hot: u64, d: u64)
 
 // The places of an edge's scope from which it leads into the set, if they are new, among those held
 // and in the next layer; answers the scope if there are some.
-fn layer_edge(block: &[u64], held: &mut [u64], next: &mut [u64], set: u64, p: u64) -> u64
-    requires block { IsBlock block.now }
+fn layer_edge(block: &[u64; SIZE], held: &mut [u64], next: &mut [u64], set: u64, p: u64) -> u64
     requires held { 64 ≤ length held.old }
     requires next { 64 ≤ length next.old }
 {
@@ -80,25 +78,27 @@ fn layer_edge(block: &[u64], held: &mut [u64], next: &mut [u64], set: u64, p: u6
 }
 
 // The same of each edge that leads to scope t; the scopes that got places.
-fn layer_into(block: &[u64], held: &mut [u64], next: &mut [u64], set: u64, t: u64) -> u64
-    requires block { IsBlock block.now }
+fn layer_into(block: &[u64; SIZE], held: &mut [u64], next: &mut [u64], set: u64, t: u64) -> u64
     requires held { 64 ≤ length held.old }
     requires next { 64 ≤ length next.old }
     requires scope { t < 64 }
 {
     let end = first_edge(block, Way::Back, t + 1);
-    let mut p = first_edge(block, Way::Back, t);
     let mut new: u64 = 0;
-    while p < end {
+    for p in first_edge(block, Way::Back, t)..end {
         new = new | layer_edge(block, held, next, set, p);
-        p += 1;
     }
     new
 }
 
 // The next layer, from the scopes of `hot` in this one.
-fn layer_before(block: &[u64], held: &mut [u64], layer: &[u64], hot: u64, next: &mut [u64]) -> u64
-    requires block { IsBlock block.now }
+fn layer_before(
+    block: &[u64; SIZE],
+    held: &mut [u64],
+    layer: &[u64],
+    hot: u64,
+    next: &mut [u64],
+) -> u64
     requires held { 64 ≤ length held.old }
     requires layer { 64 ≤ length layer.now }
     requires next { 64 ≤ length next.old }
@@ -115,15 +115,13 @@ fn layer_before(block: &[u64], held: &mut [u64], layer: &[u64], hot: u64, next: 
 
 // How far a place of `scopes` and `states` is from each place, layer by layer, behind the table's
 // 64 sets; 0 where that is not found out.
-pub(crate) fn put_distances(block: &[u64], scopes: u64, states: u64, out: &mut [u64])
-    requires block { IsBlock block.now }
+pub(crate) fn put_distances(block: &[u64; SIZE], scopes: u64, states: u64, out: &mut [u64])
     requires size { 192 ≤ length out.old }
 {
     let mut layer = [0u64; 64];
     let mut hot = seed(&mut layer, scopes, states);
     let mut held = layer;
-    let mut d: u64 = 1;
-    while d < 256 {
+    for d in 1..256 {
         note_layer(out, &layer, hot, d);
         let mut next = [0u64; 64];
         hot = layer_before(block, &mut held, &layer, hot, &mut next);
@@ -131,6 +129,5 @@ pub(crate) fn put_distances(block: &[u64], scopes: u64, states: u64, out: &mut [
             return;
         }
         layer = next;
-        d += 1;
     }
 }

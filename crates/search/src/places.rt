@@ -9,7 +9,8 @@ use block::{has_state, single};
 // All 16 states, as a set.
 pub const ALL_STATES: u64 = 65535;
 
-// Is the place in the table?
+// Is the place in the table? (A slice, here and wherever a table is asked, since tables of 64, 192
+// and the ask's 197 cells are asked alike.)
 pub fn place(t: &[u64], s: u64, q: u64) -> bool
     requires table { 64 ≤ length t.now }
     requires scope { s < 64 }
@@ -18,17 +19,12 @@ pub fn place(t: &[u64], s: u64, q: u64) -> bool
     has_state(t[s as usize], q)
 }
 
-// The table of all places; and with distances behind it, where each is as far as can be noted.
-pub fn all_places() -> [u64; 64]
-    ensures answer { result ≡ replicate 64 65535 }
+// The table of all places: 64 sets, and where distances stand behind them, each as far as can be
+// noted.
+pub fn all_places<const CELLS: usize>() -> [u64; CELLS]
+    ensures answer { result ≡ replicate CELLS 65535 }
 {
-    [ALL_STATES; 64]
-}
-
-pub fn all_places_far() -> [u64; 192]
-    ensures answer { result ≡ replicate 192 65535 }
-{
-    [ALL_STATES; 192]
+    [ALL_STATES; CELLS]
 }
 
 // The table with the states at the scope too; answers the set of the scope if it had not all of

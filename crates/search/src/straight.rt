@@ -1,7 +1,6 @@
 // The way from place to nearest place. In a dense graph most searches end on it, where going
 // through the paths would try many in vain.
 ghost use Rattle.std.specs.Prelude.{◌≡◌, true, suc, ◌<◌, ◌≤◌, length};
-ghost use Rattle.block.specs.Layout.{IsBlock};
 ghost use Rattle.block.specs.Block.{first_edge, hop_of, block_hops};
 ghost use Rattle.search.specs.Tables.{table_board};
 ghost use Rattle.search.specs.Conditions.{Inside};
@@ -11,7 +10,7 @@ use crate::exists::is_goal;
 use crate::hops::{entered, worth};
 use crate::near::DENSE;
 use crate::{ALL_LABELS, Node};
-use block::{EDGES, edge_at, edge_scope, edges_end, edges_from};
+use block::{EDGES, SIZE, edge_at, edge_scope, edges_end, edges_from};
 
 // How far what is sought is from the place, by what is noted behind a table's sets; 256 where
 // nothing is noted: a table made anew has no distances.
@@ -26,8 +25,7 @@ fn distance(live: &[u64], s: u64, q: u64) -> u64 {
 
 // The distance of the place that edge x's hop comes to, if it is asked for and worth entering; else
 // 256.
-fn hop_distance(block: &[u64], live: &[u64], n: Node, labels: u64, x: u64) -> u64
-    requires block { IsBlock block.now }
+fn hop_distance(block: &[u64; SIZE], live: &[u64], n: Node, labels: u64, x: u64) -> u64
     requires table { 64 ≤ length live.now }
     requires inside { Inside n }
     ensures worth { result < 256 → worth_state block.now live.now n.free n.state labels (hop_of x) < 16 }
@@ -41,8 +39,7 @@ fn hop_distance(block: &[u64], live: &[u64], n: Node, labels: u64, x: u64) -> u6
 
 // The node's edge whose hop, of those asked for, comes to the nearest place; past its edges if none
 // comes to a place with a distance.
-fn nearest(block: &[u64], live: &[u64], n: Node, labels: u64) -> u64
-    requires block { IsBlock block.now }
+fn nearest(block: &[u64; SIZE], live: &[u64], n: Node, labels: u64) -> u64
     requires table { 64 ≤ length live.now }
     requires inside { Inside n }
     ensures hop { result < first_edge block.now (suc n.scope) → HopAt block.now live.now n labels result }
@@ -50,24 +47,20 @@ fn nearest(block: &[u64], live: &[u64], n: Node, labels: u64) -> u64
     let end = edges_end(block, n.scope);
     let mut best = end;
     let mut least: u64 = 256;
-    let mut p = edges_from(block, n.scope);
-    while p < end {
-        let here = p;
-        let d = hop_distance(block, live, n, labels, edge_at(block, here));
-        p = here + 1;
+    for p in edges_from(block, n.scope)..end {
+        let d = hop_distance(block, live, n, labels, edge_at(block, p));
         if least <= d {
             continue;
         }
         least = d;
-        best = here;
+        best = p;
     }
     best
 }
 
 // Does the way that goes on from place to nearest place, by a hop that is asked for, come to what
 // is sought? If so it is there; if not, nothing is known.
-pub fn straight(block: &[u64], goal: u64, live: &[u64], n: Node, labels: u64) -> bool
-    requires block { IsBlock block.now }
+pub fn straight(block: &[u64; SIZE], goal: u64, live: &[u64], n: Node, labels: u64) -> bool
     requires table { 64 ≤ length live.now }
     requires inside { Inside n }
     ensures leads { result ≡ true → leads_by (table_board block.now goal) n labels (block_hops block.now n.scope) ≡ true }

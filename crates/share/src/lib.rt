@@ -4,8 +4,10 @@
 ghost use Rattle.std.specs.Prelude.{◌≡◌, ◌<◌};
 ghost use Rattle.share.specs.Share.{share};
 
-// Rounds to the nearest per cent; of two that are equally near, to the even one (02, K1). It compares
-// twice the remainder with n, so no half is ever needed.
+use std::cmp::Ordering;
+
+// Rounds to the nearest per cent; of two that are equally near, to the even one (02, K1). It
+// compares twice the remainder with n, so no half is ever needed.
 pub fn share_of(one: u64, n: u64) -> u64
     requires few { one < 1000 }
     requires some { 0 < n }
@@ -13,13 +15,9 @@ pub fn share_of(one: u64, n: u64) -> u64
 {
     let parts = one * 100;
     let whole = parts / n;
-    let twice = 2 * (parts % n);
-    let odd = whole % 2;
-    if n < twice {
-        return whole + 1;
+    match (2 * (parts % n)).cmp(&n) {
+        Ordering::Less => whole,
+        Ordering::Equal => whole + whole % 2,
+        Ordering::Greater => whole + 1,
     }
-    if twice == n {
-        return whole + odd;
-    }
-    whole
 }

@@ -15,10 +15,8 @@ use Rattle.scope_graph.specs.Language.{◌∈◌}
 use Rattle.scope_graph.specs.Rows.{language}
 use Rattle.scope_graph.specs.Readers.{readers}
 use Rattle.scope_graph.proofs.Lists.{here, there}
-use Rattle.text_field.specs.declared.NumberRead.{NumberRead}
-use Rattle.text_field.specs.declared.NumberRead.TheVariants.{Number, NoNumber}
-use Rattle.text_field.specs.declared.NameRead.{NameRead}
-use Rattle.text_field.specs.declared.NameRead.TheVariants.{Name, NoName}
+use Rattle.std.specs.declared.option.Option.{Option}
+use Rattle.std.specs.declared.option.Option.TheVariants.{Some, None}
 use Rattle.text_field.specs.Bytes.{is_capital}
 use Rattle.text_field.specs.Number.{number_here, number_placed, number_meaning}
 use Rattle.text_field.specs.Name.{name_here, name_meaning}
@@ -68,15 +66,15 @@ two : {A : Type 0} → Listed {A = A} (refused 2)
 two = listed 2 (omega arith) (omega arith)
 
 -- a line
-number_listed : (x : NumberRead) (t : List ℕ) → Listed (number_taken x t)
+number_listed : (x : Option (ℕ × ℕ)) (t : List ℕ) → Listed (number_taken x t)
 unfolding number_taken number_meaning and_then
-number_listed (Number v w) t = carried _
-number_listed NoNumber t = two
+number_listed (Some (v, w)) t = carried _
+number_listed None t = two
 
-name_listed : (x : NameRead) (t : List ℕ) → Listed (name_taken x t)
+name_listed : (x : Option (ℕ × ℕ × ℕ)) (t : List ℕ) → Listed (name_taken x t)
 unfolding name_taken name_meaning and_then
-name_listed (Name h l w) t = carried _
-name_listed NoName t = two
+name_listed (Some (h, l, w)) t = carried _
+name_listed None t = two
 
 byte_listed : (b : Bool) (v : ℕ) (t : List ℕ) → Listed (byte_taken b v t)
 unfolding byte_taken
@@ -321,15 +319,15 @@ undot_listed text drawing room =
     (λ out. as_others _ (if_listed _ 9 _ (omega arith) (omega arith) (carried (length out))))
 
 -- path rows
-start_listed : (m before : ℕ) (r : NumberRead) → Listed (start_by m before r)
+start_listed : (m before : ℕ) (r : Option (ℕ × ℕ)) → Listed (start_by m before r)
 unfolding start_by number_meaning number_placed and_then
-start_listed m before (Number v width) = carried _
-start_listed m before NoNumber = listed 8 (omega arith) (omega arith)
+start_listed m before (Some (v, width)) = carried _
+start_listed m before None = listed 8 (omega arith) (omega arith)
 
-mark_listed : (r : NumberRead) (s : List ℕ) → Listed (mark_by r s)
+mark_listed : (r : Option (ℕ × ℕ)) (s : List ℕ) → Listed (mark_by r s)
 unfolding mark_by space_by number_meaning and_then
-mark_listed NoNumber s = listed 8 (omega arith) (omega arith)
-mark_listed (Number m width) s = by_space (starts_with 32 (drop width s))
+mark_listed None s = listed 8 (omega arith) (omega arith)
+mark_listed (Some (m, width)) s = by_space (starts_with 32 (drop width s))
   where
     by_space : (t : Bool) → Listed {A = Front} (elim t as (λ _. Outcome Front) [ true ↦ start_by m (width + 1) (number_up_to most_scope (drop (width + 1) s)) | false ↦ refused 8 ])
     by_space true = start_listed m (width + 1) (number_up_to most_scope (drop (width + 1) s))

@@ -8,8 +8,7 @@ ghost use Rattle.tewhoranu.specs.Numbers.{case_number, steps_number, written, co
 
 use comparison::Compared;
 use judge::Judged;
-use renumbering::Numbered;
-use text_field::Answer;
+use text_field::Refusal;
 
 // The first number that is no refusal. It is also how far apart two cases are, so that the steps of
 // a path, 63 at most, have room behind each.
@@ -19,13 +18,13 @@ const ANSWERS: u64 = 64;
 const NO_STEPS: usize = 0;
 
 // A refusal by its number, what was written by how much it is.
-pub fn written_number(a: Answer) -> u64
+pub fn written_number(a: Result<usize, Refusal>) -> u64
     requires sized { Sized (answer_of a) }
     ensures answer { result ≡ written (answer_of a) }
 {
     match a {
-        Answer::Refused(n) => n,
-        Answer::Written(n) => ANSWERS + n as u64,
+        Ok(n) => ANSWERS + n as u64,
+        Err(refusal) => refusal.number(),
     }
 }
 
@@ -38,35 +37,35 @@ fn case_number(case: u64, steps: usize) -> u64
 }
 
 // A comparison by its number.
-pub fn compared_number(c: Compared) -> u64
+pub fn compared_number(c: Result<Compared, Refusal>) -> u64
     ensures answer { result ≡ compared (meaning c) }
 {
     match c {
-        Compared::First(n) => case_number(0, n),
-        Compared::Second(n) => case_number(1, n),
-        Compared::Neither(n) => case_number(2, n),
-        Compared::Refused(n) => n,
+        Ok(Compared::First(n)) => case_number(0, n),
+        Ok(Compared::Second(n)) => case_number(1, n),
+        Ok(Compared::Neither(n)) => case_number(2, n),
+        Err(refusal) => refusal.number(),
     }
 }
 
 // A standing by its number.
-pub fn judged_number(j: Judged) -> u64
+pub fn judged_number(j: Result<Judged, Refusal>) -> u64
     ensures answer { result ≡ judged (standing j) }
 {
     match j {
-        Judged::Visible => case_number(0, NO_STEPS),
-        Judged::Shadowed(n) => case_number(1, n),
-        Judged::Unreached => case_number(2, NO_STEPS),
-        Judged::Refused(n) => n,
+        Ok(Judged::Visible) => case_number(0, NO_STEPS),
+        Ok(Judged::Shadowed(n)) => case_number(1, n),
+        Ok(Judged::Unreached) => case_number(2, NO_STEPS),
+        Err(refusal) => refusal.number(),
     }
 }
 
 // How many bytes the list has; after a refusal the number that was held there.
-pub fn list_bytes(a: Numbered, held: u64) -> u64
+pub fn list_bytes(a: Result<(usize, usize), Refusal>, held: u64) -> u64
     ensures answer { result ≡ listed_left (numbered_of a) held }
 {
     match a {
-        Numbered::Refused(_) => held,
-        Numbered::Written(_, list) => list as u64,
+        Ok((_, list)) => list as u64,
+        Err(_) => held,
     }
 }

@@ -6,10 +6,24 @@ use native.Mathlib.Omega.{arith}
 use native.Mathlib.Nat.{zero-add}
 use borrow.Author.Tests.{lt-ltb, le-ltb}
 use lib.ListN.{length}
+use Rattle.std.specs.declared.result.Result.{Result}
+use Rattle.std.specs.declared.result.Result.TheVariants.{Ok, Err}
 use Rattle.text_field.specs.Buffer.{Buf, puts}
 use Rattle.text_field.specs.Outcome.{Outcome, refused, done, and_then, refuse_if}
-use Rattle.text_field.specs.Answer.{answer, written, leaves}
+use Rattle.text_field.specs.declared.refusal.Refusal.{Refusal}
+use Rattle.text_field.specs.Refusal.{number_of}
+use Rattle.text_field.specs.Answer.{answer_of, answer, written, leaves}
 use Rattle.text_field.proofs.BufferLaws.{puts_fits}
+
+-- what a result says, once its variant is known
+module _ {A : Type 0} (x : Result A Refusal) where
+  pub answer_ok : (a : A) → x ≡ Ok a → answer_of x ≡ done a
+  unfolding answer_of
+  answer_ok a e = ap answer_of e
+
+  pub answer_err : (r : Refusal) → x ≡ Err r → answer_of x ≡ refused (number_of r)
+  unfolding answer_of
+  answer_err r e = ap answer_of e
 
 -- a refusal
 pub answer_refused : (o : Outcome (List ℕ)) (n room : ℕ) → o ≡ refused n → refused n ≡ answer o room

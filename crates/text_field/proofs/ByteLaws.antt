@@ -73,12 +73,6 @@ get_d_any (x ∷ s) (suc i) d e h = get_d_any s i d e (omega arith)
 
 -- a joined test, as code goes through it: r is what the first test gave, x what the second gives
 module _ (r a b x : Bool) (e : r ≡ a) where
-  pub or_first : r ≡ true → r ≡ (a || b)
-  or_first h = h ∙ rw (sym e ∙ h)
-
-  pub or_second : r ≡ false → x ≡ b → x ≡ (a || b)
-  or_second h f = f ∙ rw (sym e ∙ h)
-
   pub and_first : r ≡ false → r ≡ (a && b)
   and_first h = h ∙ rw (sym e ∙ h)
 

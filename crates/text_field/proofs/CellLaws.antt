@@ -2,14 +2,17 @@
 use mathlib.Core.Path.{◌≡◌, refl, sym, ap, ◌∙◌}
 use mathlib.Core.Bool.{Bool, true, false}
 use mathlib.Core.List.{List, [], ◌∷◌, ◌++◌, append_assoc}
-use Prim.Native.Nat.{ℕ, zero, suc, ◌+◌, ◌*◌, ◌/◌, ◌%◌, ◌^◌, ◌≤◌, ◌<◌}
+use Prim.Native.Nat.{ℕ, min, zero, suc, ◌+◌, ◌*◌, ◌/◌, ◌%◌, ◌^◌, ◌≤◌, ◌<◌}
 use native.Mathlib.Nat.{pow-suc, mul_assoc, mod-lt, div-add-mod'}
 use native.Mathlib.Omega.{arith}
 use lib.Arith.{digits_lt, digits_div, digits_mod}
 use lib.Dec.{ltb, eqb}
-use lib.ListN.{length, get_or, drop, length-append, drop_of_length-le, get_or-eq_default}
+use lib.ListN.{length, get_or, take, drop, replicate, get_or-replicate, length-append, drop_of_length-le, get_or-eq_default}
 use lib.Seq.{drop-cons}
+use Rattle.std.proofs.lemmas.List.{places}
+use borrow.Rule.Slice.PartMut.{put_mid}
 use borrow.Author.Tests.{ltb-true, ltb-false}
+use Rattle.std.specs.Int.{from_be_bytes, w64}
 use Rattle.text_field.specs.Name.{packed, bytes_of, before_zero, name_text}
 use Rattle.text_field.proofs.NameLaws.{pow_some, packed_nil, before_on}
 
@@ -102,12 +105,23 @@ name_step high low h g = moved 7 high low (omega arith) (omega arith)
 pub moved_fits : (x y : ℕ) → y < 18446744073709551616 → x % 72057594037927936 * 256 + y / 72057594037927936 < 18446744073709551616
 moved_fits x y h = digits_lt {q = x % 72057594037927936} {m = 72057594037927936} {c = 256} (mod-lt x (omega arith)) (omega arith)
 
--- eight bytes of a list, read one by one
-pub packed_eight : (s : List ℕ) (i p a b c d e f g h : ℕ)
-    → p ≡ packed 8 (a ∷ b ∷ c ∷ d ∷ e ∷ f ∷ g ∷ h ∷ [])
-    → (a ∷ b ∷ c ∷ d ∷ e ∷ f ∷ g ∷ h ∷ []) ≡ bytes_from s i 8
-    → p ≡ packed 8 (drop i s)
-packed_eight s i p a b c d e f g h r k = r ∙ ap (packed 8) k ∙ packed_from 8 s i
+-- eight bytes as a number, big end first
+pub packed_eight : (s : List ℕ) → from_be_bytes w64 s ≡ packed 8 s
+unfolding packed bytes_from
+packed_eight s = let e : from_be_bytes w64 s ≡ packed 8 (bytes_from s 0 8) = omega arith in e ∙ packed_from 8 s 0
+
+-- elements alike, 0 past the end, pack alike
+pub packed_alike : (k : ℕ) (s t : List ℕ) → ((i : ℕ) → i < k → get_or s i 0 ≡ get_or t i 0) → packed k s ≡ packed k t
+unfolding bytes_from
+packed_alike k s t h = sym (packed_from k s 0) ∙ ap (packed k) (alike k 0 (λ i l. h i (omega arith))) ∙ packed_from k t 0
+  where
+    alike : (n i : ℕ) → ((j : ℕ) → j < i + n → get_or s j 0 ≡ get_or t j 0) → bytes_from s i n ≡ bytes_from t i n
+    alike zero i g = refl
+    alike (suc n) i g = let e = g i (omega arith) in rw (e, alike n (suc i) (λ j l. g j (omega arith)))
+
+-- the first w elements of a list, put over eight zeros, are the list's, 0 past its end
+pub padded : (s front : List ℕ) (w : ℕ) → w ≡ min (length s) 8 → front ≡ take w s → (i : ℕ) → i < 8 → get_or (put_mid 0 w (replicate 8 0) front) i 0 ≡ get_or s i 0
+padded s front w m e i l = rw e (grind (arith, places, get_or-replicate, get_or-eq_default))
 
 -- one turn of writing two cells: b is written, the cells are moved up, and one byte less is left
 pub record NameTurn (h l b h' l' : ℕ) : Type 0 where

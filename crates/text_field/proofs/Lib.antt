@@ -3,6 +3,7 @@ pub mod Examples
 pub mod ByteLaws
 pub mod BufferLaws
 pub mod OutcomeLaws
+pub mod RefusalLaws
 pub mod AnswerLaws
 pub mod MeaningLaws
 pub mod NumberLaws
@@ -12,3 +13,4 @@ pub mod OrderLaws
 pub mod CellLaws
 pub mod Steps
 pub mod Spelled
+pub mod WritingLaws

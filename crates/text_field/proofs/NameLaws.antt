@@ -13,8 +13,22 @@ use lib.Seq.{take_at, drop_at}
 use borrow.Author.Tests.{le-leb, leb-true, ne_eqb, eq-eqb, eqb-true}
 use Rattle.text_field.specs.Bytes.{is_lower, is_name_byte}
 use Rattle.text_field.specs.Name.{all_name_bytes, is_name, packed, pack_high, pack_low, bytes_of, before_zero, name_text, is_name_cells, name_run, name_of, name_here}
-use Rattle.text_field.specs.declared.NameRead.TheVariants.{Name, NoName}
+use Rattle.std.specs.List.{prefix_len}
+use Rattle.std.proofs.lemmas.Option.{same_Some}
+use Rattle.std.specs.declared.option.Option.{Option}
 use Rattle.text_field.proofs.ByteLaws.{both, clash, lower_name_byte, name_byte_bounds}
+use Rattle.std.specs.declared.option.Option.TheVariants.{Some, None}
+
+-- the parts of a name that is read
+pub record NameParts (h l n h' l' n' : ℕ) : Type 0 where
+  pub high : h ≡ h'
+  pub low : l ≡ l'
+  pub next : n ≡ n'
+
+pub name_parts : (h l n h' l' n' : ℕ) → ◌≡◌ {A = Option (ℕ × ℕ × ℕ)} (Some (h, l, n)) (Some (h', l', n')) → NameParts h l n h' l' n'
+name_parts h l n h' l' n' e =
+    let p = same_Some (h, l, n) (h', l', n') e
+    in record { high = ap (λ (z : ℕ × ℕ × ℕ). z.0) p; low = ap (λ (z : ℕ × ℕ × ℕ). z.1) p; next = ap (λ (z : ℕ × ℕ × ℕ). z.2) p }
 
 pub pow_some : (k : ℕ) → 0 < 256 ^ k
 pow_some k = one-le-pow k 256 (omega arith)
@@ -160,7 +174,7 @@ pub here_on : (x : ℕ) (s : List ℕ) → is_lower x ≡ true → name_here (x 
 unfolding name_here
 here_on x s h = rw (h, name_here)
 
-pub here_off : (x : ℕ) (s : List ℕ) → is_lower x ≡ false → name_here (x ∷ s) ≡ NoName
+pub here_off : (x : ℕ) (s : List ℕ) → is_lower x ≡ false → name_here (x ∷ s) ≡ None
 unfolding name_here
 here_off x s h = rw (h, name_here)
 
@@ -173,8 +187,19 @@ name_whole (x ∷ s) rest h g =
     in let q = both (all_name_bytes s) (leb (length s) 15) p.1
     in here_on x (s ++ rest) p.0 ∙ ap (λ (z : List ℕ). name_of (x ∷ z)) (run_whole 15 s rest q.0 (leb-true (length s) 15 q.1) g)
 
+-- how far a run goes
+pub run_length : (k : ℕ) (s : List ℕ) → prefix_len is_name_byte (take k s) ≡ length (name_run k s)
+unfolding name_run
+run_length zero s = refl
+run_length (suc k) [] = refl
+run_length (suc k) (x ∷ s) = by (is_name_byte x) refl (run_length k s)
+  where
+    by : (t : Bool) → is_name_byte x ≡ t → prefix_len is_name_byte (take k s) ≡ length (name_run k s) → prefix_len is_name_byte (x ∷ take k s) ≡ length (name_run (suc k) (x ∷ s))
+    by true t e = rw (t, run_on k x s t) (omega (arith, e))
+    by false t e = rw (t, run_off k x s t)
+
 -- the cells of a name are read back from what they spell, where no name byte follows
-pub name_back : (high low : ℕ) (rest : List ℕ) → is_name_cells high low ≡ true → is_name_byte (get_or rest 0 0) ≡ false → name_here (name_text high low ++ rest) ≡ Name high low (length (name_text high low))
+pub name_back : (high low : ℕ) (rest : List ℕ) → is_name_cells high low ≡ true → is_name_byte (get_or rest 0 0) ≡ false → name_here (name_text high low ++ rest) ≡ Some (high, low, length (name_text high low))
 unfolding name_of
 name_back high low rest h g =
     let f = cells_name high low h
@@ -190,12 +215,13 @@ pub record NameStands (s : List ℕ) (high low w : ℕ) : Type 0 where
   pub some : 1 ≤ w
   pub most : w ≤ 16
 
-stands : (s t rest : List ℕ) (high low w : ℕ) → is_name t ≡ true → s ≡ t ++ rest → name_of t ≡ Name high low w → NameStands s high low w
+stands : (s t rest : List ℕ) (high low w : ℕ) → is_name t ≡ true → s ≡ t ++ rest → name_of t ≡ Some (high, low, w) → NameStands s high low w
 unfolding name_of
 stands s t rest high low w h e o =
-    let p : pack_high t ≡ high = cc
-    in let q : pack_low t ≡ low = cc
-    in let n : length t ≡ w = cc
+    let a = name_parts _ _ _ _ _ _ o
+    in let p = a.high
+    in let q = a.low
+    in let n = a.next
     in let f = name_form t h
     in let u : t ≡ name_text high low = sym (name_spelled t h) ∙ rw (p, q)
     in let d : drop w s ≡ rest = rw e (drop_at t rest w n)
@@ -209,7 +235,7 @@ stands s t rest high low w h e o =
       most = omega (arith, f.most, n);
     }
 
-pub name_found : (s : List ℕ) (high low w : ℕ) → name_here s ≡ Name high low w → NameStands s high low w
+pub name_found : (s : List ℕ) (high low w : ℕ) → name_here s ≡ Some (high, low, w) → NameStands s high low w
 unfolding name_here is_name
 name_found [] high low w e = absurd (let z : ◌≡◌ {A = ℕ} 0 1 = cc in omega arith)
 name_found (x ∷ s) high low w e = by (is_lower x) refl

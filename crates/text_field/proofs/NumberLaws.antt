@@ -12,8 +12,9 @@ use lib.Seq.{take_at, drop_at}
 use borrow.Author.Tests.{lt-ltb, le-ltb, ltb-true, ltb-false, le-leb, ne_eqb, leb-true, eqb-false, not-true}
 use Rattle.text_field.specs.Bytes.{is_digit}
 use Rattle.text_field.specs.Number.{digits_of, number_text, growing, digits_from, number_here, number_placed}
-use Rattle.text_field.specs.declared.NumberRead.TheVariants.{Number, NoNumber}
+use Rattle.std.proofs.lemmas.Option.{some_pair_parts}
 use Rattle.text_field.proofs.ByteLaws.{both, digit_bounds, digit_in}
+use Rattle.std.specs.declared.option.Option.TheVariants.{Some, None}
 
 digits_short : (k v : ℕ) → v < 10 → digits_of k v ≡ (48 + v) ∷ []
 unfolding digits_of
@@ -56,7 +57,7 @@ pub more_on : (v w x : ℕ) (rest : List ℕ) → (is_digit x && growing v) ≡ 
 unfolding digits_from
 more_on v w x rest h = rw (h, digits_from)
 
-pub more_off : (v w x : ℕ) (rest : List ℕ) → (is_digit x && growing v) ≡ false → digits_from v w (x ∷ rest) ≡ Number v w
+pub more_off : (v w x : ℕ) (rest : List ℕ) → (is_digit x && growing v) ≡ false → digits_from v w (x ∷ rest) ≡ Some (v, w)
 unfolding digits_from
 more_off v w x rest h = rw (h, digits_from)
 
@@ -76,7 +77,7 @@ pub first_on : (x : ℕ) (rest : List ℕ) → is_digit x ≡ true → number_he
 unfolding number_here
 first_on x rest h = rw (h, number_here)
 
-pub first_off : (x : ℕ) (rest : List ℕ) → is_digit x ≡ false → number_here (x ∷ rest) ≡ NoNumber
+pub first_off : (x : ℕ) (rest : List ℕ) → is_digit x ≡ false → number_here (x ∷ rest) ≡ None
 unfolding number_here
 first_off x rest h = rw (h, number_here)
 
@@ -111,11 +112,11 @@ read_digits (suc k) v rest h m = by (ltb v 10) refl (read_digits k (v / 10) ((48
         ∙ rw (n, ← length_long v g)
 
 -- v is read back, where no digit follows
-pub number_back : (v : ℕ) (rest : List ℕ) → v ≤ 99999 → is_digit (get_or rest 0 0) ≡ false → number_here (number_text v ++ rest) ≡ Number v (length (number_text v))
+pub number_back : (v : ℕ) (rest : List ℕ) → v ≤ 99999 → is_digit (get_or rest 0 0) ≡ false → number_here (number_text v ++ rest) ≡ Some (v, length (number_text v))
 unfolding digits_from
 number_back v rest m h = read_digits v v rest (omega arith) m ∙ stop rest h
   where
-    stop : (s : List ℕ) → is_digit (get_or s 0 0) ≡ false → digits_from v (length (number_text v)) s ≡ Number v (length (number_text v))
+    stop : (s : List ℕ) → is_digit (get_or s 0 0) ≡ false → digits_from v (length (number_text v)) s ≡ Some (v, length (number_text v))
     stop [] k = refl
     stop (x ∷ s) k = more_off v (length (number_text v)) x s (rw k)
 
@@ -143,15 +144,16 @@ record Digits (whole : List ℕ) (v w : ℕ) : Type 0 where
   small : v ≤ 99999
   width : w ≡ length (number_text v)
 
-found : (s : List ℕ) (v w v' w' : ℕ) → v ≤ 99999 → w ≡ length (number_text v) → digits_from v w s ≡ Number v' w' → Digits (number_text v ++ s) v' w'
+found : (s : List ℕ) (v w v' w' : ℕ) → v ≤ 99999 → w ≡ length (number_text v) → digits_from v w s ≡ Some (v', w') → Digits (number_text v ++ s) v' w'
 unfolding digits_from
 found [] v w v' w' m l e =
-    let p : v ≡ v' = cc
-    in let q : w ≡ w' = cc
+    let o = some_pair_parts v v' w w' e
+    in let p = o.0
+    in let q = o.1
     in record { rest = []; text = ap (λ (n : ℕ). number_text n ++ []) p; small = rw p at m; width = sym q ∙ l ∙ ap (λ (n : ℕ). length (number_text n)) p }
 found (x ∷ s) v w v' w' m l e = by (is_digit x && growing v) refl (found s (v * 10 + (x - 48)) (w + 1) v' w')
   where
-    by : (t : Bool) → (is_digit x && growing v) ≡ t → (v * 10 + (x - 48) ≤ 99999 → w + 1 ≡ length (number_text (v * 10 + (x - 48))) → digits_from (v * 10 + (x - 48)) (w + 1) s ≡ Number v' w' → Digits (number_text (v * 10 + (x - 48)) ++ s) v' w') → Digits (number_text v ++ (x ∷ s)) v' w'
+    by : (t : Bool) → (is_digit x && growing v) ≡ t → (v * 10 + (x - 48) ≤ 99999 → w + 1 ≡ length (number_text (v * 10 + (x - 48))) → digits_from (v * 10 + (x - 48)) (w + 1) s ≡ Some (v', w') → Digits (number_text (v * 10 + (x - 48)) ++ s) v' w') → Digits (number_text v ++ (x ∷ s)) v' w'
     by true t on =
         let p = both (is_digit x) (growing v) t
         in let b = digit_bounds x p.0
@@ -161,8 +163,9 @@ found (x ∷ s) v w v' w' m l e = by (is_digit x && growing v) refl (found s (v 
         in let r = on (omega arith) (ap (λ (n : ℕ). n + 1) l ∙ sym (ap length more ∙ length-append (number_text v) (x ∷ []))) (sym (more_on v w x s t) ∙ e)
         in record { rest = r.rest; text = sym (append_assoc (number_text v) (x ∷ []) s) ∙ ap (λ (z : List ℕ). z ++ s) (sym more) ∙ r.text; small = r.small; width = r.width }
     by false t on =
-        let p : v ≡ v' = cc (more_off v w x s t)
-        in let q : w ≡ w' = cc (more_off v w x s t)
+        let o = some_pair_parts v v' w w' (sym (more_off v w x s t) ∙ e)
+        in let p = o.0
+        in let q = o.1
         in record { rest = x ∷ s; text = ap (λ (n : ℕ). number_text n ++ (x ∷ s)) p; small = rw p at m; width = sym q ∙ l ∙ ap (λ (n : ℕ). length (number_text n)) p }
 
 -- what was read as v in w bytes
@@ -188,7 +191,7 @@ stands s v w r =
       most = omega (arith, length_most v r.small, r.width);
     }
 
-pub number_found : (s : List ℕ) (v w : ℕ) → number_here s ≡ Number v w → NumberStands s v w
+pub number_found : (s : List ℕ) (v w : ℕ) → number_here s ≡ Some (v, w) → NumberStands s v w
 unfolding number_here
 number_found [] v w e = absurd (let z : ◌≡◌ {A = ℕ} 0 1 = cc in omega arith)
 number_found (x ∷ s) v w e = by (is_digit x) refl

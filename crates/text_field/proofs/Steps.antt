@@ -2,24 +2,22 @@
 use mathlib.Core.Path.{◌≡◌, refl, sym, ap, ◌∙◌}
 use mathlib.Core.Bool.{true, false, ◌&&◌}
 use mathlib.Core.List.{List, [], ◌∷◌}
-use Prim.Native.Nat.{ℕ, zero, suc, ◌+◌, ◌-◌, ◌*◌, ◌/◌, ◌%◌, ◌≤◌, ◌<◌}
-use native.Mathlib.Numerals.{add-one, sub-one}
+use Prim.Native.Nat.{ℕ, suc, ◌+◌, ◌-◌, ◌*◌, ◌/◌, ◌%◌, ◌≤◌, ◌<◌}
+use native.Mathlib.Numerals.{add-one}
 use native.Mathlib.Omega.{arith}
 use lib.ListN.{length, get_or, take, drop, drop_of_length-le, length-append, length-drop}
 use lib.Seq.{drop-cons, take_at}
-use Rattle.text_field.specs.Bytes.{is_digit, is_lower, is_name_byte}
+use Rattle.std.proofs.lemmas.Slice.{between_to_end}
+use Rattle.text_field.specs.Bytes.{is_digit, is_lower}
 use Rattle.text_field.specs.Buffer.{Buf, put, puts}
 use Rattle.text_field.specs.Number.{number_text, growing, digits_from, number_here, number_placed}
 use Rattle.text_field.specs.Name.{pack_high, pack_low, name_of, name_run, name_here, name_placed}
 use Rattle.text_field.specs.Lines.{line_placed, line_here}
-use Rattle.text_field.specs.declared.NumberRead.TheVariants.{Number, NoNumber}
-use Rattle.text_field.specs.declared.NameRead.TheVariants.{Name, NoName}
-use Rattle.text_field.specs.declared.lines.LineRead.TheVariants.{Line, NoLine}
 use Rattle.text_field.proofs.BufferLaws.{puts_one, puts_then}
 use Rattle.text_field.proofs.ByteLaws.{both}
 use Rattle.text_field.proofs.NumberLaws.{number_short, number_long, more_on, more_off, first_on, first_off, growing_bounds, digits_placed}
-use Rattle.text_field.proofs.NameLaws.{run, run_on, run_off, here_on, here_off}
-use Rattle.text_field.proofs.LineLaws.{line_on, line_off, placed_on}
+use Rattle.text_field.proofs.NameLaws.{run, here_on, here_off}
+use Rattle.std.specs.declared.option.Option.TheVariants.{Some, None}
 
 module _ (s : List ℕ) (i : ℕ) where
   pub drop_next : i < length s → drop i s ≡ get_or s i 0 ∷ drop (i + 1) s
@@ -29,23 +27,23 @@ module _ (s : List ℕ) (i : ℕ) where
   drop_end h = drop_of_length-le s {i = i} h
 
   module _ (v : ℕ) where
-    pub digits_end : length s ≤ i → Number v i ≡ digits_from v i (drop i s)
+    pub digits_end : length s ≤ i → Some (v, i) ≡ digits_from v i (drop i s)
     unfolding digits_from
     digits_end h = rw (drop_end h)
 
     module _ (h : i < length s) where
-      pub digits_stop : (is_digit (get_or s i 0) && growing v) ≡ false → Number v i ≡ digits_from v i (drop i s)
+      pub digits_stop : (is_digit (get_or s i 0) && growing v) ≡ false → Some (v, i) ≡ digits_from v i (drop i s)
       digits_stop t = sym (ap (digits_from v i) (drop_next h) ∙ more_off v i (get_or s i 0) (drop (i + 1) s) t)
 
       pub digits_go : (d : ℕ) → d ≡ get_or s i 0 - 48 → (is_digit (get_or s i 0) && growing v) ≡ true → digits_from (v * 10 + d) (i + 1) (drop (i + 1) s) ≡ digits_from v i (drop i s)
       digits_go d e t = rw e (sym (ap (digits_from v i) (drop_next h) ∙ more_on v i (get_or s i 0) (drop (i + 1) s) t))
 
-  pub no_number : length s ≤ i → NoNumber ≡ number_placed i (number_here (drop i s))
+  pub no_number : length s ≤ i → None ≡ number_placed i (number_here (drop i s))
   unfolding number_placed number_here
   no_number h = rw (drop_end h)
 
   module _ (h : i < length s) where
-    pub no_digit : is_digit (get_or s i 0) ≡ false → NoNumber ≡ number_placed i (number_here (drop i s))
+    pub no_digit : is_digit (get_or s i 0) ≡ false → None ≡ number_placed i (number_here (drop i s))
     unfolding number_placed
     no_digit t = sym (ap (λ (z : List ℕ). number_placed i (number_here z)) (drop_next h) ∙ ap (number_placed i) (first_off (get_or s i 0) (drop (i + 1) s) t))
 
@@ -55,31 +53,16 @@ module _ (s : List ℕ) (i : ℕ) where
         ∙ ap (number_placed i) (first_on (get_or s i 0) (drop (i + 1) s) t)
         ∙ digits_placed (drop (i + 1) s) i (get_or s i 0 - 48) 1))
 
-  pub run_end : (k : ℕ) → length s ≤ i → i ≡ i + length (name_run k (drop i s))
-  unfolding name_run
-  run_end zero h = omega arith
-  run_end (suc k) h = rw (drop_end h) (omega arith)
-
-  pub run_full : (k : ℕ) → k ≡ 0 → i ≡ i + length (name_run k (drop i s))
-  unfolding name_run
-  run_full k h = rw h (omega arith)
-
-  module _ (h : i < length s) where
-    pub run_stop : (k : ℕ) → is_name_byte (get_or s i 0) ≡ false → i ≡ i + length (name_run k (drop i s))
-    unfolding name_run
-    run_stop zero t = omega arith
-    run_stop (suc k) t = rw (drop_next h, run_off k (get_or s i 0) (drop (i + 1) s) t) (omega arith)
-
-    pub run_go : (k : ℕ) → (k ≡ 0 → ⊥) → is_name_byte (get_or s i 0) ≡ true → i + 1 + length (name_run (k - 1) (drop (i + 1) s)) ≡ i + length (name_run k (drop i s))
-    run_go zero g t = absurd (g refl)
-    run_go (suc k) g t = rw (drop_next h, run_on k (get_or s i 0) (drop (i + 1) s) t, sub-one) (omega arith)
-
-  pub no_name : length s ≤ i → NoName ≡ name_placed i (name_here (drop i s))
+  pub no_name : length s ≤ i → None ≡ name_placed i (name_here (drop i s))
   unfolding name_placed name_here
   no_name h = rw (drop_end h)
 
+  -- where a name ends whose further bytes are n
+  pub name_ends : (k n : ℕ) → n ≡ length (name_run k (take (length s - (i + 1)) (drop (i + 1) s))) → i + 1 + n ≡ i + 1 + length (name_run k (drop (i + 1) s))
+  name_ends k n e = ap (λ (z : ℕ). i + 1 + z) (e ∙ ap (λ (z : List ℕ). length (name_run k z)) (between_to_end s (i + 1) (length s) (omega arith)))
+
   module _ (h : i < length s) where
-    pub no_lower : is_lower (get_or s i 0) ≡ false → NoName ≡ name_placed i (name_here (drop i s))
+    pub no_lower : is_lower (get_or s i 0) ≡ false → None ≡ name_placed i (name_here (drop i s))
     unfolding name_placed
     no_lower t = sym (ap (λ (z : List ℕ). name_placed i (name_here z)) (drop_next h) ∙ ap (name_placed i) (here_off (get_or s i 0) (drop (i + 1) s) t))
 
@@ -97,27 +80,16 @@ module _ (s : List ℕ) (i : ℕ) where
           in let w : e - i ≡ suc (length (name_run 15 (drop (i + 1) s))) = omega arith
           in rw (w, drop_next h) (ap (λ (z : List ℕ). get_or s i 0 ∷ take (length (name_run 15 (drop (i + 1) s))) z) r.text ∙ ap (λ (z : List ℕ). get_or s i 0 ∷ z) (take_at (name_run 15 (drop (i + 1) s)) r.rest (length (name_run 15 (drop (i + 1) s))) refl))
 
-      pub some_name : is_lower (get_or s i 0) ≡ true → (high low : ℕ) → high ≡ pack_high (take (e - i) (drop i s)) → low ≡ pack_low (take (e - i) (drop i s)) → Name high low e ≡ name_placed i (name_here (drop i s))
+      pub some_name : is_lower (get_or s i 0) ≡ true → (high low : ℕ) → high ≡ pack_high (take (e - i) (drop i s)) → low ≡ pack_low (take (e - i) (drop i s)) → Some (high, low, e) ≡ name_placed i (name_here (drop i s))
       unfolding name_placed name_of
       some_name t high low p q =
           let m : i + suc (length (name_run 15 (drop (i + 1) s))) ≡ e = omega arith
           in sym (ap (λ (z : List ℕ). name_placed i (name_here z)) (drop_next h) ∙ ap (name_placed i) (here_on (get_or s i 0) (drop (i + 1) s) t) ∙ rw (m, p, q, name_part_lem))
 
--- the line at a place: none is left, its LF stands here, or it goes on
-module _ (s : List ℕ) (i : ℕ) where
-  pub line_end_lem : length s ≤ i → NoLine ≡ line_placed i (line_here (drop i s))
-  unfolding line_placed line_here
-  line_end_lem h = rw (drop_end s i h)
-
-  module _ (h : i < length s) where
-    pub line_stop : get_or s i 0 ≡ 10 → Line i (i + 1) ≡ line_placed i (line_here (drop i s))
-    unfolding line_placed
-    line_stop e =
-        let m : i + 0 ≡ i = omega arith
-        in sym (ap (λ (z : List ℕ). line_placed i (line_here z)) (drop_next s i h) ∙ ap (line_placed i) (line_on (get_or s i 0) (drop (i + 1) s) e) ∙ rw m)
-
-    pub line_go : (get_or s i 0 ≡ 10 → ⊥) → line_placed (i + 1) (line_here (drop (i + 1) s)) ≡ line_placed i (line_here (drop i s))
-    line_go n = sym (ap (λ (z : List ℕ). line_placed i (line_here z)) (drop_next s i h) ∙ ap (line_placed i) (line_off (get_or s i 0) (drop (i + 1) s) n) ∙ sym (placed_on i (line_here (drop (i + 1) s))))
+-- the line at a place: none is left
+pub line_end_lem : (s : List ℕ) (i : ℕ) → length s ≤ i → None ≡ line_placed i (line_here (drop i s))
+unfolding line_placed line_here
+line_end_lem s i h = rw (drop_end s i h)
 
 -- a number that goes on has at most four digits
 pub grown : (x v : ℕ) → (is_digit x && growing v) ≡ true → v ≤ 9999

@@ -1,7 +1,9 @@
 pub mod Outcome
+pub mod Refusal
 pub mod Answer
 pub mod Bytes
 pub mod Number
 pub mod Name
 pub mod Lines
 pub mod Buffer
+pub mod Writing

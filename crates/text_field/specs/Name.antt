@@ -1,10 +1,10 @@
 -- Names as text (document 01, "The gym file"), and as two cells of eight bytes each. Assumes
 -- nothing: these are definitions.
 use Rattle.std.specs.Prelude.{List, [], ◌∷◌, ◌++◌, Bool, true, false, ◌&&◌, ℕ, zero, suc, ◌+◌, ◌*◌, ◌/◌, ◌%◌, ◌^◌, eqb, leb, ltb, length, drop}
-use Rattle.text_field.specs.declared.NameRead.{NameRead}
-use Rattle.text_field.specs.declared.NameRead.TheVariants.{Name, NoName}
 use Rattle.text_field.specs.Bytes.{is_lower, is_name_byte}
 use Rattle.text_field.specs.Outcome.{Outcome, refused, done}
+use Rattle.std.specs.declared.option.Option.TheVariants.{Some, None}
+use Rattle.std.specs.declared.option.Option.{Option}
 
 -- a name in a text: its two cells, and the place after it
 pub record NameFound : Type 0 where
@@ -13,9 +13,9 @@ pub record NameFound : Type 0 where
   pub next : ℕ
 
 -- What the reader of a name answers, by document 01's number for a text that is not of its form.
-unfoldable pub name_meaning : ℕ → NameRead → Outcome NameFound
-name_meaning refusal (Name high low next) = done (record { high = high; low = low; next = next })
-name_meaning refusal NoName = refused refusal
+unfoldable pub name_meaning : ℕ → Option (ℕ × ℕ × ℕ) → Outcome NameFound
+name_meaning refusal (Some (high, low, next)) = done (record { high = high; low = low; next = next })
+name_meaning refusal None = refused refusal
 
 -- every byte is one that a name may hold after its first
 unfoldable pub all_name_bytes : List ℕ → Bool
@@ -67,18 +67,18 @@ name_run (suc k) [] = []
 name_run (suc k) (x ∷ rest) = elim (is_name_byte x) [ true ↦ x ∷ name_run k rest | false ↦ [] ]
 
 -- a name as it is read: its cells, and how many bytes it takes
-unfoldable pub name_of : List ℕ → NameRead
-name_of s = Name (pack_high s) (pack_low s) (length s)
+unfoldable pub name_of : List ℕ → Option (ℕ × ℕ × ℕ)
+name_of s = Some (pack_high s, pack_low s, length s)
 
 -- the longest name at the start of the bytes, of at most 16
-unfoldable pub name_here : List ℕ → NameRead
-name_here [] = NoName
-name_here (x ∷ rest) = elim (is_lower x) [ true ↦ name_of (x ∷ name_run 15 rest) | false ↦ NoName ]
+unfoldable pub name_here : List ℕ → Option (ℕ × ℕ × ℕ)
+name_here [] = None
+name_here (x ∷ rest) = elim (is_lower x) [ true ↦ name_of (x ∷ name_run 15 rest) | false ↦ None ]
 
 -- a name read from place `at` on: the bytes it takes become the place after it
-unfoldable pub name_placed : ℕ → NameRead → NameRead
-name_placed at (Name high low width) = Name high low (at + width)
-name_placed at NoName = NoName
+unfoldable pub name_placed : ℕ → Option (ℕ × ℕ × ℕ) → Option (ℕ × ℕ × ℕ)
+name_placed at (Some (high, low, width)) = Some (high, low, at + width)
+name_placed at None = None
 
 -- bytewise order of names, a prefix first (document 01, rows ascend)
 unfoldable pub name_before : List ℕ → List ℕ → Bool

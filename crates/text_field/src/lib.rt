@@ -1,31 +1,20 @@
-// Numbers, names and lines as text, the lent buffer they are written to, and what a host is told.
+// Numbers, names and lines as text, the lent buffer they are written to, and why a request is
+// refused.
 #![tactic(auto)]
 
-mod answer;
 mod lines;
+mod refusal;
+mod writer;
 
-ghost use Rattle.std.specs.Prelude.{◌≡◌, ◌&&◌, List, [], ◌∷◌, ℕ, ◌+◌, ◌-◌, ◌*◌, ◌/◌, ◌%◌, length, get_or, drop};
-ghost use Rattle.text_field.specs.Bytes.{within, is_digit, is_capital, is_lower, is_name_byte};
+ghost use Rattle.std.specs.Prelude.{◌≡◌, ◌≤◌, ◌&&◌, ◌+◌, ◌-◌, ◌*◌, ◌/◌, ◌%◌, length, get_or, drop};
+ghost use Rattle.text_field.specs.Bytes.{is_digit, is_capital, is_lower, is_name_byte};
 ghost use Rattle.text_field.specs.Number.{number_text, growing, digits_from, number_here, number_placed};
-ghost use Rattle.text_field.specs.Name.{packed, pack_high, pack_low, name_text, is_name_cells, name_run, name_here, name_placed};
+ghost use Rattle.text_field.specs.Name.{pack_high, pack_low, name_text, is_name_cells, name_run, name_here, name_placed};
 ghost use Rattle.text_field.specs.Buffer.{Buf, put, puts};
 
-pub use answer::Answer;
-pub use lines::{LineRead, next_line};
-
-// The number that starts at a place, and the place after it.
-#[derive(Clone, Copy)]
-pub enum NumberRead {
-    Number(u64, usize),
-    NoNumber,
-}
-
-// The name that starts at a place, as its two cells, and the place after it.
-#[derive(Clone, Copy)]
-pub enum NameRead {
-    Name(u64, u64, usize),
-    NoName,
-}
+pub use lines::next_line;
+pub use refusal::Refusal;
+pub use writer::Writer;
 
 // A number that is greater, or 0, has no further digit: five digits are not passed, and 0 stands
 // alone.
@@ -39,44 +28,35 @@ const NAME_REST: usize = 15;
 // The weight of a cell's first byte.
 const TOP: u64 = 72057594037927936;
 
-// The byte at i, or d past the end.
-pub fn byte_at(s: &[u8], i: usize, d: u8) -> u8
-    ensures answer { result ≡ get_or s.now i d }
+// The item at i, or another value past the end.
+pub fn get_or<T: Copy>(items: &[T], i: usize, otherwise: T) -> T
+    ensures answer { result ≡ get_or items.now i otherwise }
 {
-    if i < s.len() { s[i] } else { d }
+    items.get(i).copied().unwrap_or(otherwise)
 }
 
-// The cell at i, or d past the end.
-pub fn cell(s: &[u64], i: usize, d: u64) -> u64
-    ensures answer { result ≡ get_or s.now i d }
-{
-    if i < s.len() { s[i] } else { d }
-}
-
-pub fn in_range(low: u8, high: u8, b: u8) -> bool
-    ensures answer { result ≡ within low high b }
-{
-    low <= b && b <= high
-}
-
+#[tactic(auto, unfolding(crate::specs::Bytes::is_digit, crate::specs::Bytes::within))]
 pub fn is_digit(b: u8) -> bool
     ensures answer { result ≡ is_digit b }
 {
-    in_range(b'0', b'9', b)
+    b.is_ascii_digit()
 }
 
+#[tactic(auto, unfolding(crate::specs::Bytes::is_capital, crate::specs::Bytes::within))]
 pub fn is_capital(b: u8) -> bool
     ensures answer { result ≡ is_capital b }
 {
-    in_range(b'A', b'Z', b)
+    b.is_ascii_uppercase()
 }
 
+#[tactic(auto, unfolding(crate::specs::Bytes::is_lower, crate::specs::Bytes::within))]
 pub fn is_lower(b: u8) -> bool
     ensures answer { result ≡ is_lower b }
 {
-    in_range(b'a', b'z', b)
+    b.is_ascii_lowercase()
 }
 
+#[tactic(auto, unfolding(crate::specs::Bytes::is_name_byte))]
 pub fn is_name_byte(b: u8) -> bool
     ensures answer { result ≡ is_name_byte b }
 {
@@ -87,10 +67,11 @@ pub fn is_name_byte(b: u8) -> bool
 fn digit_value(b: u8) -> u64
     ensures answer { result ≡ b - 48 }
 {
-    if b < b'0' { 0 } else { (b - b'0') as u64 }
+    u64::from(b.saturating_sub(b'0'))
 }
 
 // May b be a further digit of a number that is v so far?
+#[tactic(auto, unfolding(crate::specs::Number::growing))]
 fn goes_on(v: u64, b: u8) -> bool
     ensures answer { result ≡ (is_digit b && growing v) }
 {
@@ -98,115 +79,74 @@ fn goes_on(v: u64, b: u8) -> bool
 }
 
 // The number that was v before place `at`.
-fn digits_from(s: &[u8], value: u64, at: usize) -> NumberRead
+fn digits_from(s: &[u8], value: u64, at: usize) -> Option<(u64, usize)>
+    requires inside { at ≤ length s.now }
     ensures answer { result ≡ digits_from value at (drop at s.now) }
 {
     let mut v = value;
-    let mut i = at;
-    while i < s.len() {
+    for i in at..s.len() {
         let b = s[i];
         if !goes_on(v, b) {
-            return NumberRead::Number(v, i);
+            return Some((v, i));
         }
         v = v * 10 + digit_value(b);
-        i += 1;
     }
-    NumberRead::Number(v, i)
+    Some((v, s.len()))
 }
 
 // The number at a place of the text.
-pub fn read_number(s: &[u8], at: usize) -> NumberRead
+pub fn read_number(s: &[u8], at: usize) -> Option<(u64, usize)>
     ensures answer { result ≡ number_placed at (number_here (drop at s.now)) }
 {
-    if s.len() <= at {
-        return NumberRead::NoNumber;
+    let first = *s.get(at)?;
+    if !is_digit(first) {
+        return None;
     }
-    let b = s[at];
-    if !is_digit(b) {
-        return NumberRead::NoNumber;
-    }
-    digits_from(s, digit_value(b), at + 1)
+    digits_from(s, digit_value(first), at + 1)
 }
 
-// Eight bytes as one number, big end first.
-fn joined(a: u8, b: u8, c: u8, d: u8, e: u8, f: u8, g: u8, h: u8) -> u64
-    ensures answer { result ≡ packed 8 (a ∷ b ∷ c ∷ d ∷ e ∷ f ∷ g ∷ h ∷ []) }
-{
-    let ab = a as u64 * 256 + b as u64;
-    let cd = c as u64 * 256 + d as u64;
-    let ef = e as u64 * 256 + f as u64;
-    let gh = g as u64 * 256 + h as u64;
-    (ab * 65536 + cd) * 4294967296 + (ef * 65536 + gh)
-}
-
-// The cell of a name's bytes 0 to 7.
+// The cell of a name's bytes 0 to 7, big end first; zeros stand for missing bytes.
 pub fn pack_high(name: &[u8]) -> u64
     ensures answer { result ≡ pack_high name.now }
 {
-    joined(
-        byte_at(name, 0, 0),
-        byte_at(name, 1, 0),
-        byte_at(name, 2, 0),
-        byte_at(name, 3, 0),
-        byte_at(name, 4, 0),
-        byte_at(name, 5, 0),
-        byte_at(name, 6, 0),
-        byte_at(name, 7, 0),
-    )
+    let width = name.len().min(8);
+    let mut bytes = [0u8; 8];
+    bytes[..width].copy_from_slice(&name[..width]);
+    u64::from_be_bytes(bytes)
 }
 
 // The cell of a name's bytes 8 to 15.
 pub fn pack_low(name: &[u8]) -> u64
     ensures answer { result ≡ pack_low name.now }
 {
-    joined(
-        byte_at(name, 8, 0),
-        byte_at(name, 9, 0),
-        byte_at(name, 10, 0),
-        byte_at(name, 11, 0),
-        byte_at(name, 12, 0),
-        byte_at(name, 13, 0),
-        byte_at(name, 14, 0),
-        byte_at(name, 15, 0),
-    )
+    pack_high(&name[name.len().min(8)..])
 }
 
-// The place after the name bytes from `at` on, of which at most `most` are taken.
-fn name_end(s: &[u8], at: usize, most: usize) -> usize
-    ensures answer { result ≡ at + length (name_run most (drop at s.now)) }
+// How many name bytes stand at the start, of which at most `most` are taken.
+fn name_len(s: &[u8], most: usize) -> usize
+    ensures answer { result ≡ length (name_run most s.now) }
 {
-    let mut i = at;
-    let mut left = most;
-    while i < s.len() {
-        if left == 0 {
-            return i;
-        }
-        if !is_name_byte(s[i]) {
-            return i;
-        }
-        i += 1;
-        left -= 1;
-    }
-    i
+    s.iter()
+        .take(most)
+        .take_while(|b| is_name_byte(**b))
+        .count()
 }
 
 // The name at a place of the text.
-pub fn read_name(s: &[u8], at: usize) -> NameRead
+pub fn read_name(s: &[u8], at: usize) -> Option<(u64, u64, usize)>
     ensures answer { result ≡ name_placed at (name_here (drop at s.now)) }
 {
-    if s.len() <= at {
-        return NameRead::NoName;
+    let first = *s.get(at)?;
+    if !is_lower(first) {
+        return None;
     }
-    if !is_lower(s[at]) {
-        return NameRead::NoName;
-    }
-    let end = name_end(s, at + 1, NAME_REST);
-    let high = pack_high(&s[at..end]);
-    let low = pack_low(&s[at..end]);
-    NameRead::Name(high, low, end)
+    let end = at + 1 + name_len(&s[at + 1..], NAME_REST);
+    let name = &s[at..end];
+    Some((pack_high(name), pack_low(name), end))
 }
 
-// x where there is room, and the next place.
+// x where there is room, and the next place. This and the three below are what a Writer is made of,
+// and serve where one piece is put at a place that is known.
 pub fn put_byte(out: &mut [u8], n: usize, x: u8) -> usize
     ensures written { ◌≡◌ {A = Buf} (out.new, result) (put (out.old, n) x) }
 {
@@ -223,10 +163,8 @@ pub fn put_bytes(out: &mut [u8], n: usize, s: &[u8]) -> usize
     ensures written { ◌≡◌ {A = Buf} (out.new, result) (puts (out.old, n) s.now) }
 {
     let mut k = n;
-    let mut i: usize = 0;
-    while i < s.len() {
-        k = put_byte(out, k, s[i]);
-        i += 1;
+    for &x in s {
+        k = put_byte(out, k, x);
     }
     k
 }
@@ -296,7 +234,7 @@ pub fn is_name(high: u64, low: u64) -> bool
 {
     let mut text = [0u8; NAME_BYTES];
     put_name(&mut text, 0, high, low);
-    let NameRead::Name(h, l, _) = read_name(&text, 0) else {
+    let Some((h, l, _)) = read_name(&text, 0) else {
         return false;
     };
     h == high && l == low

@@ -7,11 +7,11 @@ use mathlib.Core.List.{List, [], ◌∷◌, ◌++◌, flat_map, append_assoc}
 use lib.Dec.{leb}
 use lib.ListN.{length, drop}
 use borrow.Author.Tests.{le-leb}
+use Rattle.std.specs.declared.option.Option.{Option as Maybe}
+use Rattle.std.specs.declared.option.Option.TheVariants.{Some, None as Nothing}
 use Rattle.scope_graph.specs.Rows.{PackedName}
 use Rattle.scope_graph.specs.Computed.{Found, found_none, found_one, found_several}
 use Rattle.scope_graph.proofs.Lists.{and_both}
-use Rattle.text_field.specs.declared.NumberRead.{NumberRead}
-use Rattle.text_field.specs.declared.NumberRead.TheVariants.{Number, NoNumber}
 use Rattle.text_field.specs.Number.{number_text, number_here}
 use Rattle.text_field.specs.Outcome.{Outcome, refused, done}
 use Rattle.text_field.proofs.NumberLaws.{number_found}
@@ -80,10 +80,10 @@ module _ (s rest : List ℕ) where
             named = and_both (leb v most_scope) (is_end x) (le-leb v most_scope h) g;
           })
 
-  pair_is : (a : Option NamedPair) (r : NumberRead) → number_up_to most_scope s ≡ r → pair_by r s ≡ done (a, rest) → AwaitsStand a
+  pair_is : (a : Option NamedPair) (r : Maybe (ℕ × ℕ)) → number_up_to most_scope s ≡ r → pair_by r s ≡ done (a, rest) → AwaitsStand a
   unfolding pair_by number_up_to
-  pair_is a NoNumber e f = absurd (not_done 10 (a, rest) f)
-  pair_is a (Number v w) e f =
+  pair_is a Nothing e f = absurd (not_done 10 (a, rest) f)
+  pair_is a (Some (v, w)) e f =
       let u = up_found most_scope (number_here s) v w e in
       let n = number_found s v w u.found in
       end_is v (drop w s) a u.small n.whole f

@@ -6,26 +6,14 @@ use native.Mathlib.Omega.{arith}
 use lib.ListN.{length, take, length-append}
 use Rattle.scope_graph.specs.Rows.{PackedName}
 use Rattle.text_field.specs.Number.{number_text}
-use Rattle.text_field.specs.Buffer.{Buf, put, puts}
+use Rattle.text_field.specs.Buffer.{Buf, puts}
 use Rattle.text_field.proofs.NumberLaws.{length_below}
 use Rattle.text_field.proofs.CellLaws.{name_length}
-use Rattle.text_field.proofs.BufferLaws.{puts_then}
 use Rattle.graph_table.specs.declared.sections.Form.{Form}
 use Rattle.graph_table.specs.declared.sections.Form.TheVariants.{Old, Kinds}
 use Rattle.follow.specs.Text.{seek_columns}
 use Rattle.resolution.proofs.Buffers.{head_fits, length_take_most}
 use Rattle.told.specs.Apart.{query_columns}
-
--- one write after another
-pub columns_put : (form : Form) (start : ℕ) (x : PackedName) (b c d e f : Buf) → c ≡ puts b (number_text start) → d ≡ put c 32
-    → e ≡ puts d (seek_columns form x) → f ≡ put e 32 → f ≡ puts b (query_columns form start x)
-unfolding query_columns puts
-columns_put form start x b c d e f i j k l =
-    let sought : List ℕ = seek_columns form x in
-    let z : f ≡ puts e (32 ∷ []) = l in
-    let y : f ≡ puts d (sought ++ (32 ∷ [])) = puts_then d e f sought (32 ∷ []) k z in
-    let v : f ≡ puts c (32 ∷ (sought ++ (32 ∷ []))) = y ∙ ap (λ (s : Buf). puts s (sought ++ (32 ∷ []))) j in
-    puts_then b c f (number_text start) (32 ∷ (sought ++ (32 ∷ []))) i v
 
 -- they are short
 module _ (form : Form) (start : ℕ) (x : PackedName) (h : start < 64) where

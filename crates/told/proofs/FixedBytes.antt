@@ -1,16 +1,19 @@
 -- Fixed bytes at a place of a text. Assumes nothing.
-use Prim.Native.Nat.{ℕ, ◌+◌, ◌≤◌, ◌<◌}
+use Prim.Native.Nat.{ℕ, min, ◌-◌, ◌≤◌, ◌<◌}
 use mathlib.Core.Path.{◌≡◌, refl, sym, ap, ◌∙◌}
 use mathlib.Core.Bool.{Bool, true, false}
+use mathlib.Core.Logic.{⊎_elim}
 use mathlib.Core.List.{List, [], ◌∷◌, ◌++◌}
 use native.Mathlib.Omega.{arith}
 use lib.Dec.{eqb}
-use lib.ListN.{length, get_or, drop}
+use lib.ListN.{length, take, drop}
+use Rattle.std.proofs.lemmas.Slice.{between_to_end}
 use borrow.Author.Tests.{eq-eqb, ne_eqb, eqb-true}
+use Rattle.std.specs.declared.option.Option.{Option as Maybe}
+use Rattle.std.specs.declared.option.Option.TheVariants.{Some, None as Nothing}
 use Rattle.text_field.specs.Outcome.{Outcome, refused, done}
-use Rattle.text_field.proofs.Steps.{drop_next, drop_end}
-use Rattle.told.specs.declared.places.Place.{Place}
-use Rattle.told.specs.declared.places.Place.TheVariants.{At, Nowhere}
+use Rattle.text_field.proofs.Steps.{drop_end}
+use Rattle.graph_table.proofs.Tests.{below_or}
 use Rattle.told.specs.Apart.{after}
 use Rattle.told.specs.Steps.{place_meaning}
 
@@ -23,27 +26,6 @@ module _ (x y : ℕ) (p s : List ℕ) where
   pub after_other : (x ≡ y → ⊥) → after (x ∷ p) (y ∷ s) ≡ refused 10
   unfolding after
   after_other n = rw (ne_eqb x y n, after)
-
--- a loop over the bytes p, held against the text from place k on
-module _ (s p : List ℕ) (k i : ℕ) where
-  pub past_all : length p ≤ i → done (drop k s) ≡ after (drop i p) (drop k s)
-  unfolding after
-  past_all h = rw (drop_end p i h)
-
-  module _ (h : i < length p) where
-    pub past_end : length s ≤ k → refused 10 ≡ after (drop i p) (drop k s)
-    unfolding after
-    past_end e = rw (drop_next p i h, drop_end s k e)
-
-    module _ (g : k < length s) where
-      here : after (drop i p) (drop k s) ≡ after (get_or p i 0 ∷ drop (i + 1) p) (get_or s k 0 ∷ drop (k + 1) s)
-      here = ap (λ (l : List ℕ). after l (drop k s)) (drop_next p i h) ∙ ap (after (get_or p i 0 ∷ drop (i + 1) p)) (drop_next s k g)
-
-      pub past_other : (get_or s k 0 ≡ get_or p i 0 → ⊥) → refused 10 ≡ after (drop i p) (drop k s)
-      past_other n = sym (here ∙ after_other (get_or p i 0) (get_or s k 0) _ _ (λ e. n (sym e)))
-
-      pub past_next : get_or s k 0 ≡ get_or p i 0 → after (drop (i + 1) p) (drop (k + 1) s) ≡ after (drop i p) (drop k s)
-      past_next e = sym (here ∙ after_same (get_or p i 0) (get_or s k 0) _ _ (sym e))
 
 -- what stands after a beginning, and only that
 pub after_append : (p t : List ℕ) → after p (p ++ t) ≡ done t
@@ -74,12 +56,32 @@ after_ten (x ∷ p) (y ∷ s) n e = by (eqb x y) e (after_ten p s n)
     by true g so = so g
     by false g so = cc
 
+-- where the bytes stand at the start, or not
+pub begins : (p s : List ℕ) → s ≡ p ++ drop (length p) s → done (drop (length p) s) ≡ after p s
+begins p s e = sym (ap (after p) e ∙ after_append p (drop (length p) s))
+
+pub begins_not : (p s : List ℕ) → ((rest : List ℕ) → s ≡ p ++ rest → ⊥) → refused 10 ≡ after p s
+begins_not p s n = by (after p s) refl
+  where
+    by : (o : Outcome (List ℕ)) → after p s ≡ o → refused 10 ≡ after p s
+    by (refused m) e = rw (← after_ten p s m e) (sym e)
+    by (done t) e = absurd (n t (after_is p s t e))
+
+-- what the code looks at stands from the place on, or nothing does
+from_place : (s : List ℕ) (at n : ℕ) → n ≡ min at (length s) → drop n s ≡ drop at s
+from_place s at n e =
+    ⊎_elim (λ (h : at < length s). ap (λ (k : ℕ). drop k s) (omega arith))
+    (λ (h : length s ≤ at). drop_end s n (omega arith) ∙ sym (drop_end s at h)) (below_or at (length s))
+
+pub looked_at : (s : List ℕ) (at n : ℕ) → n ≡ min at (length s) → take (length s - n) (drop n s) ≡ drop at s
+looked_at s at n e = between_to_end s n (length s) (omega arith) ∙ from_place s at n e
+
 -- what a place in the text tells
-module _ (s p t : List ℕ) (r : Place) (e : place_meaning s r ≡ after p t) where
-  pub place_at : (next : ℕ) → r ≡ At next → after p t ≡ done (drop next s)
+module _ (s p t : List ℕ) (r : Maybe ℕ) (e : place_meaning s r ≡ after p t) where
+  pub place_at : (next : ℕ) → r ≡ Some next → after p t ≡ done (drop next s)
   unfolding place_meaning
   place_at next f = sym e ∙ ap (place_meaning s) f
 
-  pub place_none : r ≡ Nowhere → after p t ≡ refused 10
+  pub place_none : r ≡ Nothing → after p t ≡ refused 10
   unfolding place_meaning
   place_none f = sym e ∙ ap (place_meaning s) f

@@ -10,6 +10,8 @@ use lib.Dec.{leb}
 use lib.ListN.{length, drop, length-drop, drop_of_length-le}
 use lib.Seq.{drop-cons}
 use borrow.Author.Tests.{le-leb, lt-leb}
+use Rattle.std.specs.declared.option.Option.{Option as Maybe}
+use Rattle.std.specs.declared.option.Option.TheVariants.{Some, None as Nothing}
 use Rattle.scope_graph.specs.Graph.{Query}
 use Rattle.scope_graph.specs.Rows.{PackedName, language}
 use Rattle.scope_graph.specs.Computed.{Found}
@@ -21,13 +23,6 @@ use Rattle.graph_table.specs.Sections.{table_form}
 use Rattle.board.specs.Queries.{query_at}
 use Rattle.follow.specs.Text.{head_line, rows_line}
 use Rattle.told.specs.declared.listing.Listing.{Listing}
-use Rattle.told.specs.declared.listing.ListingRead.{ListingRead}
-use Rattle.told.specs.declared.listing.ListingRead.TheVariants.{Read as ListingIs, NoListing}
-use Rattle.told.specs.declared.words.FoundRead.{FoundRead}
-use Rattle.told.specs.declared.words.FoundRead.TheVariants.{Word, NoWord}
-use Rattle.told.specs.declared.pairs.Awaited.{Awaited}
-use Rattle.told.specs.declared.pairs.AwaitsRead.{AwaitsRead}
-use Rattle.told.specs.declared.pairs.AwaitsRead.TheVariants.{Read as AwaitsIs, NoAwaits}
 use Rattle.resolution.specs.declared.text.Found as code
 use Rattle.resolution.specs.Asked.{found_meaning}
 use Rattle.told.specs.Delivered.{NamedPair, Delivered}
@@ -35,21 +30,21 @@ use Rattle.told.specs.Apart.{after, found_here, awaits_here, rows_in, query_colu
 use Rattle.told.specs.Steps.{word_meaning, named_meaning, awaits_meaning, listing_at, listing_meaning, RowsSpan, ListingSpan, is_done}
 
 -- what the answers of its readers tell
-module _ (s t : List ℕ) (r : FoundRead) (e : word_meaning s r ≡ found_here t) where
-  pub word_at : (f : code.Found) (next : ℕ) → r ≡ Word f next → found_here t ≡ done (found_meaning f, drop next s)
+module _ (s t : List ℕ) (r : Maybe (code.Found × ℕ)) (e : word_meaning s r ≡ found_here t) where
+  pub word_at : (f : code.Found) (next : ℕ) → r ≡ Some (f, next) → found_here t ≡ done (found_meaning f, drop next s)
   unfolding word_meaning
   word_at f next g = sym e ∙ ap (word_meaning s) g
 
-  pub word_absent : r ≡ NoWord → found_here t ≡ refused 10
+  pub word_absent : r ≡ Nothing → found_here t ≡ refused 10
   unfolding word_meaning
   word_absent g = sym e ∙ ap (word_meaning s) g
 
-module _ (s t : List ℕ) (r : AwaitsRead) (e : awaits_meaning s r ≡ awaits_here t) where
-  pub awaits_at : (a : Awaited) (next : ℕ) → r ≡ AwaitsIs a next → awaits_here t ≡ done (named_meaning a, drop next s)
+module _ (s t : List ℕ) (r : Maybe (Maybe (ℕ × ℕ) × ℕ)) (e : awaits_meaning s r ≡ awaits_here t) where
+  pub awaits_at : (a : Maybe (ℕ × ℕ)) (next : ℕ) → r ≡ Some (a, next) → awaits_here t ≡ done (named_meaning a, drop next s)
   unfolding awaits_meaning
   awaits_at a next g = sym e ∙ ap (awaits_meaning s) g
 
-  pub awaits_absent : r ≡ NoAwaits → awaits_here t ≡ refused 10
+  pub awaits_absent : r ≡ Nothing → awaits_here t ≡ refused 10
   unfolding awaits_meaning
   awaits_absent g = sym e ∙ ap (awaits_meaning s) g
 
@@ -92,21 +87,21 @@ module _ (form : Form) (start : ℕ) (name : PackedName) (t : List ℕ) where
 -- the whole, by the places of its rows
 pub listing_read : (form : Form) (start : ℕ) (name : PackedName) (s t : List ℕ) (l : Listing)
     → listing_here form start name t ≡ done (record { found = found_meaning l.found; awaits = named_meaning l.awaits; rows = (rows_in (drop l.first s)).0 }, (rows_in (drop l.first s)).1)
-    → RowsSpan s l.first l.count l.next → listing_meaning s (ListingIs l) ≡ listing_here form start name t
+    → RowsSpan s l.first l.count l.next → listing_meaning s (Some l) ≡ listing_here form start name t
 unfolding listing_meaning
 listing_read form start name s t l e w = sym (e ∙ ap (λ (z : List ℕ). done (listing_at s l, z)) (sym w.rest))
 
 -- what the answer tells
-module _ (form : Form) (start : ℕ) (name : PackedName) (s t : List ℕ) (r : ListingRead) (e : listing_meaning s r ≡ listing_here form start name t) where
-  pub listing_at_lem : (l : Listing) → r ≡ ListingIs l → listing_here form start name t ≡ done (listing_at s l, drop l.next s)
+module _ (form : Form) (start : ℕ) (name : PackedName) (s t : List ℕ) (r : Maybe Listing) (e : listing_meaning s r ≡ listing_here form start name t) where
+  pub listing_at_lem : (l : Listing) → r ≡ Some l → listing_here form start name t ≡ done (listing_at s l, drop l.next s)
   unfolding listing_meaning
   listing_at_lem l f = sym e ∙ ap (listing_meaning s) f
 
-  pub listing_absent : r ≡ NoListing → listing_here form start name t ≡ refused 10
+  pub listing_absent : r ≡ Nothing → listing_here form start name t ≡ refused 10
   unfolding listing_meaning
   listing_absent f = sym e ∙ ap (listing_meaning s) f
 
-pub span_of : (s : List ℕ) (r : ListingRead) (l : Listing) → ListingSpan s r → r ≡ ListingIs l → RowsSpan s l.first l.count l.next
+pub span_of : (s : List ℕ) (r : Maybe Listing) (l : Listing) → ListingSpan s r → r ≡ Some l → RowsSpan s l.first l.count l.next
 span_of s r l w e = subst (ListingSpan s) e w
 
 -- it is gained with one more before it, or without

@@ -7,8 +7,9 @@ use mathlib.Core.List.{List, [], ◌∷◌}
 use native.Mathlib.Omega.{arith}
 use lib.ListN.{length, get_or, drop}
 use lib.Seq.{drop-drop}
-use Rattle.text_field.specs.declared.NumberRead.{NumberRead}
-use Rattle.text_field.specs.declared.NumberRead.TheVariants.{Number, NoNumber}
+use Rattle.std.proofs.lemmas.Option.{some_pair_parts}
+use Rattle.std.specs.declared.option.Option.{Option as Maybe}
+use Rattle.std.specs.declared.option.Option.TheVariants.{Some, None as Nothing}
 use Rattle.text_field.specs.Number.{number_here, number_placed}
 use Rattle.text_field.specs.Outcome.{refused, done, and_then}
 use Rattle.text_field.proofs.Steps.{drop_next, drop_end}
@@ -40,29 +41,28 @@ module _ (s : List ℕ) (v at : ℕ) where
 
 -- the scope before it
 module _ (s : List ℕ) (at : ℕ) where
-  none_here : (r : NumberRead) → NoNumber ≡ number_placed at r → refused 10 ≡ pair_by r (drop at s)
+  none_here : (r : Maybe (ℕ × ℕ)) → Nothing ≡ number_placed at r → refused 10 ≡ pair_by r (drop at s)
   unfolding pair_by number_placed
-  none_here NoNumber e = refl
-  none_here (Number v w) e = absurd (let z : ◌≡◌ {A = ℕ} 0 1 = cc in omega arith)
+  none_here Nothing e = refl
+  none_here (Some (v, w)) e = absurd (let z : ◌≡◌ {A = ℕ} 0 1 = cc in omega arith)
 
-  some_here : (r : NumberRead) (v next : ℕ) → Number v next ≡ number_placed at r → end_by v (drop next s) ≡ pair_by r (drop at s)
+  some_here : (r : Maybe (ℕ × ℕ)) (v next : ℕ) → Some (v, next) ≡ number_placed at r → end_by v (drop next s) ≡ pair_by r (drop at s)
   unfolding pair_by number_placed
-  some_here NoNumber v next e = absurd (let z : ◌≡◌ {A = ℕ} 0 1 = cc in omega arith)
-  some_here (Number u w) v next e =
-      let p : v ≡ u = cc in
-      let q : next ≡ at + w = cc in
-      rw (p, q, drop-drop)
+  some_here Nothing v next e = absurd (let z : ◌≡◌ {A = ℕ} 0 1 = cc in omega arith)
+  some_here (Some (u, w)) v next e =
+      let p = some_pair_parts v u next (at + w) e in
+      rw (p.0, p.1, drop-drop)
 
-  module _ (a : NumberRead) (e : a ≡ number_placed at (number_here (drop at s))) where
-    pub pair_none : a ≡ NoNumber → refused 10 ≡ pair_by (number_up_to most_scope (drop at s)) (drop at s)
+  module _ (a : Maybe (ℕ × ℕ)) (e : a ≡ number_placed at (number_here (drop at s))) where
+    pub pair_none : a ≡ Nothing → refused 10 ≡ pair_by (number_up_to most_scope (drop at s)) (drop at s)
     unfolding number_up_to
     pair_none f = none_here (number_up_to most_scope (drop at s)) (up_none at most_scope (number_here (drop at s)) a e f)
 
-    pub pair_past : (v next : ℕ) → a ≡ Number v next → 63 < v → refused 10 ≡ pair_by (number_up_to most_scope (drop at s)) (drop at s)
+    pub pair_past : (v next : ℕ) → a ≡ Some (v, next) → 63 < v → refused 10 ≡ pair_by (number_up_to most_scope (drop at s)) (drop at s)
     unfolding number_up_to
     pair_past v next f h = none_here (number_up_to most_scope (drop at s)) (up_past at most_scope (number_here (drop at s)) a v next e f h)
 
-    pub pair_in : (v next : ℕ) → a ≡ Number v next → v ≤ 63 → end_by v (drop next s) ≡ pair_by (number_up_to most_scope (drop at s)) (drop at s)
+    pub pair_in : (v next : ℕ) → a ≡ Some (v, next) → v ≤ 63 → end_by v (drop next s) ≡ pair_by (number_up_to most_scope (drop at s)) (drop at s)
     unfolding number_up_to
     pair_in v next f h = some_here (number_up_to most_scope (drop at s)) v next (up_in at most_scope (number_here (drop at s)) a v next e f h)
 

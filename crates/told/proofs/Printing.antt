@@ -9,12 +9,11 @@ use lib.Dec.{eqb, leb, ltb}
 use lib.ListN.{length, get_or, take, drop}
 use lib.Seq.{take_at, drop_at, drop-append-add}
 use borrow.Author.Tests.{ne_eqb, leb-true}
+use Rattle.std.specs.declared.option.Option.{Option as Maybe}
+use Rattle.std.specs.declared.option.Option.TheVariants.{Some}
 use Rattle.scope_graph.specs.Rows.{PackedName}
 use Rattle.scope_graph.specs.Computed.{Found, found_none, found_one, found_several}
 use Rattle.text_field.specs.Bytes.{within, is_digit, is_capital}
-use Rattle.text_field.specs.declared.NumberRead.{NumberRead}
-use Rattle.text_field.specs.declared.NumberRead.TheVariants.{Number}
-use Rattle.text_field.specs.declared.lines.LineRead.TheVariants.{Line}
 use Rattle.text_field.specs.Lines.{line_here, no_lf}
 use Rattle.text_field.specs.Number.{digits_of, number_text, number_here}
 use Rattle.text_field.specs.Outcome.{refused, done, and_then}
@@ -63,7 +62,7 @@ pub record Begins (l : List ℕ) : Type 0 where
   pub is : l ≡ first ∷ rest
   pub digit : is_digit first ≡ true
 
-begins : (l : List ℕ) (v w : ℕ) → number_here l ≡ Number v w → Begins l
+begins : (l : List ℕ) (v w : ℕ) → number_here l ≡ Some (v, w) → Begins l
 unfolding number_here
 begins [] v w e = absurd (let z : ◌≡◌ {A = ℕ} 0 1 = cc in omega arith)
 begins (x ∷ l) v w e = by (is_digit x) refl
@@ -90,10 +89,10 @@ awaits_back (some o) rest e = sym (all ∙ ap awaits_here (sym (append_assoc (nu
     t : List ℕ
     t = number_text o.at ++ (o.end ∷ rest)
 
-    number : number_here t ≡ Number o.at (length (number_text o.at))
+    number : number_here t ≡ Some (o.at, (length (number_text o.at)))
     number = number_back o.at (o.end ∷ rest) (let s = small in omega arith) (end_bare o.end ends)
 
-    up : number_up_to most_scope t ≡ Number o.at (length (number_text o.at))
+    up : number_up_to most_scope t ≡ Some (o.at, (length (number_text o.at)))
     up = ap (at_most most_scope) number ∙ most_in most_scope o.at (length (number_text o.at)) small
 
     no_dash : dash_here t ≡ refused 10
@@ -103,7 +102,7 @@ awaits_back (some o) rest e = sym (all ∙ ap awaits_here (sym (append_assoc (nu
         dash_none t (ap (after (45 ∷ [])) b.is ∙ after_other 45 b.first [] b.rest (λ z. omega arith))
 
     pair : done (some o, rest) ≡ pair_by (number_up_to most_scope t) t
-    pair = sym (ap (λ (r : NumberRead). pair_by r t) up ∙ ap (end_by o.at) (drop_at (number_text o.at) (o.end ∷ rest) (length (number_text o.at)) refl) ∙ end_on o.at o.end rest ends)
+    pair = sym (ap (λ (r : Maybe (ℕ × ℕ)). pair_by r t) up ∙ ap (end_by o.at) (drop_at (number_text o.at) (o.end ∷ rest) (length (number_text o.at)) refl) ∙ end_on o.at o.end rest ends)
 
     all : done (some o, rest) ≡ awaits_here t
     all = else_later (dash_here t) (pair_by (number_up_to most_scope t) t) 10 no_dash (done (some o, rest)) pair
@@ -154,7 +153,7 @@ unfolding first_row row_of_line row_by row_line
 first_back r rest e =
     let t : List ℕ = row_text r ++ (10 ∷ rest) in
     let n : ℕ = length (row_text r) in
-    let l : line_here t ≡ Line n (n + 1) = line_whole (row_text r) rest (bare_row r e) in
+    let l : line_here t ≡ Some (n, (n + 1)) = line_whole (row_text r) rest (bare_row r e) in
     let a : take n t ≡ row_text r = take_at (row_text r) (10 ∷ rest) n refl in
     let b : drop (n + 1) t ≡ rest = drop-append-add (row_text r) (10 ∷ rest) 1 in
     ap first_row (append_assoc (row_text r) (10 ∷ []) rest) ∙ rw (l, row_of_line, a, b, written_then_read r e)

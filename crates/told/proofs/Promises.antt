@@ -8,14 +8,14 @@ use mathlib.Core.List.Memᴰ
 use mathlib.Core.List.{List, [], ◌∷◌, ◌++◌, map, flat_map}
 use native.Mathlib.Omega.{arith}
 use lib.ListN.{length}
+use Rattle.std.specs.declared.option.Option.{Option as Maybe}
+use Rattle.std.specs.declared.option.Option.TheVariants.{Some, None as Nothing}
 use Rattle.scope_graph.specs.Language.{◌∈◌}
 use Rattle.scope_graph.specs.Graph.{Query, OpenPair}
 use Rattle.scope_graph.specs.Path.{PathRow}
 use Rattle.scope_graph.specs.Rows.{PackedName, language}
 use Rattle.scope_graph.specs.Computed.{Found, found_none, found_one, found_several}
 use Rattle.scope_graph.proofs.Lists.{here, there}
-use Rattle.text_field.specs.declared.NumberRead.{NumberRead}
-use Rattle.text_field.specs.declared.NumberRead.TheVariants.{Number, NoNumber}
 use Rattle.text_field.specs.Outcome.{Outcome, refused, done, and_then, refuse_if}
 use Rattle.text_field.proofs.ByteLaws.{clash}
 use Rattle.text_field.proofs.OutcomeLaws.{done_same, not_done, went, passed}
@@ -127,10 +127,10 @@ end_ten v (x ∷ s) n e = by (is_end x) refl
     by true f = absurd (not_done n (some (record { at = v; end = x }), s) (sym e ∙ end_on v x s f))
     by false f = ten_is n (sym (end_off v x s f) ∙ e)
 
-pair_ten : (r : NumberRead) (s : List ℕ) (n : ℕ) → pair_by r s ≡ refused n → n ≡ 10
+pair_ten : (r : Maybe (ℕ × ℕ)) (s : List ℕ) (n : ℕ) → pair_by r s ≡ refused n → n ≡ 10
 unfolding pair_by
-pair_ten NoNumber s n e = ten_is n e
-pair_ten (Number v w) s n e = end_ten v _ n e
+pair_ten Nothing s n e = ten_is n e
+pair_ten (Some (v, w)) s n e = end_ten v _ n e
 
 awaits_ten : (s : List ℕ) (n : ℕ) → awaits_here s ≡ refused n → n ≡ 10
 unfolding awaits_here

@@ -7,16 +7,15 @@ use mathlib.Core.List.{List, [], ◌∷◌, ◌++◌, flat_map, append_assoc}
 use native.Mathlib.Omega.{arith}
 use lib.ListN.{length, take, drop, length-append, length-drop}
 use lib.Seq.{drop-drop, take_at, drop-append-add}
-use Rattle.text_field.specs.declared.lines.LineRead.{LineRead}
-use Rattle.text_field.specs.declared.lines.LineRead.TheVariants.{Line, NoLine}
+use Rattle.std.proofs.lemmas.Option.{some_pair_parts}
+use Rattle.std.specs.declared.option.Option.{Option as Maybe}
+use Rattle.std.specs.declared.option.Option.TheVariants.{Some, None as Nothing}
 use Rattle.text_field.specs.Lines.{line_placed, line_here, LineAt}
 use Rattle.text_field.specs.Outcome.{Outcome, refused, done}
 use Rattle.text_field.proofs.LineLaws.{LineFound, line_found, line_told}
 use Rattle.text_field.proofs.Steps.{drop_end}
 use Rattle.path_row.specs.Form.{PathRow, row_here, row_text, is_row}
 use Rattle.path_row.proofs.FormLaws.{read_then_written}
-use Rattle.told.specs.declared.rows.RowPlace.{RowPlace}
-use Rattle.told.specs.declared.rows.RowPlace.TheVariants.{Row, NoRow}
 use Rattle.told.specs.Delivered.{row_line}
 use Rattle.told.specs.Apart.{row_by, row_of_line, first_row, rows_from, rows_in}
 use Rattle.told.specs.Steps.{RowStands, RowTold, RowsSpan}
@@ -49,9 +48,9 @@ first_is s r rest e = by (line_here s) refl e
           row = rw (← same) w.1;
         }
 
-    by : (l : LineRead) → line_here s ≡ l → row_of_line l s ≡ some (r, rest) → FirstIs s r rest
-    by NoLine g h = absurd (let z : ◌≡◌ {A = ℕ} 0 1 = cc in omega arith)
-    by (Line end next) g h = read end next (line_found s end next g) (row_here (take end s)) refl h
+    by : (l : Maybe (ℕ × ℕ)) → line_here s ≡ l → row_of_line l s ≡ some (r, rest) → FirstIs s r rest
+    by Nothing g h = absurd (let z : ◌≡◌ {A = ℕ} 0 1 = cc in omega arith)
+    by (Some (end, next)) g h = read end next (line_found s end next g) (row_here (take end s)) refl h
 
 line_some : (r : PathRow) → 1 ≤ length (row_line r)
 unfolding row_line
@@ -108,16 +107,16 @@ module _ (s : List ℕ) where
       ap (λ (k : ℕ). rows_from k s) n ∙ from_some (length s - 1) s r rest e ∙ ap (λ (p : Rows). (r ∷ p.0, p.1)) f
 
 -- the row at a place, by the line that stands there
-module _ (s : List ℕ) (at : ℕ) (a : LineRead) (e : a ≡ line_placed at (line_here (drop at s))) where
-  pub row_none : a ≡ NoLine → first_row (drop at s) ≡ none
+module _ (s : List ℕ) (at : ℕ) (a : Maybe (ℕ × ℕ)) (e : a ≡ line_placed at (line_here (drop at s))) where
+  pub row_none : a ≡ Nothing → first_row (drop at s) ≡ none
   unfolding first_row line_placed row_of_line
   row_none f = by (line_here (drop at s)) (sym e ∙ f)
     where
-      by : (l : LineRead) → line_placed at l ≡ NoLine → row_of_line l (drop at s) ≡ none
-      by NoLine g = refl
-      by (Line x y) g = absurd (let z : ◌≡◌ {A = ℕ} 0 1 = cc in omega arith)
+      by : (l : Maybe (ℕ × ℕ)) → line_placed at l ≡ Nothing → row_of_line l (drop at s) ≡ none
+      by Nothing g = refl
+      by (Some (x, y)) g = absurd (let z : ◌≡◌ {A = ℕ} 0 1 = cc in omega arith)
 
-  module _ (end next : ℕ) (f : a ≡ Line end next) where
+  module _ (end next : ℕ) (f : a ≡ Some (end, next)) where
     stands : LineAt s at end next
     stands = (line_told s at end next).0 (sym e ∙ f)
 
@@ -131,11 +130,12 @@ module _ (s : List ℕ) (at : ℕ) (a : LineRead) (e : a ≡ line_placed at (lin
     unfolding first_row line_placed row_of_line
     first_by = by (line_here (drop at s)) (sym e ∙ f)
       where
-        by : (l : LineRead) → line_placed at l ≡ Line end next → row_of_line l (drop at s) ≡ row_by (row_here (take (end - at) (drop at s))) (drop next s)
-        by NoLine g = absurd (let z : ◌≡◌ {A = ℕ} 0 1 = cc in omega arith)
-        by (Line x y) g =
-            let p : at + x ≡ end = cc in
-            let q : at + y ≡ next = cc in
+        by : (l : Maybe (ℕ × ℕ)) → line_placed at l ≡ Some (end, next) → row_of_line l (drop at s) ≡ row_by (row_here (take (end - at) (drop at s))) (drop next s)
+        by Nothing g = absurd (let z : ◌≡◌ {A = ℕ} 0 1 = cc in omega arith)
+        by (Some (x, y)) g =
+            let z = some_pair_parts (at + x) end (at + y) next g in
+            let p : at + x ≡ end = z.0 in
+            let q : at + y ≡ next = z.1 in
             let w : x ≡ end - at = omega arith in
             let d : drop y (drop at s) ≡ drop next s = drop-drop y at s ∙ ap (λ (n : ℕ). drop n s) q in
             ap (λ (n : ℕ). row_by (row_here (take n (drop at s))) (drop y (drop at s))) w ∙ ap (row_by (row_here (take (end - at) (drop at s)))) d
@@ -156,11 +156,11 @@ module _ (s : List ℕ) (at : ℕ) (a : LineRead) (e : a ≡ line_placed at (lin
     }
 
 -- what is told of a place
-module _ (s : List ℕ) (at : ℕ) (r : RowPlace) (t : RowTold s at r) where
-  pub told_none : r ≡ NoRow → first_row (drop at s) ≡ none
+module _ (s : List ℕ) (at : ℕ) (r : Maybe (ℕ × ℕ)) (t : RowTold s at r) where
+  pub told_none : r ≡ Nothing → first_row (drop at s) ≡ none
   told_none e = subst (RowTold s at) e t
 
-  pub told_row : (end next : ℕ) → r ≡ Row end next → RowStands s at end next
+  pub told_row : (end next : ℕ) → r ≡ Some (end, next) → RowStands s at end next
   told_row end next e = subst (RowTold s at) e t
 
 -- a loop over the rows from place `at` on has come to place k

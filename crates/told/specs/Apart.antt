@@ -6,10 +6,8 @@ use Rattle.std.proofs.Math.Option.{Option, some, none}
 use Rattle.scope_graph.specs.Graph.{Query}
 use Rattle.scope_graph.specs.Rows.{PackedName, language}
 use Rattle.scope_graph.specs.Computed.{Found, found_none, found_one, found_several}
-use Rattle.text_field.specs.declared.NumberRead.{NumberRead}
-use Rattle.text_field.specs.declared.NumberRead.TheVariants.{Number, NoNumber}
-use Rattle.text_field.specs.declared.lines.LineRead.{LineRead}
-use Rattle.text_field.specs.declared.lines.LineRead.TheVariants.{Line, NoLine}
+use Rattle.std.specs.declared.option.Option.{Option as Maybe}
+use Rattle.std.specs.declared.option.Option.TheVariants.{Some, None as Nothing}
 use Rattle.text_field.specs.Lines.{line_here}
 use Rattle.text_field.specs.Number.{number_text}
 use Rattle.text_field.specs.Outcome.{Outcome, refused, done, and_then, refuse_if}
@@ -48,9 +46,9 @@ unfoldable pub end_by : ℕ → List ℕ → Read (Option NamedPair)
 end_by at [] = refused 10
 end_by at (x ∷ rest) = elim (is_end x) [ true ↦ done (some (record { at = at; end = x }), rest) | false ↦ refused 10 ]
 
-unfoldable pub pair_by : NumberRead → List ℕ → Read (Option NamedPair)
-pair_by (Number v width) s = end_by v (drop width s)
-pair_by NoNumber s = refused 10
+unfoldable pub pair_by : Maybe (ℕ × ℕ) → List ℕ → Read (Option NamedPair)
+pair_by (Some (v, width)) s = end_by v (drop width s)
+pair_by Nothing s = refused 10
 
 -- `awaits`: `-` or an open pair
 unfoldable pub dash_here : List ℕ → Read (Option NamedPair)
@@ -64,9 +62,9 @@ unfoldable pub row_by : Outcome PathRow → List ℕ → Option (PathRow × List
 row_by (refused n) rest = none
 row_by (done r) rest = some (r, rest)
 
-unfoldable pub row_of_line : LineRead → List ℕ → Option (PathRow × List ℕ)
-row_of_line (Line end next) s = row_by (row_here (take end s)) (drop next s)
-row_of_line NoLine s = none
+unfoldable pub row_of_line : Maybe (ℕ × ℕ) → List ℕ → Option (PathRow × List ℕ)
+row_of_line (Some (end, next)) s = row_by (row_here (take end s)) (drop next s)
+row_of_line Nothing s = none
 
 unfoldable pub first_row : List ℕ → Option (PathRow × List ℕ)
 first_row s = row_of_line (line_here s) s

@@ -8,7 +8,6 @@ mod rows;
 mod whole;
 mod words;
 
-pub use listing::{Listing, ListingRead, read_listing};
-pub use pairs::Awaited;
-pub use rows::{RowPlace, row_at};
+pub use listing::{Listing, read_listing};
+pub use rows::row_at;
 pub use whole::in_form;

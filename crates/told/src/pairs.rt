@@ -5,23 +5,9 @@ ghost use Rattle.told.specs.Delivered.{is_end};
 ghost use Rattle.told.specs.Apart.{end_by, pair_by, awaits_here};
 ghost use Rattle.told.specs.Steps.{awaits_meaning};
 
-use crate::places::{Place, past};
+use crate::places::past;
 use path_row::form::MOST_SCOPE;
-use text_field::{NumberRead, is_capital, read_number};
-
-// `-`, or a scope and the byte of an end.
-#[derive(Clone, Copy)]
-pub enum Awaited {
-    Dash,
-    Named(u64, u8),
-}
-
-// The same, and the place after it.
-#[derive(Clone, Copy)]
-pub enum AwaitsRead {
-    Read(Awaited, usize),
-    NoAwaits,
-}
+use text_field::{is_capital, read_number};
 
 // May the byte be an end: `$` or a letter A to Z?
 fn is_end(x: u8) -> bool
@@ -30,39 +16,34 @@ fn is_end(x: u8) -> bool
     x == b'$' || is_capital(x)
 }
 
-// The pair of a scope and the end at a place.
-fn end_after(s: &[u8], scope: u64, at: usize) -> AwaitsRead
+// The pair of a scope and the end at a place, and the place after it.
+fn end_after(s: &[u8], scope: u64, at: usize) -> Option<(Option<(u64, u8)>, usize)>
     ensures answer { awaits_meaning s.now result ≡ end_by scope (drop at s.now) }
 {
-    if s.len() <= at {
-        return AwaitsRead::NoAwaits;
-    }
-    let x = s[at];
+    let x = *s.get(at)?;
     if !is_end(x) {
-        return AwaitsRead::NoAwaits;
+        return None;
     }
-    AwaitsRead::Read(Awaited::Named(scope, x), at + 1)
+    Some((Some((scope, x)), at + 1))
 }
 
-// The pair at a place.
-fn read_pair(s: &[u8], at: usize) -> AwaitsRead
+// The pair at a place, and the place after it.
+fn read_pair(s: &[u8], at: usize) -> Option<(Option<(u64, u8)>, usize)>
     ensures answer { awaits_meaning s.now result ≡ pair_by (number_up_to most_scope (drop at s.now)) (drop at s.now) }
 {
-    let NumberRead::Number(scope, next) = read_number(s, at) else {
-        return AwaitsRead::NoAwaits;
-    };
+    let (scope, next) = read_number(s, at)?;
     if MOST_SCOPE < scope {
-        return AwaitsRead::NoAwaits;
+        return None;
     }
     end_after(s, scope, next)
 }
 
-// `-` or a pair, at a place.
-pub(crate) fn read_awaits(s: &[u8], at: usize) -> AwaitsRead
+// `-` (none) or a pair, a scope and the byte of an end, at a place; and the place after it.
+pub(crate) fn read_awaits(s: &[u8], at: usize) -> Option<(Option<(u64, u8)>, usize)>
     ensures answer { awaits_meaning s.now result ≡ awaits_here (drop at s.now) }
 {
-    let Place::At(next) = past(s, at, b"-") else {
-        return read_pair(s, at);
-    };
-    AwaitsRead::Read(Awaited::Dash, next)
+    match past(s, at, b"-") {
+        Some(next) => Some((None, next)),
+        None => read_pair(s, at),
+    }
 }

@@ -1,45 +1,26 @@
 // The word under `found`.
 ghost use Rattle.std.specs.Prelude.{◌≡◌, drop};
-ghost use Rattle.scope_graph.specs.Computed.{found_one, found_several};
-ghost use Rattle.told.specs.Apart.{or_else, word_here, found_here};
+ghost use Rattle.follow.specs.Text.{found_text};
+ghost use Rattle.resolution.specs.Asked.{found_meaning};
+ghost use Rattle.told.specs.Apart.{word_here, found_here};
 ghost use Rattle.told.specs.Steps.{word_meaning};
 
-use crate::places::{Place, past};
+use crate::places::past;
 use resolution::Found;
 
-// One of the three words, and the place after it.
-#[derive(Clone, Copy)]
-pub enum FoundRead {
-    Word(Found, usize),
-    NoWord,
-}
-
-// `several`, if it stands at the place.
-fn read_several(s: &[u8], at: usize) -> FoundRead
-    ensures answer { word_meaning s.now result ≡ word_here found_several (drop at s.now) }
+// One of the three words, if it stands at the place, and the place after it.
+fn read_word(s: &[u8], at: usize, word: &[u8], found: Found) -> Option<(Found, usize)>
+    requires word { word.now ≡ found_text (found_meaning found) }
+    ensures answer { word_meaning s.now result ≡ word_here (found_meaning found) (drop at s.now) }
 {
-    let Place::At(next) = past(s, at, b"several") else {
-        return FoundRead::NoWord;
-    };
-    FoundRead::Word(Found::Several, next)
+    Some((found, past(s, at, word)?))
 }
 
-// `one` or `several`.
-fn read_one(s: &[u8], at: usize) -> FoundRead
-    ensures answer { word_meaning s.now result ≡ or_else (word_here found_one (drop at s.now)) (word_here found_several (drop at s.now)) }
-{
-    let Place::At(next) = past(s, at, b"one") else {
-        return read_several(s, at);
-    };
-    FoundRead::Word(Found::One, next)
-}
-
-// The word at a place: `none`, `one` or `several`.
-pub(crate) fn read_found(s: &[u8], at: usize) -> FoundRead
+// The word at a place, `none`, `one` or `several`, and the place after it.
+pub(crate) fn read_found(s: &[u8], at: usize) -> Option<(Found, usize)>
     ensures answer { word_meaning s.now result ≡ found_here (drop at s.now) }
 {
-    let Place::At(next) = past(s, at, b"none") else {
-        return read_one(s, at);
-    };
-    FoundRead::Word(Found::None, next)
+    read_word(s, at, b"none", Found::None)
+        .or_else(|| read_word(s, at, b"one", Found::One))
+        .or_else(|| read_word(s, at, b"several", Found::Several))
 }

@@ -1,13 +1,13 @@
 // A text put into a form of file.
 use crate::answered::{unwritten, written};
-use crate::lent::{BYTE, BYTES, bytes, front};
+use crate::lent::{BYTE, BYTES, front, part};
 use crate::say;
 use conversion::{to_new, to_old};
 use graph_table::Form;
-use text_field::Answer;
+use text_field::Refusal;
 
 // A text put into a form.
-fn put_into(form: Form, text: &[u8], out: &mut [u8]) -> Answer {
+fn put_into(form: Form, text: &[u8], out: &mut [u8]) -> Result<usize, Refusal> {
     match form {
         Form::Old => to_old(text, out),
         Form::Kinds => to_new(text, out),
@@ -26,10 +26,10 @@ fn other(form: Form) -> Form {
 fn gives(form: Form, text: &[u8], due: &[u8]) -> bool {
     let mut again = [0u8; 32768];
     let a = put_into(form, text, front(&mut again, due.len()));
-    let Answer::Written(n) = a else {
+    let Ok(n) = a else {
         return false;
     };
-    check::same(bytes(&again, 0, n), due)
+    check::same(part(&again, 0, n), due)
 }
 
 // What came out is the text itself, or it goes back to it.
@@ -41,13 +41,13 @@ fn back(form: Form, text: &[u8], made: &[u8]) {
 }
 
 // What came out of a text, and what the lent bytes hold.
-fn converted(a: Answer, form: Form, text: &[u8], lent: &[u8]) {
+fn converted(a: Result<usize, Refusal>, form: Form, text: &[u8], lent: &[u8]) {
     match a {
-        Answer::Written(n) => {
+        Ok(n) => {
             written(b"converted", n, lent);
-            back(form, text, bytes(lent, 0, n));
+            back(form, text, part(lent, 0, n));
         }
-        Answer::Refused(k) => unwritten(k, lent),
+        Err(k) => unwritten(k, lent),
     }
 }
 
@@ -55,5 +55,5 @@ fn converted(a: Answer, form: Form, text: &[u8], lent: &[u8]) {
 pub fn converting(form: Form, text: &[u8], room: usize) {
     let mut out = [BYTE; BYTES];
     let a = put_into(form, text, front(&mut out, room));
-    converted(a, form, text, bytes(&out, 0, room));
+    converted(a, form, text, part(&out, 0, room));
 }

@@ -1,18 +1,17 @@
 // The lawful beginnings that a query follows: their number alone, and beside its listing.
-use crate::lent::{BYTE, BYTES, bytes, front};
+use crate::lent::{BYTE, BYTES, front, part};
 use crate::listings::shown;
 use crate::say;
-use beginnings::{Counted, count, listing_counted};
+use beginnings::{count, listing_counted};
 
 // What the lent number holds before a call: more than any count.
 const UNSAID: u64 = 2000000000;
 
 // The number alone.
 pub fn counting(text: &[u8], query: usize) {
-    let c = count(text, query);
-    match c {
-        Counted::Count(n) => say::told(b"count ", n),
-        Counted::Refused(k) => say::refused(k),
+    match count(text, query) {
+        Ok(n) => say::told(b"count ", n),
+        Err(k) => say::refused(k),
     }
     say::line();
 }
@@ -22,7 +21,7 @@ pub fn followed(text: &[u8], query: usize, room: usize) {
     let mut out = [BYTE; BYTES];
     let mut number = UNSAID;
     let a = listing_counted(text, query, front(&mut out, room), &mut number);
-    shown(b"listed", a, bytes(&out, 0, room));
+    shown(b"listed", a, part(&out, 0, room));
     if number == UNSAID {
         return say::word(b"number kept\n");
     }

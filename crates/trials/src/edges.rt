@@ -1,6 +1,6 @@
 // The rows that leave a scope, found in cells that need be no graph's.
 use crate::input::table_of;
-use crate::lent::{CELLS, cells};
+use crate::lent::{CELLS, part};
 use crate::say;
 use graph_table::next_row;
 
@@ -22,6 +22,6 @@ pub fn finding(body: &[u8], s: usize) {
     let mut given = [0u64; CELLS];
     let m = table_of(body, &mut given);
     say::word(b"found");
-    places(cells(&given, m), s as u64);
+    places(part(&given, 0, m), s as u64);
     say::line();
 }

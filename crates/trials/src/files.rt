@@ -1,43 +1,43 @@
 // Gym files: a text read, a graph table written or tested, the name that a query seeks.
 use crate::answered::{unwritten, written};
 use crate::input::table_of;
-use crate::lent::{BYTE, BYTES, CELL, CELLS, bytes, cells, front, front_cells};
+use crate::lent::{BYTE, BYTES, CELL, CELLS, front, part};
 use crate::{lent, say};
 use graph_file::{name_sought, read, write};
 use graph_rows::table_refusal;
-use text_field::Answer;
+use text_field::Refusal;
 
 // Does writing these cells give this very text, in a buffer of its length?
 fn written_back(table: &[u64], text: &[u8]) -> bool {
     let mut out = [0u8; BYTES];
     let a = write(table, front(&mut out, text.len()));
-    let Answer::Written(m) = a else {
+    let Ok(m) = a else {
         return false;
     };
-    check::same(bytes(&out, 0, m), text)
+    check::same(part(&out, 0, m), text)
 }
 
 // Does reading this text give these very cells, in a table of their length?
 fn read_back(text: &[u8], given: &[u64]) -> bool {
     let mut table = [0u64; CELLS];
-    let a = read(text, front_cells(&mut table, given.len()));
-    let Answer::Written(m) = a else {
+    let a = read(text, front(&mut table, given.len()));
+    let Ok(m) = a else {
         return false;
     };
-    lent::same(cells(&table, m), given)
+    part(&table, 0, m) == given
 }
 
 // What reading a text answered, and what the lent cells hold.
-fn read_shown(a: Answer, text: &[u8], lent: &[u64]) {
+fn read_shown(a: Result<usize, Refusal>, text: &[u8], lent: &[u64]) {
     match a {
-        Answer::Written(n) => {
-            say::done(b"read", n, lent::cells_sum(cells(lent, n)));
-            say::rest(lent::cells_kept(lent, n));
-            say::back(written_back(cells(lent, n), text));
+        Ok(n) => {
+            say::done(b"read", n, lent::cells_sum(part(lent, 0, n)));
+            say::rest(lent::kept(lent, n, CELL));
+            say::back(written_back(part(lent, 0, n), text));
         }
-        Answer::Refused(k) => {
+        Err(k) => {
             say::refused(k);
-            say::all(lent::cells_kept(lent, 0));
+            say::all(lent::kept(lent, 0, CELL));
         }
     }
 }
@@ -45,18 +45,18 @@ fn read_shown(a: Answer, text: &[u8], lent: &[u64]) {
 // A text read into a lent table of `room` cells.
 pub fn reading(text: &[u8], room: usize) {
     let mut table = [CELL; CELLS];
-    let a = read(text, front_cells(&mut table, room));
-    read_shown(a, text, cells(&table, room));
+    let a = read(text, front(&mut table, room));
+    read_shown(a, text, part(&table, 0, room));
 }
 
 // What writing cells answered, and what the lent bytes hold.
-fn write_shown(a: Answer, given: &[u64], lent: &[u8]) {
+fn write_shown(a: Result<usize, Refusal>, given: &[u64], lent: &[u8]) {
     match a {
-        Answer::Written(n) => {
+        Ok(n) => {
             written(b"written", n, lent);
-            say::back(read_back(bytes(lent, 0, n), given));
+            say::back(read_back(part(lent, 0, n), given));
         }
-        Answer::Refused(k) => unwritten(k, lent),
+        Err(k) => unwritten(k, lent),
     }
 }
 
@@ -64,21 +64,25 @@ fn write_shown(a: Answer, given: &[u64], lent: &[u8]) {
 fn writing(given: &[u64], room: usize) {
     let mut out = [BYTE; BYTES];
     let a = write(given, front(&mut out, room));
-    write_shown(a, given, bytes(&out, 0, room));
+    write_shown(a, given, part(&out, 0, room));
 }
 
 // Cells that stand in a body in hexadecimal, written.
 pub fn writing_of(body: &[u8], room: usize) {
     let mut given = [0u64; CELLS];
     let m = table_of(body, &mut given);
-    writing(cells(&given, m), room)
+    writing(part(&given, 0, m), room)
 }
 
 // Cells that stand in a body in hexadecimal, tested: the refusal's number, 0 if they are a graph.
 pub fn testing(body: &[u8]) {
     let mut given = [0u64; CELLS];
     let m = table_of(body, &mut given);
-    say::told(b"tested ", table_refusal(cells(&given, m)));
+    let number = match table_refusal(part(&given, 0, m)) {
+        Ok(()) => 0,
+        Err(refusal) => refusal.number(),
+    };
+    say::told(b"tested ", number);
     say::line();
 }
 

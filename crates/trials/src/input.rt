@@ -1,32 +1,19 @@
 // The cases as they stand in the input.
-
-// A sum that stops at the largest number.
-pub fn plus(a: usize, b: usize) -> usize {
-    if usize::MAX - a < b {
-        usize::MAX
-    } else {
-        a + b
-    }
-}
+use crate::lent::put;
+use text_field::get_or;
 
 // The byte at a place, past the end an end of line.
 fn byte_at(s: &[u8], i: usize) -> u8 {
-    if i < s.len() { s[i] } else { 10 }
+    get_or(s, i, b'\n')
 }
 
 // The digit that a byte stands for, 16 for any other byte.
 fn digit(x: u8) -> u8 {
-    if 48 <= x && x <= 57 {
-        return x - 48;
+    match x {
+        b'0'..=b'9' => x - b'0',
+        b'a'..=b'f' => x - b'a' + 10,
+        _ => 16,
     }
-    if 97 <= x && x <= 102 {
-        return x - 87;
-    }
-    16
-}
-
-fn wide(x: u8) -> u64 {
-    x as u64
 }
 
 // The number with one more digit; of a number too long the last sixteen digits count.
@@ -36,27 +23,23 @@ fn with_digit(v: u64, d: u64) -> u64 {
 
 // The place after the digits that stand at a place.
 fn digits_end(s: &[u8], at: usize) -> usize {
-    let mut i = at;
-    while i < s.len() {
+    for i in at..s.len() {
         if digit(s[i]) == 16 {
             return i;
         }
-        i += 1;
     }
-    i
+    at.max(s.len())
 }
 
 // Their number.
 fn number(s: &[u8], at: usize) -> u64 {
     let mut v = 0;
-    let mut i = at;
-    while i < s.len() {
+    for i in at..s.len() {
         let d = digit(s[i]);
         if d == 16 {
             return v;
         }
-        v = with_digit(v, wide(d));
-        i += 1;
+        v = with_digit(v, u64::from(d));
     }
     v
 }
@@ -96,20 +79,11 @@ pub fn head_of(line: &[u8]) -> Head {
 // The next n bytes of the input and the LF behind them put at a place: was there room for them, and
 // did all come?
 pub fn read_part(space: &mut [u8], at: usize, n: usize) -> bool {
-    let size = plus(n, 1);
-    if space.len() < at {
-        return false;
-    }
-    if space.len() - at < size {
+    let size = n.saturating_add(1);
+    if space.len() < at || space.len() - at < size {
         return false;
     }
     io::read_full(0, &mut space[at..at + size]) == size
-}
-
-fn put(table: &mut [u64], n: usize, x: u64) {
-    if n < table.len() {
-        table[n] = x;
-    }
 }
 
 // The numbers of a body, each followed by one byte, put into the table; how many there are.
@@ -117,12 +91,12 @@ pub fn table_of(body: &[u8], table: &mut [u64]) -> usize {
     let mut n = 0;
     let mut i = 0;
     while i < body.len() {
-        let next = plus(digits_end(body, i), 1);
+        let next = digits_end(body, i).saturating_add(1);
         if next <= i {
             return n;
         }
         put(table, n, number(body, i));
-        n = plus(n, 1);
+        n = n.saturating_add(1);
         i = next;
     }
     n

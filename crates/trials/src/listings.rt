@@ -1,19 +1,19 @@
 // Listings and summaries of a text.
 use crate::answered::{unwritten, written};
-use crate::lent::{BYTE, BYTES, bytes, front};
+use crate::lent::{BYTE, BYTES, front, part};
 use crate::say;
 use resolution::{listing, summary};
-use text_field::Answer;
+use text_field::Refusal;
 
 // What was answered, and what the lent bytes hold: a short text is printed whole.
-pub fn shown(verb: &[u8], a: Answer, lent: &[u8]) {
+pub fn shown(verb: &[u8], a: Result<usize, Refusal>, lent: &[u8]) {
     match a {
-        Answer::Written(n) => {
+        Ok(n) => {
             written(verb, n, lent);
             say::line();
-            say::short(bytes(lent, 0, n));
+            say::short(part(lent, 0, n));
         }
-        Answer::Refused(k) => unwritten(k, lent),
+        Err(k) => unwritten(k, lent),
     }
 }
 
@@ -21,22 +21,20 @@ pub fn shown(verb: &[u8], a: Answer, lent: &[u8]) {
 pub fn listed(text: &[u8], query: usize, room: usize) {
     let mut out = [BYTE; BYTES];
     let a = listing(text, query, front(&mut out, room));
-    shown(b"listed", a, bytes(&out, 0, room));
+    shown(b"listed", a, part(&out, 0, room));
 }
 
 // The summary in a lent buffer of `room` bytes.
 pub fn summed(text: &[u8], room: usize) {
     let mut out = [BYTE; BYTES];
     let a = summary(text, front(&mut out, room));
-    shown(b"summed", a, bytes(&out, 0, room));
+    shown(b"summed", a, part(&out, 0, room));
 }
 
 // The listings of the first queries.
 pub fn all_listed(text: &[u8], queries: usize, room: usize) {
-    let mut i = 0;
-    while i < queries {
+    for i in 0..queries {
         listed(text, i, room);
-        i += 1;
     }
 }
 

@@ -22,10 +22,11 @@ mod say;
 mod seen;
 
 use graph_table::Form;
-use input::{Head, head_of, plus, read_part};
-use lent::bytes;
+use input::{Head, head_of, read_part};
+use lent::part;
 
-// A case of a kind that has a text alone.
+// A case of a kind that has a text alone. A kind stays the letter that stands in the stored case: as
+// an enum, each would be named once more to no use.
 fn text_case(kind: u8, text: &[u8], number: usize, room: usize) {
     match kind {
         b'r' => files::reading(text, room),
@@ -54,13 +55,13 @@ fn case(h: Head, body: &[u8]) {
     let kind = h.kind;
     let room = h.room;
     let number = h.number;
-    let middle = plus(h.text, h.row);
-    let text = bytes(body, 0, h.text);
-    let first = bytes(body, h.text, middle);
+    let middle = h.text.saturating_add(h.row);
+    let text = part(body, 0, h.text);
+    let first = part(body, h.text, middle);
     match kind {
         b'p' => rows::apart(first, room),
-        b'c' => rows::comparing(text, first, bytes(body, middle, body.len()), number, room),
-        b'h' => drawn::taking(text, bytes(body, middle, body.len()), room),
+        b'c' => rows::comparing(text, first, part(body, middle, body.len()), number, room),
+        b'h' => drawn::taking(text, part(body, middle, body.len()), room),
         b'j' => judged::judging(text, number, first, room),
         b'x' => ruled_files::ruling(text, first, room),
         b'v' => numbered::going_back(text, first, room),
@@ -80,8 +81,8 @@ fn one_case(h: Head, space: &mut [u8]) -> bool {
     if !read_part(space, h.keep, h.more) {
         return false;
     }
-    say::title(bytes(&title, 0, h.title));
-    case(h, bytes(space, 0, plus(h.keep, h.more)));
+    say::title(part(&title, 0, h.title));
+    case(h, part(space, 0, h.keep.saturating_add(h.more)));
     true
 }
 
@@ -94,12 +95,12 @@ fn next_case(space: &mut [u8]) -> bool {
     one_case(head_of(&line), space)
 }
 
-// Nothing says that the input ends, so the loop counts its turns down from a number that no run
-// uses up.
+// Nothing says that the input ends, so the loop counts its turns, up to a number that no run uses up.
 fn cases(space: &mut [u8]) {
-    let mut turns = u64::MAX;
-    while turns > 0 && next_case(space) {
-        turns -= 1;
+    for _ in 0..u64::MAX {
+        if !next_case(space) {
+            return;
+        }
     }
 }
 

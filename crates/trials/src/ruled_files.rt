@@ -1,5 +1,5 @@
 // A text with the path rules of an expression.
-use crate::lent::{BYTE, BYTES, bytes, front};
+use crate::lent::{BYTE, BYTES, front, part};
 use crate::listings::shown;
 use ruled::rules;
 
@@ -7,5 +7,5 @@ use ruled::rules;
 pub fn ruling(text: &[u8], expression: &[u8], room: usize) {
     let mut out = [BYTE; BYTES];
     let a = rules(text, expression, front(&mut out, room));
-    shown(b"ruled", a, bytes(&out, 0, room));
+    shown(b"ruled", a, part(&out, 0, room));
 }

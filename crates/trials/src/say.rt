@@ -1,4 +1,5 @@
 // The words of the output.
+use text_field::Refusal;
 
 pub fn word(s: &[u8]) {
     io::write_all(1, s);
@@ -23,8 +24,8 @@ pub fn told(words: &[u8], v: u64) {
     number(v);
 }
 
-pub fn refused(n: u64) {
-    told(b"refused ", n);
+pub fn refused(refusal: Refusal) {
+    told(b"refused ", refusal.number());
 }
 
 // A word with the number of steps that comes with it.

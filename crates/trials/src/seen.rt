@@ -1,5 +1,5 @@
 // Who sees a declaration of a text.
-use crate::lent::{BYTE, BYTES, bytes, front};
+use crate::lent::{BYTE, BYTES, front, part};
 use crate::listings::shown;
 use readers::readers;
 
@@ -7,5 +7,5 @@ use readers::readers;
 pub fn seeing(text: &[u8], place: usize, room: usize) {
     let mut out = [BYTE; BYTES];
     let a = readers(text, place, front(&mut out, room));
-    shown(b"readers", a, bytes(&out, 0, room));
+    shown(b"readers", a, part(&out, 0, room));
 }

@@ -6,6 +6,7 @@
 ghost use Rattle.std.specs.Prelude.{◌≤◌};
 
 use accepting::{Verdict, accept};
+use text_field::Refusal;
 
 // The line above a case, four numbers of five digits, each followed by one byte: the title's
 // length; how many bytes stay of the case before, and how many come after them; how many of them all
@@ -15,23 +16,18 @@ const HEAD: usize = 24;
 fn digit(x: u8) -> usize
     ensures small { result ≤ 9 }
 {
-    if x < 48 {
-        return 0;
+    match x {
+        b'0'..=b'9' => usize::from(x - b'0'),
+        _ => 0,
     }
-    if 57 < x {
-        return 0;
-    }
-    (x - 48) as usize
 }
 
 // The bytes from one place up to another; none if these are not places of the text.
 fn part(s: &[u8], from: usize, to: usize) -> &[u8] {
-    if from <= to {
-        if to <= s.len() {
-            return &s[from..to];
-        }
+    if to < from || s.len() < to {
+        return &s[..0];
     }
-    &s[..0]
+    &s[from..to]
 }
 
 // The number of five digits.
@@ -48,28 +44,25 @@ fn number(s: &[u8]) -> usize
 // The next n bytes of the input and the LF after them put at a place: was there room for them, and
 // did all come?
 fn read_part(space: &mut [u8], at: usize, n: usize) -> bool {
-    if space.len() < at {
-        return false;
-    }
-    if space.len() - at <= n {
+    if space.len() < at || space.len() - at <= n {
         return false;
     }
     io::read_full(0, &mut space[at..at + n + 1]) == n + 1
 }
 
-fn say(v: Verdict) {
+fn say(v: Result<Verdict, Refusal>) {
     match v {
-        Verdict::Accepted => {
+        Ok(Verdict::Accepted) => {
             io::write_all(1, b"accepted\n");
         }
-        Verdict::Wrong(i) => {
+        Ok(Verdict::Wrong(i)) => {
             io::write_all(1, b"not accepted ");
             io::print_decimal(1, i as u64);
             io::write_all(1, b"\n");
         }
-        Verdict::Refused(n) => {
+        Err(refusal) => {
             io::write_all(1, b"refused ");
-            io::print_decimal(1, n);
+            io::print_decimal(1, refusal.number());
             io::write_all(1, b"\n");
         }
     }
@@ -103,12 +96,12 @@ fn next_case(space: &mut [u8]) -> bool {
     one_case(&line, space)
 }
 
-// Nothing says that the input ends, so the loop counts its turns down from a number that no run
-// uses up.
+// Nothing says that the input ends, so the loop counts its turns, up to a number that no run uses up.
 fn cases(space: &mut [u8]) {
-    let mut turns = u64::MAX;
-    while turns > 0 && next_case(space) {
-        turns -= 1;
+    for _ in 0..u64::MAX {
+        if !next_case(space) {
+            return;
+        }
     }
 }
 

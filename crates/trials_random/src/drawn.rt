@@ -172,13 +172,11 @@ fn drawn(g: &[u8], s: usize, i: usize, r: usize) -> usize {
 // number drawn.
 pub fn draw(g: &mut [u8], seed: usize) -> usize {
     let mut x = seed;
-    let mut k = 0;
-    while k < SIZE {
+    for k in 0..SIZE {
         x = next(x);
         let s = section(k);
         let v = drawn(g, s, minus(k, s), x / 256);
         set(g, k, v);
-        k += 1;
     }
     x
 }

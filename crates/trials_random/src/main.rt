@@ -12,7 +12,7 @@ use crate::enumerator::gym::SIZE;
 use crate::enumerator::paths::{MOST, ROOM};
 use crate::enumerator::{completed, due, gym, paths, rows, text};
 use resolution::listing;
-use text_field::Answer;
+use text_field::Refusal;
 
 const GYMS: usize = 6000;
 
@@ -31,10 +31,16 @@ fn awaits_place(pair: usize) -> usize {
 }
 
 // What the library answered and wrote, held to what is due.
-fn compare_answer(counts: &mut [u64], text: &[u8], due: &[u8], a: Answer, out: &[u8]) {
+fn compare_answer(
+    counts: &mut [u64],
+    text: &[u8],
+    due: &[u8],
+    a: Result<usize, Refusal>,
+    out: &[u8],
+) {
     match a {
-        Answer::Written(n) => say::compare(counts, text, due, part(out, 0, n)),
-        Answer::Refused(_) => say::compare(counts, text, due, b"refused\n"),
+        Ok(n) => say::compare(counts, text, due, part(out, 0, n)),
+        Err(_) => say::compare(counts, text, due, b"refused\n"),
     }
 }
 
@@ -120,10 +126,8 @@ fn query(counts: &mut [u64], g: &[u8], text: &[u8], i: usize) {
 // All queries of a gym.
 fn queries(counts: &mut [u64], g: &[u8], text: &[u8]) {
     let n = gym::scopes(g) % 16 * 2;
-    let mut i = 0;
-    while i < n {
+    for i in 0..n {
         query(counts, g, text, i);
-        i += 1;
     }
 }
 
@@ -140,10 +144,8 @@ fn one_gym(counts: &mut [u64], seed: usize) -> usize {
 
 fn gyms(counts: &mut [u64]) {
     let mut x = 20260114;
-    let mut i = 0;
-    while i < GYMS {
+    for _ in 0..GYMS {
         x = one_gym(counts, x);
-        i += 1;
     }
 }
 

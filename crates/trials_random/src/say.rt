@@ -29,7 +29,7 @@ pub const COUNTS: usize = 12;
 const SHOWN: u64 = 3;
 
 fn count(counts: &[u64], i: usize) -> u64 {
-    if i < counts.len() { counts[i] } else { 0 }
+    counts.get(i).copied().unwrap_or(0)
 }
 
 fn keep(counts: &mut [u64], i: usize, x: u64) {
@@ -38,13 +38,9 @@ fn keep(counts: &mut [u64], i: usize, x: u64) {
     }
 }
 
-fn sum(a: u64, b: u64) -> u64 {
-    if u64::MAX - a < b { u64::MAX } else { a + b }
-}
-
 pub fn add(counts: &mut [u64], i: usize, n: usize) {
     let x = count(counts, i);
-    keep(counts, i, sum(x, n as u64));
+    keep(counts, i, x.saturating_add(n as u64));
 }
 
 fn print(s: &[u8]) {
@@ -110,9 +106,7 @@ fn line(counts: &[u64], i: usize) {
 }
 
 pub fn all(counts: &[u64]) {
-    let mut i = 0;
-    while i < COUNTS {
+    for i in 0..COUNTS {
         line(counts, i);
-        i += 1;
     }
 }

@@ -7,8 +7,10 @@ use mathlib.Core.Bool.{Bool, true, false}
 use native.Mathlib.Omega.{arith}
 use lib.ListN.{length, take, drop}
 use Rattle.scope_graph.specs.Language.{◌∈◌}
-use Rattle.text_field.specs.declared.answer.Answer.{Answer}
-use Rattle.text_field.specs.declared.answer.Answer.TheVariants.{Refused, Written}
+use Rattle.std.specs.declared.result.Result.{Result}
+use Rattle.std.specs.declared.result.Result.TheVariants.{Ok, Err}
+use Rattle.text_field.specs.declared.refusal.Refusal.{Refusal}
+use Rattle.text_field.specs.Refusal.{number_of}
 use Rattle.text_field.specs.Outcome.{Outcome, refused, done, and_then, refuse_if}
 use Rattle.text_field.specs.Answer.{answer, leaves, answer_of}
 use Rattle.text_field.proofs.AnswerLaws.{answer_refused, leaves_refused}
@@ -21,8 +23,9 @@ use Rattle.graph_file.specs.File.{WasRead, write_text}
 use Rattle.graph_file.specs.Reader.{table_read, WrittenIn}
 use Rattle.graph_table.specs.Sections.{leading, start_of}
 use Rattle.graph_change.specs.Changed.{with_rows}
-use Rattle.dot_text.specs.declared.whole.DrawingRead.{DrawingRead}
-use Rattle.dot_text.specs.declared.whole.DrawingRead.TheVariants.{Parts, NoDrawing}
+use Rattle.std.specs.Result.{result_unwrap_or}
+use Rattle.std.specs.declared.option.Option.{Option}
+use Rattle.std.specs.declared.option.Option.TheVariants.{Some, None}
 use Rattle.dot_text.specs.Grammar.{DrawnEdge, Drawing}
 use Rattle.dot_text.specs.Reading.{scopes_next, edges_next, parts_of, drawn_at, drawn}
 use Rattle.dot_text.specs.Answers.{places_of}
@@ -63,7 +66,7 @@ module _ (cells : List ℕ) (was : WasRead cells) where
   scopes_few n e = let most = (accepted cells formed).scopes_most in omega arith
 
   -- the edges taken out
-  module _ (r : Answer) (u t : List ℕ) (told : answer_of r ≡ answer (done (with_rows edge_section [] cells)) (length t))
+  module _ (r : Result ℕ Refusal) (u t : List ℕ) (told : answer_of r ≡ answer (done (with_rows edge_section [] cells)) (length t))
       (left : u ≡ leaves (done (with_rows edge_section [] cells)) t) (room : table_cells ≤ length t) where
     cleared : (table_read r u ≡ done (without_edges cells)) × WrittenIn r u
     unfolding without_edges
@@ -71,13 +74,21 @@ module _ (cells : List ℕ) (was : WasRead cells) where
         let most = size_most (with_rows edge_section [] cells) (none_left cells formed).formed in
         changed_read r u t (with_rows edge_section [] cells) told left (omega arith)
 
-    pub cleared_never : {A : Type 0} (k : ℕ) → r ≡ Refused k → A
+    cleared_never : {A : Type 0} (k : Refusal) → r ≡ Err k → A
     unfolding table_read
-    cleared_never k h = absurd (not_done k (without_edges cells) (sym (ap (λ (z : Answer). table_read z u) h) ∙ cleared.0))
+    cleared_never k h = absurd (not_done (number_of k) (without_edges cells) (sym (ap (λ (z : Result ℕ Refusal). table_read z u) h) ∙ cleared.0))
 
-    pub cleared_cells : (m : ℕ) → r ≡ Written m → (take m u ≡ without_edges cells) × (m ≤ length u)
+    cleared_cells : (m : ℕ) → r ≡ Ok m → (take m u ≡ without_edges cells) × (m ≤ length u)
     unfolding table_read
-    cleared_cells m h = (done_same (take m u) (without_edges cells) (sym (ap (λ (z : Answer). table_read z u) h) ∙ cleared.0), cleared.1 m h)
+    cleared_cells m h = (done_same (take m u) (without_edges cells) (sym (ap (λ (z : Result ℕ Refusal). table_read z u) h) ∙ cleared.0), cleared.1 m h)
+
+    -- how many cells are left, whatever stands in for a refusal
+    pub cleared_left : (n : ℕ) → (take (result_unwrap_or r n) u ≡ without_edges cells) × (result_unwrap_or r n ≤ length u)
+    cleared_left n = by r refl
+      where
+        by : (z : Result ℕ Refusal) → r ≡ z → (take (result_unwrap_or r n) u ≡ without_edges cells) × (result_unwrap_or r n ≤ length u)
+        by (Ok m) h = rw h (cleared_cells m h)
+        by (Err k) h = cleared_never k h
 
   -- the table without edges is ready for others
   module _ (labels scopes : ℕ) (a : labels ≡ length (letters_of cells)) (b : scopes ≡ scopes_of cells) where
@@ -99,22 +110,22 @@ module _ (cells : List ℕ) (was : WasRead cells) where
     cleared_ready c e = (subst (Ready labels scopes) (sym e) bare_ready, ap (λ (z : List ℕ). length (rows_in edge_section z)) e ∙ ap length none_rows)
 
   -- the text of the table with the edges
-  module _ (es : List DrawnEdge) (c : List ℕ) (e : c ≡ without_edges cells) (r : Answer) (u : List ℕ) (put : table_read r u ≡ edges_put c es) where
+  module _ (es : List DrawnEdge) (c : List ℕ) (e : c ≡ without_edges cells) (r : Result ℕ Refusal) (u : List ℕ) (put : table_read r u ≡ edges_put c es) where
     this : table_read r u ≡ edges_put (without_edges cells) es
     this = put ∙ ap (λ (z : List ℕ). edges_put z es) e
 
-    pub put_refused : (out : List ℕ) (k : ℕ) → r ≡ Refused k → (refused k ≡ answer (edges_text cells es) (length out)) × (out ≡ leaves (edges_text cells es) out)
+    pub put_refused : (out : List ℕ) (k : Refusal) → r ≡ Err k → (refused (number_of k) ≡ answer (edges_text cells es) (length out)) × (out ≡ leaves (edges_text cells es) out)
     unfolding table_read edges_text
     put_refused out k h =
-        let o : edges_text cells es ≡ refused k = sym (then_none k (edges_put (without_edges cells) es) write_text (sym this ∙ ap (λ (z : Answer). table_read z u) h)) in
-        (answer_refused (edges_text cells es) k (length out) o, leaves_refused (edges_text cells es) k out o)
+        let o : edges_text cells es ≡ refused (number_of k) = sym (then_none (number_of k) (edges_put (without_edges cells) es) write_text (sym this ∙ ap (λ (z : Result ℕ Refusal). table_read z u) h)) in
+        (answer_refused (edges_text cells es) (number_of k) (length out) o, leaves_refused (edges_text cells es) (number_of k) out o)
 
-    pub put_written : (out : List ℕ) (m : ℕ) → r ≡ Written m → (a : Outcome ℕ) (o : List ℕ)
+    pub put_written : (out : List ℕ) (m : ℕ) → r ≡ Ok m → (a : Outcome ℕ) (o : List ℕ)
         → (a ≡ answer (write_text (take m u)) (length out)) × (o ≡ leaves (write_text (take m u)) out)
         → (a ≡ answer (edges_text cells es) (length out)) × (o ≡ leaves (edges_text cells es) out)
     unfolding table_read edges_text
     put_written out m h a o w =
-        let f : write_text (take m u) ≡ edges_text cells es = then_some (take m u) (edges_put (without_edges cells) es) write_text (sym this ∙ ap (λ (z : Answer). table_read z u) h) in
+        let f : write_text (take m u) ≡ edges_text cells es = then_some (take m u) (edges_put (without_edges cells) es) write_text (sym this ∙ ap (λ (z : Result ℕ Refusal). table_read z u) h) in
         (w.0 ∙ ap (λ (z : Outcome (List ℕ)). answer z (length out)) f, w.1 ∙ ap (λ (z : Outcome (List ℕ)). leaves z out) f)
 
   -- it is the text that the definition names
@@ -129,23 +140,23 @@ module _ (cells : List ℕ) (was : WasRead cells) where
       twice (done rows) = ap write_text (with_again cells formed [] (without_edges cells) (none_left cells formed) rows)
 
   -- the drawing is tested first
-  module _ (dot : List ℕ) (r : DrawingRead) (told : places_of r dot ≡ parts_of dot) (out : List ℕ) where
-    pub drawn_never : r ≡ NoDrawing → (refused 18 ≡ answer (undrawn_by dot cells) (length out)) × (out ≡ leaves (undrawn_by dot cells) out)
+  module _ (dot : List ℕ) (r : Option (ℕ × ℕ)) (told : places_of r dot ≡ parts_of dot) (out : List ℕ) where
+    pub drawn_never : r ≡ None → (refused 18 ≡ answer (undrawn_by dot cells) (length out)) × (out ≡ leaves (undrawn_by dot cells) out)
     unfolding places_of undrawn_by drawn
     drawn_never h =
-        let p : parts_of dot ≡ refused 18 = sym told ∙ ap (λ (z : DrawingRead). places_of z dot) h in
+        let p : parts_of dot ≡ refused 18 = sym told ∙ ap (λ (z : Option (ℕ × ℕ)). places_of z dot) h in
         let d : drawn dot ≡ refused 18 = sym (then_none 18 (parts_of dot) (λ p. done (drawn_at p)) p) in
         let o : undrawn_by dot cells ≡ refused 18 = sym (then_none 18 (drawn dot) (undrawn_text cells) d) in
         (answer_refused (undrawn_by dot cells) 18 (length out) o, leaves_refused (undrawn_by dot cells) 18 out o)
 
-    module _ (a b : ℕ) (h : r ≡ Parts a b) (s : ℕ) (count : s ≡ scopes_of cells) (t : Bool) (same : t ≡ file_scopes s (scopes_next (drop a dot)).value) where
+    module _ (a b : ℕ) (h : r ≡ Some (a, b)) (s : ℕ) (count : s ≡ scopes_of cells) (t : Bool) (same : t ≡ file_scopes s (scopes_next (drop a dot)).value) where
       abbrev this_drawn : Drawing
       this_drawn = record { scopes = (scopes_next (drop a dot)).value; edges = (edges_next (drop b dot)).value }
 
       by_drawn : undrawn_text cells this_drawn ≡ undrawn_by dot cells
       unfolding places_of undrawn_by drawn drawn_at
       by_drawn =
-          let p : parts_of dot ≡ done (record { scopes = drop a dot; edges = drop b dot }) = sym told ∙ ap (λ (z : DrawingRead). places_of z dot) h in
+          let p : parts_of dot ≡ done (record { scopes = drop a dot; edges = drop b dot }) = sym told ∙ ap (λ (z : Option (ℕ × ℕ)). places_of z dot) h in
           let d : drawn dot ≡ done this_drawn = sym (then_some (record { scopes = drop a dot; edges = drop b dot }) (parts_of dot) (λ p. done (drawn_at p)) p) in
           then_some this_drawn (drawn dot) (undrawn_text cells) d
 

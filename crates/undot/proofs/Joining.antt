@@ -19,7 +19,7 @@ use Rattle.graph_rows.specs.Decode.{rows_in, letters_of, scopes_of}
 use Rattle.graph_rows.specs.Formed.{scopes_in, FormedRow}
 use Rattle.graph_rows.proofs.AdmissionLaws.{listed_place}
 use Rattle.graph_rows.proofs.LookBackLaws.{repeats_none, none_repeated}
-use Rattle.graph_change.specs.declared.place.Place.TheVariants.{There, Free}
+use Rattle.std.specs.declared.result.Result.TheVariants.{Ok, Err}
 use Rattle.graph_change.specs.Place.{same_key, place_in}
 use Rattle.graph_change.specs.Changed.{inserted, with_row}
 use Rattle.graph_change.specs.Promises.{NoneLike, ChangedAt, scopes_at}
@@ -109,17 +109,17 @@ module _ (labels scopes : ℕ) (cells : List ℕ) (r : Ready labels scopes cells
   same a m = key_edge a row (r.turns a m) row_turn
 
   -- a row of its key stands there: it was met; none does, and it is new
-  pub met_there : (p : ℕ) → place_in edge_section row cells ≡ There p → repeats rows row ≡ true
+  pub met_there : (p : ℕ) → place_in edge_section row cells ≡ Ok p → repeats rows row ≡ true
   unfolding section_at sections edges
   met_there p h =
       let f = ((formed_found cells r.formed edge_section (omega arith) tt).1 row).there p h in
       repeats_there rows row f.0 f.1 (sym (same f.0 f.1) ∙ f.2)
 
-  pub none_like : (p : ℕ) → place_in edge_section row cells ≡ Free p → NoneLike (section_at edge_section).key row rows
+  pub none_like : (p : ℕ) → place_in edge_section row cells ≡ Err p → NoneLike (section_at edge_section).key row rows
   unfolding section_at sections edges
   none_like p h = ((formed_found cells r.formed edge_section (omega arith) tt).1 row).free p h
 
-  pub met_never : (p : ℕ) → place_in edge_section row cells ≡ Free p → repeats rows row ≡ false
+  pub met_never : (p : ℕ) → place_in edge_section row cells ≡ Err p → repeats rows row ≡ false
   met_never p h = repeats_none rows row (λ a m. sym (same a m) ∙ none_like p h a m)
 
   -- A new edge that the file knows joins the rows, if they are few.

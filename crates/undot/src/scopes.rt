@@ -4,7 +4,6 @@ ghost use Rattle.dot_text.specs.Reading.{scopes_next};
 ghost use Rattle.undot.specs.Scopes.{file_scopes};
 
 use dot_text::scope;
-use text_field::NumberRead;
 
 // The scopes of a file at most (document 01, "The gym file").
 const MOST_SCOPES: usize = 64;
@@ -17,10 +16,7 @@ pub fn has_scopes(dot: &[u8], at: usize, count: u64) -> bool
     let mut met = [false; MOST_SCOPES];
     let mut number: u64 = 0;
     let mut p = at;
-    loop {
-        let NumberRead::Number(s, next) = scope(dot, p) else {
-            return number == count;
-        };
+    while let Some((s, next)) = scope(dot, p) {
         if count <= s {
             return false;
         }
@@ -32,4 +28,5 @@ pub fn has_scopes(dot: &[u8], at: usize, count: u64) -> bool
         number += 1;
         p = next;
     }
+    number == count
 }

@@ -1,23 +1,27 @@
--- Looking for a number in a list, from a place on. Assumes nothing.
-use Prim.Native.Nat.{ℕ, ◌+◌, ◌≤◌, ◌<◌}
-use mathlib.Core.Path.{◌≡◌, sym, ap, ◌∙◌}
-use mathlib.Core.Bool.{true, false}
-use mathlib.Core.List.{List}
-use lib.ListN.{length, get_or, drop}
-use borrow.Author.Tests.{eq-eqb, ne_eqb}
+-- Looking for a number in a list, as std's test has it. Assumes nothing.
+use Prim.Native.Nat.{ℕ}
+use mathlib.Core.Path.{◌≡◌, refl}
+use mathlib.Core.Bool.{Bool, true, false, ◌||◌}
+use mathlib.Core.List.{List, [], ◌∷◌}
+use lib.Dec.{eqb}
+use borrow.Author.Tests.{eqb-true, eqb-false, eq-eqb, ne_eqb}
+use Rattle.std.specs.List.{list_any}
 use Rattle.scope_graph.specs.Rows.{any_of}
-use Rattle.text_field.proofs.Steps.{drop_next, drop_end}
+use Rattle.scope_graph.proofs.Lists.{Two}
+use mathlib.Core.Path.{sym, ◌∙◌}
+use mathlib.Core.Logic.{⊎_elim}
 use Rattle.was.specs.Order.{is_listed}
 
-module _ (x : ℕ) (list : List ℕ) (i : ℕ) where
-  pub listed_end : length list ≤ i → is_listed x (drop i list) ≡ false
-  unfolding any_of
-  listed_end h = ap (is_listed x) (drop_end list i h)
+-- a test of two numbers does not ask which comes first
+pub either_way : (x y : ℕ) → eqb x y ≡ eqb y x
+either_way x y =
+    ⊎_elim (λ e. e ∙ sym (eq-eqb y x (sym (eqb-true x y e)))) (λ e. e ∙ sym (ne_eqb y x (λ k. eqb-false x y e (sym k)))) (Two (eqb x y))
 
-  pub listed_here : i < length list → get_or list i 0 ≡ x → is_listed x (drop i list) ≡ true
-  unfolding any_of
-  listed_here h e = ap (is_listed x) (drop_next list i h) ∙ rw (eq-eqb x (get_or list i 0) (sym e), any_of)
+by_either : (b c : Bool) → (b || c) ≡ (elim b as (λ _. Bool) [ true ↦ true | false ↦ c ])
+by_either true c = refl
+by_either false c = refl
 
-  pub listed_later : i < length list → (get_or list i 0 ≡ x → ⊥) → is_listed x (drop (i + 1) list) ≡ is_listed x (drop i list)
-  unfolding any_of
-  listed_later h n = sym (ap (is_listed x) (drop_next list i h) ∙ rw (ne_eqb x (get_or list i 0) (λ e. n (sym e)), any_of))
+pub listed_is : (x : ℕ) (list : List ℕ) → list_any (λ y. eqb y x) list ≡ is_listed x list
+unfolding any_of
+listed_is x [] = refl
+listed_is x (y ∷ list) = rw (either_way y x, listed_is x list) (by_either (eqb x y) (is_listed x list))

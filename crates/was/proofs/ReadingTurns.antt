@@ -1,24 +1,19 @@
 -- The loop that reads the list's numbers: what holds between two turns. Assumes nothing.
 use Prim.Native.Nat.{ℕ, suc, ◌+◌, ◌-◌, ◌≤◌, ◌<◌}
-use mathlib.Core.Path.{◌≡◌, refl, sym, ap, ◌∙◌}
+use mathlib.Core.Path.{◌≡◌, sym, ap, ◌∙◌}
 use mathlib.Core.Bool.{Bool, true, false}
 use mathlib.Core.List.{List, [], ◌∷◌, ◌++◌}
 use native.Mathlib.Omega.{arith}
 use native.Mathlib.Nat.{sub-zero}
 use native.Mathlib.Numerals.{add-one}
-use lib.Dec.{leb}
 use lib.ListN.{length, set, take, drop, replicate, length-set, length-append}
 use lib.Seq.{drop-drop, take-suc-set}
 use Rattle.text_field.specs.Number.{number_placed}
 use Rattle.text_field.specs.Outcome.{Outcome, refused, done, refuse_if}
-use Rattle.text_field.specs.declared.NumberRead.TheVariants.{Number, NoNumber}
-use Rattle.text_field.proofs.ByteLaws.{clash}
+use Rattle.std.specs.declared.option.Option.TheVariants.{Some, None}
 use Rattle.text_field.proofs.Steps.{drop_end}
-use Rattle.text_field.proofs.OutcomeLaws.{done_same, not_done}
 use Rattle.graph_rows.specs.Format.{most_scopes}
 use Rattle.graph_file.proofs.SoughtStart.{placed_number, unplaced_number}
-use borrow.Author.Tests.{leb-true, leb-false}
-use Rattle.was.specs.declared.text.WasList.{WasList}
 use Rattle.was.specs.Order.{is_listed}
 use Rattle.was.specs.WasText.{was_line, begins_with, line_number, numbers_after, read_was}
 use Rattle.was.specs.Cells.{at_front, in_cells, list_read}
@@ -32,17 +27,14 @@ pub record Reading (text : List ℕ) (at n : ℕ) (first cells : List ℕ) (k p 
   pub is : cells ≡ at_front (take k cells) first
   pub tells : numbers_after n (n - k) (take k cells) (drop p text) ≡ numbers_after n n [] (drop at text)
 
--- what the answer must be
-abbrev pub Told : Outcome (List ℕ) → List ℕ → List ℕ → Bool → Type 0
-Told o first cells r =
-    ((numbers : List ℕ) → o ≡ done numbers → (r ≡ true) × (cells ≡ at_front numbers first)) × ((k : ℕ) → o ≡ refused k → r ≡ false)
+-- what the answer is
+told_no : (o : Outcome (List ℕ)) → o ≡ refused 17 → None ≡ list_read o
+unfolding list_read
+told_no o e = rw e
 
-pub told_no : (o : Outcome (List ℕ)) (first cells : List ℕ) → o ≡ refused 17 → Told o first cells false
-told_no o first cells e = ((λ numbers d. absurd (not_done 17 numbers (sym e ∙ d))), λ k f. refl)
-
-pub told_yes : (o : Outcome (List ℕ)) (first cells l : List ℕ) (r : Bool) → o ≡ done l → cells ≡ at_front l first → r ≡ true → Told o first cells r
-told_yes o first cells l r e is t =
-    ((λ numbers d. (t, is ∙ ap (λ (z : List ℕ). at_front z first) (done_same l numbers (sym e ∙ d)))), λ k f. absurd (not_done k l (sym f ∙ e)))
+told_yes : (o : Outcome (List ℕ)) (cells l : List ℕ) → o ≡ done l → cells ≡ at_front l (replicate most_scopes 0) → Some cells ≡ list_read o
+unfolding list_read in_cells
+told_yes o cells l e is = rw (e, is)
 
 pub reading_start : (text : List ℕ) (at n : ℕ) (first : List ℕ) → length first ≡ most_scopes → Reading text at n first first 0 at
 reading_start text at n first size = record {
@@ -60,20 +52,20 @@ module _ (text : List ℕ) (at n : ℕ) (first cells : List ℕ) (k p : ℕ) (so
     left : numbers_after n (suc (n - (k + 1))) (take k cells) (drop p text) ≡ whole
     left = let e : n - k ≡ suc (n - (k + 1)) = omega arith in ap (λ (j : ℕ). numbers_after n j (take k cells) (drop p text)) (sym e) ∙ so.tells
 
-    pub reading_none : NoNumber ≡ number_placed p (line_number (drop p text)) → Told whole first cells false
-    reading_none e = told_no whole first cells (sym left ∙ numbers_none n (take k cells) (drop p text) (n - (k + 1)) (unplaced_number (line_number (drop p text)) p e))
+    pub reading_none : None ≡ number_placed p (line_number (drop p text)) → None ≡ list_read whole
+    reading_none e = told_no whole (sym left ∙ numbers_none n (take k cells) (drop p text) (n - (k + 1)) (unplaced_number (line_number (drop p text)) p e))
 
-    module _ (v next : ℕ) (e : Number v next ≡ number_placed p (line_number (drop p text))) where
-      pub reading_high : n ≤ v → Told whole first cells false
+    module _ (v next : ℕ) (e : Some (v, next) ≡ number_placed p (line_number (drop p text))) where
+      pub reading_high : n ≤ v → None ≡ list_read whole
       reading_high x =
           let r = placed_number (line_number (drop p text)) p v next e in
-          told_no whole first cells (sym left ∙ numbers_high n (take k cells) (drop p text) (n - (k + 1)) v r.0 r.1 x)
+          told_no whole (sym left ∙ numbers_high n (take k cells) (drop p text) (n - (k + 1)) v r.0 r.1 x)
 
       module _ (low : v < n) (t : Bool) (test : t ≡ is_listed v (take k cells)) where
-        pub reading_twice : t ≡ true → Told whole first cells false
+        pub reading_twice : t ≡ true → None ≡ list_read whole
         reading_twice x =
             let r = placed_number (line_number (drop p text)) p v next e in
-            told_no whole first cells (sym left ∙ numbers_twice n (take k cells) (drop p text) (n - (k + 1)) v r.0 r.1 low (sym test ∙ x))
+            told_no whole (sym left ∙ numbers_twice n (take k cells) (drop p text) (n - (k + 1)) v r.0 r.1 low (sym test ∙ x))
 
         pub reading_next : n ≤ most_scopes → t ≡ false → Reading text at n first (set cells k v) (k + 1) next
         reading_next most x =
@@ -102,27 +94,14 @@ module _ (text : List ℕ) (at n : ℕ) (first cells : List ℕ) (k p : ℕ) (so
     last : numbers_after n 0 (take k cells) (drop p text) ≡ whole
     last = let w = so.within in let e : n - k ≡ 0 = omega arith in ap (λ (j : ℕ). numbers_after n j (take k cells) (drop p text)) (sym e) ∙ so.tells
 
-    pub reading_end : (r : Bool) → r ≡ leb (length text) p → Told whole first cells r
-    reading_end true e =
-        told_yes whole first cells (take k cells) true (sym last ∙ numbers_over n (take k cells) (drop p text) (drop_end text p (leb-true (length text) p (sym e)))) so.is refl
-    reading_end false e = told_no whole first cells (sym last ∙ numbers_more n (take k cells) text p (leb-false (length text) p (sym e)))
+    pub reading_more : p < length text → None ≡ list_read whole
+    reading_more g = told_no whole (sym last ∙ numbers_more n (take k cells) text p g)
 
--- the answer as the list that was read
-module _ (first cells : List ℕ) (zeros : first ≡ replicate most_scopes 0) where
-  pub listed_no : (o : Outcome (List ℕ)) (r : Bool) → Told o first cells r → r ≡ false
-      → ◌≡◌ {A = WasList} (record { ok = false; numbers = replicate most_scopes 0 }) (list_read o)
-  unfolding list_read
-  listed_no (refused k) r told e = refl
-  listed_no (done l) r told e = absurd (clash (told.0 l refl).0 e)
-
-  pub listed_yes : (o : Outcome (List ℕ)) (r : Bool) → Told o first cells r → r ≡ true
-      → ◌≡◌ {A = WasList} (record { ok = true; numbers = cells }) (list_read o)
-  unfolding list_read in_cells
-  listed_yes (refused k) r told e = absurd (clash e (told.1 k refl))
-  listed_yes (done l) r told e = ap (λ (z : List ℕ). record { ok = true; numbers = z }) ((told.0 l refl).1 ∙ ap (at_front l) zeros)
+    pub reading_end : first ≡ replicate most_scopes 0 → length text ≤ p → Some cells ≡ list_read whole
+    reading_end zeros g = told_yes whole cells (take k cells) (sym last ∙ numbers_over n (take k cells) (drop p text) (drop_end text p g)) (so.is ∙ ap (at_front (take k cells)) zeros)
 
 module _ (n : ℕ) (text : List ℕ) where
-  pub was_none : begins_with was_line text ≡ false → ◌≡◌ {A = WasList} (record { ok = false; numbers = replicate most_scopes 0 }) (list_read (read_was n text))
+  pub was_none : begins_with was_line text ≡ false → None ≡ list_read (read_was n text)
   unfolding read_was refuse_if list_read
   was_none e = rw e
 

@@ -12,8 +12,9 @@ use borrow.Author.Tests.{eqb-true, eq-eqb, leb-false}
 use Rattle.text_field.specs.Bytes.{within, is_digit}
 use Rattle.text_field.specs.Number.{number_text, number_here, number_meaning}
 use Rattle.text_field.specs.Outcome.{Outcome, refused, done, and_then, refuse_if}
-use Rattle.text_field.specs.declared.NumberRead.{NumberRead}
-use Rattle.text_field.specs.declared.NumberRead.TheVariants.{Number, NoNumber}
+use Rattle.std.specs.declared.option.Option.{Option}
+use Rattle.std.proofs.lemmas.Option.{some_pair_parts}
+use Rattle.std.specs.declared.option.Option.TheVariants.{Some, None}
 use Rattle.text_field.proofs.ByteLaws.{both}
 use Rattle.text_field.proofs.NumberLaws.{number_back, number_found}
 use Rattle.text_field.proofs.OutcomeLaws.{done_same, not_done, passed}
@@ -49,29 +50,30 @@ unfolding starts_with
 starts_ten [] e = absurd (let z : ◌≡◌ {A = ℕ} 0 1 = ap (λ (b : Bool). elim b as (λ _. ℕ) [ true ↦ 1 | false ↦ 0 ]) e in omega arith)
 starts_ten (x ∷ s) e = ap (λ (y : ℕ). y ∷ s) (eqb-true x 10 e)
 
-line_whole : (s : List ℕ) (v w : ℕ) → line_number s ≡ Number v w → s ≡ number_line v ++ drop w s
+line_whole : (s : List ℕ) (v w : ℕ) → line_number s ≡ Some (v, w) → s ≡ number_line v ++ drop w s
 unfolding line_number ended_by number_line
 line_whole s v w e = by (number_here s) refl e
   where
-    ended : (u k : ℕ) → number_here s ≡ Number u k → (t : Bool) → starts_with 10 (drop k s) ≡ t
-        → (elim t as (λ _. NumberRead) [ true ↦ Number u (k + 1) | false ↦ NoNumber ]) ≡ Number v w → s ≡ (number_text v ++ (10 ∷ [])) ++ drop w s
+    ended : (u k : ℕ) → number_here s ≡ Some (u, k) → (t : Bool) → starts_with 10 (drop k s) ≡ t
+        → (elim t as (λ _. Option (ℕ × ℕ)) [ true ↦ Some (u, (k + 1)) | false ↦ None ]) ≡ Some (v, w) → s ≡ (number_text v ++ (10 ∷ [])) ++ drop w s
     ended u k h true t f =
-        let same : u ≡ v = cc in
-        let next : k + 1 ≡ w = cc in
+        let parts = some_pair_parts u v (k + 1) w f in
+        let same = parts.0 in
+        let next = parts.1 in
         (number_found s u k h).whole ∙ ap (λ (l : List ℕ). number_text u ++ l) (starts_ten (drop k s) t ∙ ap (λ (l : List ℕ). 10 ∷ l) (drop-drop 1 k s))
         ∙ sym (append_assoc (number_text u) (10 ∷ []) (drop (k + 1) s))
         ∙ ap (λ (j : ℕ). (number_text u ++ (10 ∷ [])) ++ drop j s) next ∙ ap (λ (x : ℕ). (number_text x ++ (10 ∷ [])) ++ drop w s) same
     ended u k h false t f = absurd (let z : ◌≡◌ {A = ℕ} 0 1 = cc in omega arith)
 
-    by : (r : NumberRead) → number_here s ≡ r → ended_by s r ≡ Number v w → s ≡ (number_text v ++ (10 ∷ [])) ++ drop w s
-    by (Number u k) h f = ended u k h (starts_with 10 (drop k s)) refl f
-    by NoNumber h f = absurd (let z : ◌≡◌ {A = ℕ} 0 1 = cc in omega arith)
+    by : (r : Option (ℕ × ℕ)) → number_here s ≡ r → ended_by s r ≡ Some (v, w) → s ≡ (number_text v ++ (10 ∷ [])) ++ drop w s
+    by (Some (u, k)) h f = ended u k h (starts_with 10 (drop k s)) refl f
+    by None h f = absurd (let z : ◌≡◌ {A = ℕ} 0 1 = cc in omega arith)
 
 ten_ends : is_digit 10 ≡ false
 unfolding is_digit within
 ten_ends = refl
 
-line_back : (v : ℕ) (rest : List ℕ) → v ≤ 99999 → line_number (number_line v ++ rest) ≡ Number v (length (number_text v) + 1)
+line_back : (v : ℕ) (rest : List ℕ) → v ≤ 99999 → line_number (number_line v ++ rest) ≡ Some (v, (length (number_text v) + 1))
 unfolding line_number ended_by number_line starts_with
 line_back v rest h =
     let whole : (number_text v ++ (10 ∷ [])) ++ rest ≡ number_text v ++ (10 ∷ rest) = append_assoc (number_text v) (10 ∷ []) rest in
@@ -95,7 +97,7 @@ module _ (n : ℕ) where
   record Step (left : ℕ) (listed text list : List ℕ) : Type 0 where
     v : ℕ
     width : ℕ
-    line : line_number text ≡ Number v width
+    line : line_number text ≡ Some (v, width)
     low : v < n
     new : is_listed v listed ≡ false
     after : numbers_after n left (listed ++ (v ∷ [])) (drop width text) ≡ done list
@@ -104,10 +106,10 @@ module _ (n : ℕ) where
   unfolding numbers_after number_meaning and_then
   step left listed text list e = by (line_number text) refl e
     where
-      by : (r : NumberRead) → line_number text ≡ r
+      by : (r : Option (ℕ × ℕ)) → line_number text ≡ r
           → and_then (number_meaning 17 r) (λ f. refuse_if (leb n f.value || is_listed f.value listed) 17 (numbers_after n left (listed ++ (f.value ∷ [])) (drop f.next text))) ≡ done list
           → Step left listed text list
-      by (Number v w) h f =
+      by (Some (v, w)) h f =
           let p = passed (leb n v || is_listed v listed) 17 _ list f in record {
             v = v;
             width = w;
@@ -116,7 +118,7 @@ module _ (n : ℕ) where
             new = or_none_right (leb n v) (is_listed v listed) p.0;
             after = p.1;
           }
-      by NoNumber h f = absurd (not_done 17 list f)
+      by None h f = absurd (not_done 17 list f)
 
   numbers_forth : (left : ℕ) (listed text list : List ℕ) → Scopes n listed → numbers_after n left listed text ≡ done list → Numbers n left listed text list
   unfolding numbers_after is_empty flat_map refuse_if
@@ -165,11 +167,11 @@ module _ (n : ℕ) where
       tested true o f g = cc
       tested false o f g = g f
 
-      by : (r : NumberRead)
+      by : (r : Option (ℕ × ℕ))
           → and_then (number_meaning 17 r) (λ f. refuse_if (leb n f.value || is_listed f.value listed) 17 (numbers_after n left (listed ++ (f.value ∷ [])) (drop f.next text))) ≡ refused k
           → ((l s : List ℕ) → numbers_after n left l s ≡ refused k → k ≡ 17) → k ≡ 17
-      by (Number v w) f g = tested (leb n v || is_listed v listed) _ f (g _ _)
-      by NoNumber f g = cc
+      by (Some (v, w)) f g = tested (leb n v || is_listed v listed) _ f (g _ _)
+      by None f g = cc
 
 -- the names line
 begins_whole : (names text : List ℕ) → begins_with names text ≡ true → text ≡ names ++ drop (length names) text

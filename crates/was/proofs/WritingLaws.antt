@@ -1,6 +1,6 @@
 -- The list's text as it is written, line by line. Assumes nothing.
 use Prim.Native.Nat.{ℕ, ◌+◌, ◌*◌, ◌≤◌, ◌<◌}
-use mathlib.Core.Path.{◌≡◌, refl, sym, ap, ◌∙◌}
+use mathlib.Core.Path.{◌≡◌, ap, ◌∙◌}
 use mathlib.Core.List.{List, [], ◌∷◌, ◌++◌, flat_map, append-nil}
 use native.Mathlib.Omega.{arith}
 use native.Mathlib.Numerals.{add-one}
@@ -9,39 +9,24 @@ use lib.Seq.{take-suc, take_all}
 use Rattle.scope_graph.specs.Language.{◌∈◌}
 use Rattle.scope_graph.proofs.Lists.{here, there}
 use Rattle.text_field.specs.Number.{number_text}
-use Rattle.text_field.specs.Buffer.{Buf, put, puts}
 use Rattle.text_field.proofs.NumberLaws.{length_below}
-use Rattle.text_field.proofs.BufferLaws.{puts_then}
 use Rattle.was.specs.WasText.{was_line, number_line, was_text}
 use Rattle.was.proofs.Meeting.{flat_append}
-
--- a number and its line feed, written one after the other
-pub line_puts : (v : ℕ) (b c d : Buf) → c ≡ puts b (number_text v) → d ≡ put c 10 → d ≡ puts b (number_line v)
-unfolding number_line puts
-line_puts v b c d e f = puts_then b c d (number_text v) (10 ∷ []) e f
 
 -- the lines of the first i numbers
 abbrev pub lines_to : List ℕ → ℕ → List ℕ
 lines_to list i = flat_map number_line (take i list)
 
-pub lines_none : (list : List ℕ) (b : Buf) → b ≡ puts b (lines_to list 0)
-unfolding flat_map puts
-lines_none list b = refl
-
-pub lines_next : (list : List ℕ) (i : ℕ) (b c d : Buf) → i < length list → c ≡ puts b (lines_to list i) → d ≡ puts c (number_line (get_or list i 0))
-    → d ≡ puts b (lines_to list (i + 1))
+pub lines_next : (list : List ℕ) (i : ℕ) → i < length list → lines_to list (i + 1) ≡ lines_to list i ++ number_line (get_or list i 0)
 unfolding flat_map
-lines_next list i b c d h e f =
-    puts_then b c d (lines_to list i) (number_line (get_or list i 0)) e f
-    ∙ ap (puts b)
-    (sym (ap (λ (k : ℕ). lines_to list k) (add-one i) ∙ ap (flat_map number_line) (take-suc list i 0 h)
+lines_next list i h =
+    ap (λ (k : ℕ). lines_to list k) (add-one i) ∙ ap (flat_map number_line) (take-suc list i 0 h)
     ∙ flat_append number_line (take i list) (get_or list i 0 ∷ [])
-    ∙ ap (λ (l : List ℕ). lines_to list i ++ l) (append-nil (number_line (get_or list i 0)))))
+    ∙ ap (λ (l : List ℕ). lines_to list i ++ l) (append-nil (number_line (get_or list i 0)))
 
-pub lines_all : (list : List ℕ) (i : ℕ) (b c d : Buf) → length list ≤ i → c ≡ puts b was_line → d ≡ puts c (lines_to list i) → d ≡ puts b (was_text list)
+pub lines_all : (list : List ℕ) (i : ℕ) → length list ≤ i → was_line ++ lines_to list i ≡ was_text list
 unfolding was_text
-lines_all list i b c d h e f =
-    puts_then b c d was_line (lines_to list i) e f ∙ ap (λ (l : List ℕ). puts b (was_line ++ flat_map number_line l)) (take_all i list h)
+lines_all list i h = ap (λ (l : List ℕ). was_line ++ flat_map number_line l) (take_all i list h)
 
 -- a scope's line has three bytes at most, so 64 scopes have 192
 line_short : (v : ℕ) → v < 64 → length (number_line v) ≤ 3

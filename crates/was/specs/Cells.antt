@@ -1,11 +1,12 @@
 -- How the code holds a list: at the front of 64 cells. Assumes nothing: these are definitions.
-use Rattle.std.specs.Prelude.{ℕ, ◌≤◌, ◌<◌, ◌≡◌, true, false, List, ◌++◌, map, length, take, drop, replicate}
+use Rattle.std.specs.Prelude.{ℕ, ◌≤◌, ◌<◌, ◌≡◌, List, ◌++◌, map, length, take, drop, replicate}
 use Rattle.scope_graph.specs.Language.{◌∈◌}
 use Rattle.scope_graph.specs.Path.{Distinct}
+use Rattle.std.specs.declared.option.Option.{Option}
+use Rattle.std.specs.declared.option.Option.TheVariants.{Some, None}
 use Rattle.text_field.specs.Outcome.{Outcome, refused, done}
 use Rattle.graph_rows.specs.Format.{most_scopes}
 use Rattle.graph_table.specs.Rows.{row_hops}
-use Rattle.was.specs.declared.text.WasList.{WasList}
 
 -- the cells with the numbers in place of their first ones
 unfoldable pub at_front : List ℕ → List ℕ → List ℕ
@@ -15,10 +16,10 @@ at_front numbers cells = numbers ++ drop (length numbers) cells
 unfoldable pub in_cells : List ℕ → List ℕ
 in_cells numbers = at_front numbers (replicate most_scopes 0)
 
--- what the reader of a list's text gives: whether it is one, and the numbers
-unfoldable pub list_read : Outcome (List ℕ) → WasList
-list_read (refused n) = record { ok = false; numbers = replicate most_scopes 0 }
-list_read (done numbers) = record { ok = true; numbers = in_cells numbers }
+-- what the reader of a list's text gives: the numbers, then zeros, if it is one
+unfoldable pub list_read : Outcome (List ℕ) → Option (List ℕ)
+list_read (refused n) = None
+list_read (done numbers) = Some (in_cells numbers)
 
 -- the scopes that the edge rows of scope s lead to, by cells
 unfoldable pub scopes_by : List ℕ → ℕ → List ℕ

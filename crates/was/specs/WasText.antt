@@ -4,8 +4,8 @@ use Rattle.std.specs.Prelude.{ℕ, zero, suc, ◌+◌, Bool, true, false, not, �
 use mathlib.Core.List.{List, [], ◌∷◌, ◌++◌, flat_map}
 use Rattle.text_field.specs.Number.{number_text, number_here, number_meaning}
 use Rattle.text_field.specs.Outcome.{Outcome, done, and_then, refuse_if}
-use Rattle.text_field.specs.declared.NumberRead.{NumberRead}
-use Rattle.text_field.specs.declared.NumberRead.TheVariants.{Number, NoNumber}
+use Rattle.std.specs.declared.option.Option.{Option}
+use Rattle.std.specs.declared.option.Option.TheVariants.{Some, None}
 use Rattle.graph_rows.specs.Way.{starts_with, is_empty}
 use Rattle.was.specs.Order.{is_listed}
 
@@ -28,12 +28,12 @@ begins_with (x ∷ names) (y ∷ text) = eqb y x && begins_with names text
 
 -- a number that was read at the start of the bytes, if an LF ends it: how many bytes it takes with
 -- the LF
-unfoldable pub ended_by : List ℕ → NumberRead → NumberRead
-ended_by text (Number v width) = elim (starts_with 10 (drop width text)) [ true ↦ Number v (width + 1) | false ↦ NoNumber ]
-ended_by text NoNumber = NoNumber
+unfoldable pub ended_by : List ℕ → Option (ℕ × ℕ) → Option (ℕ × ℕ)
+ended_by text (Some (v, width)) = elim (starts_with 10 (drop width text)) [ true ↦ Some (v, (width + 1)) | false ↦ None ]
+ended_by text None = None
 
 -- the number on the line at the start of the bytes: a number of the file's form and nothing else
-unfoldable pub line_number : List ℕ → NumberRead
+unfoldable pub line_number : List ℕ → Option (ℕ × ℕ)
 line_number text = ended_by text (number_here text)
 
 -- the refusal of a text that is no such list

@@ -6,4 +6,4 @@ mod order;
 mod text;
 
 pub use order::list_scopes;
-pub use text::{WasList, put_was, read_was};
+pub use text::{put_was, read_was};

@@ -32,80 +32,80 @@ fn first_in(table: &[u64], k: usize) -> u64
 pub(crate) fn is_listed(list: &[u64], x: u64) -> bool
     ensures answer { result ≡ is_listed x list.now }
 {
-    let mut i: usize = 0;
-    while i < list.len() {
-        if list[i] == x {
-            return true;
+    list.contains(&x)
+}
+
+// The scopes that are listed so far: the first `count` numbers of the list.
+#[derive(Drop)]
+struct Listed {
+    list: [u64; 64],
+    count: usize,
+}
+
+impl Listed {
+    // Puts the scope after the others, unless it is one of them.
+    fn add(&mut self, s: u64)
+        requires scope { s < most_scopes }
+        requires listed { Begins self.old.list self.old.count }
+        ensures count { self.new.count ≡ length (with_new (take self.old.count self.old.list) s) }
+        ensures memory { self.new.list
+            ≡ at_front (with_new (take self.old.count self.old.list) s) self.old.list }
+    {
+        if !is_listed(&self.list[..self.count], s) {
+            self.list[self.count] = s;
+            self.count += 1;
         }
-        i += 1;
     }
-    false
 }
 
-// Puts the scope after the first n, unless it is one of them. Returns how many there are then.
-fn with_scope(list: &mut [u64], n: usize, s: u64) -> usize
-    requires scope { s < most_scopes }
-    requires listed { Begins list.old n }
-    ensures count { result ≡ length (with_new (take n list.old) s) }
-    ensures memory { list.new ≡ at_front (with_new (take n list.old) s) list.old }
-{
-    if is_listed(&list[..n], s) {
-        return n;
-    }
-    list[n] = s;
-    n + 1
-}
-
-// Puts the scopes that the edges of s lead to after the first n, in row sequence, each once.
-fn gather(edges: &[u64], s: u64, list: &mut [u64], n: usize) -> usize
+// Adds the scopes that the edges of s lead to, in row sequence, each once.
+fn gather(edges: &[u64], s: u64, to: &mut Listed)
     requires scopes { (t : ℕ) → t ∈ scopes_by edges.now s → t < most_scopes }
-    requires listed { Begins list.old n }
-    ensures count { result ≡ length (gathered (take n list.old) (scopes_by edges.now s)) }
-    ensures memory { list.new ≡ at_front (gathered (take n list.old) (scopes_by edges.now s)) list.old }
+    requires listed { Begins to.old.list to.old.count }
+    ensures count { to.new.count
+        ≡ length (gathered (take to.old.count to.old.list) (scopes_by edges.now s)) }
+    ensures memory { to.new.list
+        ≡ at_front (gathered (take to.old.count to.old.list) (scopes_by edges.now s)) to.old.list }
 {
-    let mut k = n;
     let mut p = next_row(edges, s, 0);
     while p < edges.len() {
-        let row = edge_row(edges, p);
-        k = with_scope(list, k, row.to);
+        to.add(edge_row(edges, p).to);
         p = next_row(edges, s, p + ROW);
     }
-    k
 }
 
 // Lists the scopes that are met from the start.
-fn list_met(edges: &[u64], start: u64, list: &mut [u64]) -> usize
+fn list_met(edges: &[u64], start: u64) -> Listed
     requires start { start < most_scopes }
-    requires size { length list.old ≡ most_scopes }
     requires scopes { (s t : ℕ) → t ∈ scopes_by edges.now s → t < most_scopes }
-    ensures count { result ≡ length (met_all (scopes_by edges.now) start) }
-    ensures memory { list.new ≡ at_front (met_all (scopes_by edges.now) start) list.old }
+    ensures count { result.count ≡ length (met_all (scopes_by edges.now) start) }
+    ensures memory { result.list ≡ in_cells (met_all (scopes_by edges.now) start) }
 {
+    let mut list = [0u64; MOST_SCOPES];
     list[0] = start;
-    let mut n: usize = 1;
+    let mut met = Listed { list, count: 1 };
+    // No range: the list grows while it is gone through.
     let mut next: usize = 0;
-    while next < n {
-        let s = list[next];
-        n = gather(edges, s, list, n);
+    while next < met.count {
+        let s = met.list[next];
+        gather(edges, s, &mut met);
         next += 1;
     }
-    n
+    met
 }
 
-// Puts those of the first `count` scopes that are not listed after the first n, ascending.
-fn list_unmet(list: &mut [u64], n: usize, count: u64) -> usize
+// Adds those of the first `count` scopes that are not listed, ascending.
+fn list_unmet(to: &mut Listed, count: u64)
     requires count { count ≤ most_scopes }
-    requires listed { Begins list.old n }
-    ensures count { result ≡ length (gathered (take n list.old) (numbers_below count)) }
-    ensures memory { list.new ≡ at_front (gathered (take n list.old) (numbers_below count)) list.old }
+    requires listed { Begins to.old.list to.old.count }
+    ensures count { to.new.count
+        ≡ length (gathered (take to.old.count to.old.list) (numbers_below count)) }
+    ensures memory { to.new.list
+        ≡ at_front (gathered (take to.old.count to.old.list) (numbers_below count)) to.old.list }
 {
-    let mut k = n;
-    let mut left = count;
-    while 0 < left {
-        k = with_scope(list, k, count - left);
-        left -= 1;
+    for s in 0..count {
+        to.add(s);
     }
-    k
 }
 
 // Lists all scopes: those that are met along edges from where the first query starts, nearest
@@ -114,12 +114,7 @@ pub fn list_scopes(table: &[u64]) -> [u64; 64]
     requires read { WasRead table.now }
     ensures answer { result ≡ in_cells (was_list table.now) }
 {
-    let mut list = [0u64; MOST_SCOPES];
-    let n = list_met(
-        section_rows(table, EDGES),
-        first_in(table, QUERIES),
-        &mut list,
-    );
-    list_unmet(&mut list, n, scope_count(table));
-    list
+    let mut listed = list_met(section_rows(table, EDGES), first_in(table, QUERIES));
+    list_unmet(&mut listed, scope_count(table));
+    listed.list
 }

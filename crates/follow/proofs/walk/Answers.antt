@@ -15,7 +15,7 @@ pub taken-requires : goal.taken-requires
 taken-requires c = record { scope = omega (arith, c.ask_start-start.ensures.answer, c.requires.start) }
 
 pub follow_at-requires : goal.follow_at-requires
-follow_at-requires c = let free = start_free c.args.ask.now c.ask_start-start.result c.taken.result c.ask_start-start.ensures.answer c.taken.ensures.answer in record { block = c.requires.block; bounds = c.requires.bounds; ask = c.requires.ask; live = rw free c.requires.live; table = c.requires.table; worth = rw free c.requires.worth; inside = record { scope = omega (arith, c.ask_start-start.ensures.answer, c.requires.start); state = omega arith }; depth = omega (arith, c.if-scopes-gt64.false); room = c.requires.room }
+follow_at-requires c = let free = start_free c.args.ask.now c.ask_start-start.result c.taken.result c.ask_start-start.ensures.answer c.taken.ensures.answer in record { bounds = c.requires.bounds; live = rw free c.requires.live; table = c.requires.table; worth = rw free c.requires.worth; inside = record { scope = omega (arith, c.ask_start-start.ensures.answer, c.requires.start); state = omega arith }; depth = omega (arith, c.if-scopes-gt64.false); room = c.requires.room }
 
 pub returns : goal.returns
 returns c = record {

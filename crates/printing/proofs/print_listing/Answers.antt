@@ -10,8 +10,8 @@ slice_bounds-emit-end c = let s = listing_stands c.args.table.now c.args.i c.req
 pub slice_bounds-emit-end-2 : goal.slice_bounds-emit-end-2
 slice_bounds-emit-end-2 c = let s = listing_stands c.args.table.now c.args.i c.requires.number _ _ _ c.requires.room c.put_listing-p.ensures.written in s.taken
 
-pub emit-place-requires : goal.emit-place-requires
-emit-place-requires c = record { due = let s = listing_stands c.args.table.now c.args.i c.requires.number _ _ _ c.requires.room c.put_listing-p.ensures.written in stands_due c.args.text.now c.args.sent _ _ _ s c.requires.due }
+pub emit-requires : goal.emit-requires
+emit-requires c = record { due = let s = listing_stands c.args.table.now c.args.i c.requires.number _ _ _ c.requires.room c.put_listing-p.ensures.written in stands_due c.args.text.now c.args.sent _ _ _ s c.requires.due }
 
 pub returns : goal.returns
 returns c = let s = listing_stands c.args.table.now c.args.i c.requires.number _ _ _ c.requires.room c.put_listing-p.ensures.written in record { place = omega arith; found = c.put_listing-p.ensures.found; memory = listing_left c.args.table.now c.args.i c.requires.number _ _ _ c.requires.room c.put_listing-p.ensures.written }

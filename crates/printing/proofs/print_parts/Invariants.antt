@@ -1,4 +1,4 @@
-use Prim.Native.Nat.{◌+◌, ◌-◌, ◌≤◌}
+use Prim.Native.Nat.{◌+◌, ◌-◌}
 use mathlib.Core.Path.{◌≡◌}
 use lib.ListN.{length}
 use Rattle.resolution.proofs.Counts.{Counted}
@@ -7,7 +7,4 @@ use Rattle.printing.proofs.Laws.{parts_text}
 use Rattle.printing.proofs.print_parts.Given as goal
 
 abbrev pub invariant-loop-i : goal.invariant-loop-i
-invariant-loop-i l = (length l.out ≡ lent) × (l.i ≤ l.n) × Counted l.table l.i l.c × (l.place + length (parts_text lent l.table (l.n + 1 - l.i) l.i) ≡ l.sent + length (table_text l.table)) × Due l.text l.place (parts_text lent l.table (l.n + 1 - l.i) l.i)
-
-abbrev pub decreases-loop-i : goal.decreases-loop-i
-decreases-loop-i l = l.n - l.i
+invariant-loop-i l = (length l.out ≡ lent) × Counted l.table l.i l.c × (l.place + length (parts_text lent l.table (l.n + 1 - l.i) l.i) ≡ l.sent + length (table_text l.table)) × Due l.text l.place (parts_text lent l.table (l.n + 1 - l.i) l.i)

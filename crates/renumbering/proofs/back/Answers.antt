@@ -1,10 +1,22 @@
--- `back` meets its contract. Assumes nothing.
-use mathlib.Core.Logic.{inl}
-use native.Mathlib.Omega.{arith}
+-- `back` meets its contract: the text is refused, or its table is written. Assumes nothing.
+use borrow.Author.Rules.{rules}
+use Rattle.text_field.specs.Outcome.{and_then}
+use Rattle.text_field.specs.Answer.{answer, leaves, answer_of}
+use Rattle.renumbering.specs.Renumbering.{back_for}
 use Rattle.renumbering.proofs.back.Goals as goal
 
-pub back_over-requires : goal.back_over-requires
-back_over-requires c = record { room = c.is_short.ensures.room c.if-is_short.true }
+pub returns-in_err-with_graph-clause-answer : goal.returns-in_err-with_graph-clause-answer
+unfolding and_then answer_of answer back_for
+returns-in_err-with_graph-clause-answer c = rw c.in_err-with_graph.ensures.refused.0 (search rules)
 
-pub back_over-requires-2 : goal.back_over-requires-2
-back_over-requires-2 c = record { room = inl (omega arith) }
+pub returns-in_err-with_graph-clause-memory : goal.returns-in_err-with_graph-clause-memory
+unfolding and_then leaves back_for
+returns-in_err-with_graph-clause-memory c = rw c.in_err-with_graph.ensures.refused.0 (search rules)
+
+pub returns-clause-answer : goal.returns-clause-answer
+unfolding and_then back_for
+returns-clause-answer c = rw c.in_ok-with_graph.ensures.read.1 (search rules)
+
+pub returns-clause-memory : goal.returns-clause-memory
+unfolding and_then back_for
+returns-clause-memory c = rw c.in_ok-with_graph.ensures.read.1 (search rules)

@@ -1,10 +1,23 @@
--- `rules` meets its contract: either table has room for the text. Assumes nothing.
-use mathlib.Core.Logic.{inl}
-use native.Mathlib.Omega.{arith}
+-- `rules` meets its contract: the text is refused, or its table is written with the rules. Assumes
+-- nothing.
+use borrow.Author.Rules.{rules}
+use Rattle.text_field.specs.Outcome.{and_then}
+use Rattle.text_field.specs.Answer.{answer, leaves, answer_of}
+use Rattle.ruled.specs.Ruled.{ruled_of}
 use Rattle.ruled.proofs.rules.Goals as goal
 
-pub rules_over-requires : goal.rules_over-requires
-rules_over-requires c = record { room = c.is_short.ensures.room c.if-is_short.true }
+pub returns-in_err-with_graph-clause-answer : goal.returns-in_err-with_graph-clause-answer
+unfolding and_then answer_of answer ruled_of
+returns-in_err-with_graph-clause-answer c = rw c.in_err-with_graph.ensures.refused.0 (search rules)
 
-pub rules_over-requires-2 : goal.rules_over-requires-2
-rules_over-requires-2 c = record { room = inl (omega arith) }
+pub returns-in_err-with_graph-clause-memory : goal.returns-in_err-with_graph-clause-memory
+unfolding and_then leaves ruled_of
+returns-in_err-with_graph-clause-memory c = rw c.in_err-with_graph.ensures.refused.0 (search rules)
+
+pub returns-clause-answer : goal.returns-clause-answer
+unfolding and_then ruled_of
+returns-clause-answer c = rw c.in_ok-with_graph.ensures.read.1 (search rules)
+
+pub returns-clause-memory : goal.returns-clause-memory
+unfolding and_then ruled_of
+returns-clause-memory c = rw c.in_ok-with_graph.ensures.read.1 (search rules)

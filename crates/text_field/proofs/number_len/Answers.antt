@@ -1,16 +1,6 @@
-use mathlib.Core.Path.{refl}
 use native.Mathlib.Omega.{arith}
 use Rattle.text_field.proofs.NumberLaws.{length_short, length_long}
 use Rattle.text_field.proofs.number_len.Goals as goal
-
-pub loop-x-init : goal.loop-x-init
-loop-x-init c = (refl, omega arith)
-
-pub overflow_add-len : goal.overflow_add-len
-overflow_add-len c = omega arith
-
-pub loop-x-smaller : goal.loop-x-smaller
-loop-x-smaller c = omega arith
 
 pub loop-x-preserved : goal.loop-x-preserved
 loop-x-preserved c = let l = length_long c.loop-x.x (omega arith) in (omega arith, omega arith)

@@ -1,12 +1,8 @@
-use mathlib.Core.Path.{refl, ◌∙◌}
+use mathlib.Core.Path.{◌∙◌}
 use native.Mathlib.Omega.{arith}
-use borrow.Author.Rules.{rules}
 use Rattle.text_field.proofs.CellLaws.{name_end, name_turn}
 use Rattle.text_field.proofs.BufferLaws.{puts_none, puts_step, puts_one}
 use Rattle.text_field.proofs.put_name.Goals as goal
-
-pub loop-h-init : goal.loop-h-init
-loop-h-init c = (refl, refl, search rules)
 
 pub loop-h-smaller : goal.loop-h-smaller
 loop-h-smaller c = let i = c.loop-h in (name_turn i.h i.l _ _ _ (omega arith) (omega arith) c.first_byte.ensures.answer c.shifted-h.ensures.answer c.shifted-l.ensures.answer).less

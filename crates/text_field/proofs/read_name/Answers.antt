@@ -1,23 +1,35 @@
-use mathlib.Core.Path.{sym, ◌∙◌}
-use Prim.Native.Nat.{◌≤◌}
-use native.Mathlib.Omega.{arith}
+use mathlib.Core.Path.{◌∙◌}
+use Prim.Native.Nat.{◌<◌}
 use lib.ListN.{length}
-use borrow.Author.Tests.{not-true, not-false}
 use borrow.Author.Rules.{rules}
-use Rattle.text_field.proofs.Steps.{no_name, no_lower, name_inside, some_name}
+use borrow.Author.Tests.{tests}
+use Rattle.text_field.proofs.Steps.{no_name, no_lower, name_ends, name_inside, some_name}
 use Rattle.text_field.proofs.read_name.Goals as goal
 
-pub returns-then-s-at : goal.returns-then-s-at
-returns-then-s-at c = record { answer = no_name c.args.s.now c.args.at (omega arith) }
+pub returns-in_err-first : goal.returns-in_err-first
+returns-in_err-first c = record { answer = c.from_residual.ensures ∙ no_name c.args.s.now c.args.at (search (rules, tests)) }
 
 pub returns-then-not-is_lower : goal.returns-then-not-is_lower
-returns-then-not-is_lower c = record { answer = no_lower c.args.s.now c.args.at (omega arith) (sym c.is_lower.ensures.answer ∙ not-true _ c.if-not-is_lower.true-raw) }
+returns-then-not-is_lower c = record { answer = no_lower c.args.s.now c.args.at (search (rules, tests)) (search (rules, tests)) }
 
-pub slice_bounds-pack_high-end : goal.slice_bounds-pack_high-end
-slice_bounds-pack_high-end c = let h : c.name_end-end.result ≤ length c.args.s.now = name_inside _ _ (omega arith) _ _ c.name_end-end.ensures.answer in search rules
+pub overflow_add-end-2 : goal.overflow_add-end-2
+overflow_add-end-2 c =
+    let a = c.args
+    in let h : a.at < length a.s.now = search (rules, tests)
+    in let i = name_inside a.s.now a.at h _ _ (name_ends a.s.now a.at _ _ c.name_len.ensures.answer)
+    in search rules
 
-pub slice_bounds-pack_low-end : goal.slice_bounds-pack_low-end
-slice_bounds-pack_low-end c = let h : c.name_end-end.result ≤ length c.args.s.now = name_inside _ _ (omega arith) _ _ c.name_end-end.ensures.answer in search rules
+pub slice_bounds-name-end : goal.slice_bounds-name-end
+slice_bounds-name-end c =
+    let a = c.args
+    in let h : a.at < length a.s.now = search (rules, tests)
+    in let i = name_inside a.s.now a.at h _ _ (name_ends a.s.now a.at _ _ c.name_len.ensures.answer)
+    in search rules
 
 pub returns : goal.returns
-returns c = record { answer = let a = c.args in some_name a.s.now a.at (omega arith) _ c.name_end-end.ensures.answer (sym c.is_lower.ensures.answer ∙ not-false _ c.if-not-is_lower.false-raw) _ _ c.pack_high-high.ensures.answer c.pack_low-low.ensures.answer }
+returns c =
+    let a = c.args
+    in let h : a.at < length a.s.now = search (rules, tests)
+    in record {
+      answer = some_name a.s.now a.at h _ (name_ends a.s.now a.at _ _ c.name_len.ensures.answer) (search (rules, tests)) _ _ c.pack_high.ensures.answer c.pack_low.ensures.answer;
+    }

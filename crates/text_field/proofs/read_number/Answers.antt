@@ -1,14 +1,14 @@
-use mathlib.Core.Path.{sym, ◌∙◌}
-use native.Mathlib.Omega.{arith}
-use borrow.Author.Tests.{not-true, not-false}
+use mathlib.Core.Path.{◌∙◌}
+use borrow.Author.Rules.{rules}
+use borrow.Author.Tests.{tests}
 use Rattle.text_field.proofs.Steps.{no_number, no_digit, some_number}
 use Rattle.text_field.proofs.read_number.Goals as goal
 
-pub returns-then-s-at : goal.returns-then-s-at
-returns-then-s-at c = record { answer = no_number c.args.s.now c.args.at (omega arith) }
+pub returns-in_err-first : goal.returns-in_err-first
+returns-in_err-first c = record { answer = c.from_residual.ensures ∙ no_number c.args.s.now c.args.at (search (rules, tests)) }
 
 pub returns-then-not-is_digit : goal.returns-then-not-is_digit
-returns-then-not-is_digit c = record { answer = no_digit c.args.s.now c.args.at (omega arith) (sym c.is_digit.ensures.answer ∙ not-true _ c.if-not-is_digit.true-raw) }
+returns-then-not-is_digit c = record { answer = no_digit c.args.s.now c.args.at (search (rules, tests)) (search (rules, tests)) }
 
 pub returns : goal.returns
-returns c = record { answer = let a = c.args in c.digits_from.ensures.answer ∙ some_number a.s.now a.at (omega arith) _ c.digit_value.ensures.answer (sym c.is_digit.ensures.answer ∙ not-false _ c.if-not-is_digit.false-raw) }
+returns c = record { answer = let a = c.args in c.digits_from.ensures.answer ∙ some_number a.s.now a.at (search (rules, tests)) _ (search rules) (search (rules, tests)) }

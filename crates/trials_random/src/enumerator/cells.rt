@@ -2,20 +2,12 @@
 
 // A sum that stops at the largest number.
 pub fn plus(a: usize, b: usize) -> usize {
-    if usize::MAX - a < b {
-        usize::MAX
-    } else {
-        a + b
-    }
+    a.saturating_add(b)
 }
 
 // A difference that stops at 0.
 pub fn minus(a: usize, b: usize) -> usize {
-    if a < b { 0 } else { a - b }
-}
-
-fn wide(x: u8) -> usize {
-    x as usize
+    a.saturating_sub(b)
 }
 
 fn narrow(x: usize) -> u8 {
@@ -24,7 +16,7 @@ fn narrow(x: usize) -> u8 {
 
 // The number at a place, 0 past the end.
 pub fn at(s: &[u8], i: usize) -> usize {
-    if i < s.len() { wide(s[i]) } else { 0 }
+    s.get(i).copied().map_or(0, usize::from)
 }
 
 pub fn set(s: &mut [u8], i: usize, x: usize) {
@@ -52,27 +44,23 @@ fn words_left(left: usize, x: usize) -> usize {
 // Where word k of the text begins; its end if it has no such word.
 fn word_start(s: &[u8], k: usize) -> usize {
     let mut left = k;
-    let mut i = 0;
-    while i < s.len() {
+    for i in 0..s.len() {
         if left == 0 {
             return i;
         }
         left = words_left(left, at(s, i));
-        i += 1;
     }
-    i
+    s.len()
 }
 
 // Where the word that begins at a place ends.
 fn word_end(s: &[u8], from: usize) -> usize {
-    let mut i = from;
-    while i < s.len() {
+    for i in from..s.len() {
         if at(s, i) == BAR {
             return i;
         }
-        i += 1;
     }
-    i
+    from.max(s.len())
 }
 
 // Word k of a text, the empty part if it has no such word.
@@ -82,7 +70,7 @@ pub fn word(s: &[u8], k: usize) -> &[u8] {
 }
 
 // One byte where there is room, and the next place. A place past the end says that something is
-// lost.
+// lost. (No Writer: the enumerator shares no code with what it is held against.)
 pub fn put(out: &mut [u8], n: usize, x: usize) -> usize {
     set(out, n, x);
     plus(n, 1)
@@ -90,10 +78,8 @@ pub fn put(out: &mut [u8], n: usize, x: usize) -> usize {
 
 pub fn put_all(out: &mut [u8], n: usize, s: &[u8]) -> usize {
     let mut m = n;
-    let mut i = 0;
-    while i < s.len() {
+    for i in 0..s.len() {
         m = put(out, m, at(s, i));
-        i += 1;
     }
     m
 }

@@ -38,10 +38,8 @@ fn add_scope(h: &mut [u8], name: usize, scope: usize, is_last: bool) {
 }
 
 fn add_chain(h: &mut [u8], name: usize, first: usize, n: usize) {
-    let mut i = 0;
-    while i < n {
+    for i in 0..n {
         add_scope(h, name, plus(first, i), plus(i, 1) == n);
-        i += 1;
     }
 }
 
@@ -104,10 +102,8 @@ fn complete_if_open(h: &mut [u8], name: usize, pair: usize) {
 }
 
 fn complete_all(h: &mut [u8], name: usize) {
-    let mut pair = 0;
-    while pair < 64 {
+    for pair in 0..64 {
         complete_if_open(h, name, pair);
-        pair += 1;
     }
 }
 
@@ -122,8 +118,7 @@ pub fn unsettled(g: &[u8], start: usize, name: usize, due: &[u8]) -> usize {
 // The first open pair, by scope and then by end, whose completion changes the entries, whose rows
 // are given. A pair is four times the scope, and the end.
 pub fn awaited(g: &[u8], start: usize, name: usize, due: &[u8]) -> usize {
-    let mut pair = 0;
-    while pair < 64 {
+    for pair in 0..64 {
         let d = decides(g, start, name, pair, due);
         if d == 1 {
             return pair;
@@ -131,7 +126,6 @@ pub fn awaited(g: &[u8], start: usize, name: usize, due: &[u8]) -> usize {
         if d == 2 {
             return TOO_MANY;
         }
-        pair += 1;
     }
     NONE
 }

@@ -30,15 +30,7 @@ pub fn last(p: &[u8]) -> usize {
 
 // Is the scope on the path?
 fn meets(p: &[u8], scope: usize) -> bool {
-    let n = plus(steps(p), 1);
-    let mut i = 0;
-    while i < n {
-        if scope_of(at(p, plus(i, 1))) == scope {
-            return true;
-        }
-        i += 1;
-    }
-    false
+    (0..plus(steps(p), 1)).any(|i| scope_of(at(p, plus(i, 1))) == scope)
 }
 
 // May the path go on by this step? There is such an edge, and no scope occurs twice.
@@ -49,14 +41,7 @@ fn goes_on(g: &[u8], p: &[u8], step: usize) -> bool {
 // The first step, of those from a number on, that the path may go on by; 64 if there is none. Steps
 // are numbered by label, then scope.
 fn next_step(g: &[u8], p: &[u8], from: usize) -> usize {
-    let mut k = from;
-    while k < 64 {
-        if goes_on(g, p, k) {
-            return k;
-        }
-        k += 1;
-    }
-    64
+    (from..64).find(|k| goes_on(g, p, *k)).unwrap_or(64)
 }
 
 fn push(p: &mut [u8], step: usize) {
@@ -80,15 +65,13 @@ fn pop(p: &mut [u8]) -> usize {
 // and there the next one. A path here has at most 8 steps.
 fn advance(g: &[u8], p: &mut [u8]) -> bool {
     let mut from = 0;
-    let mut turns: usize = 16;
-    while turns > 0 {
+    for _ in 0..16 {
         let k = next_step(g, p, from);
         if k < 64 {
             push(p, k);
             return true;
         }
         from = plus(pop(p), 1);
-        turns -= 1;
     }
     false
 }
@@ -97,14 +80,12 @@ fn advance(g: &[u8], p: &mut [u8]) -> bool {
 fn lawful(g: &[u8], p: &[u8]) -> bool {
     let n = steps(p);
     let mut state = 0;
-    let mut i = 0;
-    while i < n {
+    for i in 0..n {
         let next = moved(g, state, label_of(step_at(p, i)));
         if next == 0 {
             return false;
         }
         state = next - 1;
-        i += 1;
     }
     accepts(g, state)
 }
@@ -145,32 +126,21 @@ fn kept(g: &[u8], p: &[u8], name: usize, table: &mut [u8], n: usize) -> usize {
 // table has room for.
 fn list(g: &[u8], name: usize, p: &mut [u8], table: &mut [u8]) -> usize {
     let mut n = 0;
-    let mut turns = MOST_LISTED;
-    while turns > 0 {
+    for _ in 0..MOST_LISTED {
         n = kept(g, p, name, table, n);
         if !advance(g, p) {
             return n;
         }
-        turns -= 1;
     }
     MOST + 1
 }
 
-fn least(a: usize, b: usize) -> usize {
-    if a < b { a } else { b }
-}
-
 // How many steps both paths have in common at the beginning.
 fn shared(p: &[u8], q: &[u8]) -> usize {
-    let n = least(steps(p), steps(q));
-    let mut i = 0;
-    while i < n {
-        if step_at(p, i) != step_at(q, i) {
-            return i;
-        }
-        i += 1;
-    }
-    n
+    let n = steps(p).min(steps(q));
+    (0..n)
+        .find(|i| step_at(p, *i) != step_at(q, *i))
+        .unwrap_or(n)
 }
 
 // What the path goes on by after so many steps.
@@ -189,14 +159,7 @@ fn more_specific(g: &[u8], p: &[u8], q: &[u8]) -> bool {
 
 // Is any of the n paths more specific than this one?
 fn shadowed(g: &[u8], table: &[u8], n: usize, q: &[u8]) -> bool {
-    let mut i = 0;
-    while i < n {
-        if more_specific(g, path(table, i), q) {
-            return true;
-        }
-        i += 1;
-    }
-    false
+    (0..n).any(|i| more_specific(g, path(table, i), q))
 }
 
 fn visible(g: &[u8], table: &[u8], n: usize, i: usize) -> usize {
@@ -209,11 +172,9 @@ fn visible(g: &[u8], table: &[u8], n: usize, i: usize) -> usize {
 
 // Each path's last byte is set to 1 if it is visible, to 0 if it is not.
 fn compare_all(g: &[u8], table: &mut [u8], n: usize) {
-    let mut i = 0;
-    while i < n {
+    for i in 0..n {
         let v = visible(g, table, n, i);
         set(table, i % MOST * 16 + 15, v);
-        i += 1;
     }
 }
 
@@ -244,12 +205,9 @@ fn entries_of(g: &[u8], p: &[u8], name: usize) -> usize {
 }
 
 pub fn entries(g: &[u8], name: usize, table: &[u8]) -> usize {
-    let n = count(table);
     let mut sum = 0;
-    let mut i = 0;
-    while i < n {
+    for i in 0..count(table) {
         sum = plus(sum, entries_of(g, path(table, i), name));
-        i += 1;
     }
     sum
 }
@@ -260,15 +218,7 @@ fn shows(p: &[u8], scope: usize) -> bool {
 
 // Does a visible path end at the scope?
 fn sees(table: &[u8], scope: usize) -> bool {
-    let n = count(table);
-    let mut i = 0;
-    while i < n {
-        if shows(path(table, i), scope) {
-            return true;
-        }
-        i += 1;
-    }
-    false
+    (0..count(table)).any(|i| shows(path(table, i), scope))
 }
 
 // The declarations of the name at a scope, if the query sees them.
@@ -283,10 +233,8 @@ fn seen_at(g: &[u8], name: usize, table: &[u8], scope: usize) -> usize {
 // The different declarations that the entries have (02, K2), however many routes lead to each.
 pub fn seen(g: &[u8], name: usize, table: &[u8]) -> usize {
     let mut sum = 0;
-    let mut s = 0;
-    while s < 16 {
+    for s in 0..16 {
         sum = plus(sum, seen_at(g, name, table, s));
-        s += 1;
     }
     sum
 }

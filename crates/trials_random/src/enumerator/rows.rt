@@ -10,12 +10,9 @@ fn put_step(out: &mut [u8], n: usize, g: &[u8], step: usize) -> usize {
 }
 
 fn put_steps(out: &mut [u8], n: usize, g: &[u8], p: &[u8]) -> usize {
-    let steps = at(p, 0);
     let mut m = n;
-    let mut i = 0;
-    while i < steps {
+    for i in 0..at(p, 0) {
         m = put_step(out, m, g, at(p, plus(i, 2)));
-        i += 1;
     }
     m
 }
@@ -41,22 +38,17 @@ fn put_entries(out: &mut [u8], n: usize, g: &[u8], name: usize, p: &[u8]) -> usi
         return n;
     }
     let mut a = n;
-    let mut m = 0;
-    while m < 4 {
+    for m in 0..4 {
         a = put_entry(out, a, g, name, p, m);
-        m += 1;
     }
     a
 }
 
 // The rows of the paths of a table; their length.
 pub fn put_rows(out: &mut [u8], g: &[u8], name: usize, table: &[u8]) -> usize {
-    let n = count(table);
     let mut m = 0;
-    let mut i = 0;
-    while i < n {
+    for i in 0..count(table) {
         m = put_entries(out, m, g, name, path(table, i));
-        i += 1;
     }
     m
 }

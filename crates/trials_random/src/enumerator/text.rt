@@ -144,11 +144,9 @@ fn put_column(out: &mut [u8], n: usize, g: &[u8], c: Column) -> usize {
 fn put_row(out: &mut [u8], n: usize, g: &[u8], s: usize, i: usize, v: usize) -> usize {
     let all = columns(s);
     let mut m = n;
-    let mut k = 0;
-    while k < all {
+    for k in 0..all {
         m = put_column(out, m, g, column_of(g, s, i, v, k));
         m = put(out, m, after(k, all));
-        k += 1;
     }
     m
 }
@@ -194,10 +192,8 @@ fn put_place(out: &mut [u8], n: usize, g: &[u8], k: usize) -> usize {
 
 pub fn put_gym(out: &mut [u8], g: &[u8]) -> usize {
     let mut n = 0;
-    let mut k = 0;
-    while k < SIZE {
+    for k in 0..SIZE {
         n = put_place(out, n, g, k);
-        k += 1;
     }
     n
 }

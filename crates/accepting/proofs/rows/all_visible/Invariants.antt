@@ -7,9 +7,9 @@ use Rattle.scope_graph.specs.Own.{all_of}
 use Rattle.accepting.specs.Tests.{row_visible}
 use Rattle.accepting.proofs.rows.all_visible.Given as goal
 
-abbrev pub invariant-loop-at : goal.invariant-loop-at
-invariant-loop-at l =
+abbrev pub invariant-loop-end : goal.invariant-loop-end
+invariant-loop-end l =
     all_of (row_visible l.table (query_on l.table l.q)) (rows_in (drop l.at l.lists)).0 ≡ all_of (row_visible l.table (query_on l.table l.q)) (rows_in (drop l.first l.lists)).0
 
-abbrev pub decreases-loop-at : goal.decreases-loop-at
-decreases-loop-at l = length l.lists - l.at
+abbrev pub decreases-loop-end : goal.decreases-loop-end
+decreases-loop-end l = length l.lists - l.at

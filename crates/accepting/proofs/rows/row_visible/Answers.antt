@@ -11,4 +11,4 @@ pub standing-requires : goal.standing-requires
 standing-requires c = record { asked = c.requires.asked; made = c.requires.made }
 
 pub returns : goal.returns
-returns c = record { answer = text_judged c.args.table.now c.args.q c.args.row.now _ _ _ (row_read c.args.row.now _ c.read_row.ensures.answer _ _ _ c.in-Row.is) _ c.steps_of.ensures.answer _ c.standing.ensures.answer _ c.is_visible.ensures.answer }
+returns c = record { answer = text_judged c.args.table.now c.args.q c.args.row.now _ _ _ (row_read c.args.row.now _ c.read_row.ensures.answer _ _ _ c.in-Some.is) _ c.steps_of.ensures.answer _ c.as_slice.ensures.answer _ c.standing.ensures.answer _ c.is_visible.ensures.answer }

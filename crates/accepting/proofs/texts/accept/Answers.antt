@@ -1,10 +1,13 @@
--- `accept` meets its contract: either table has room for the text. Assumes nothing.
-use mathlib.Core.Logic.{inl}
-use native.Mathlib.Omega.{arith}
+-- `accept` meets its contract: the text's refusals, then the table's. Assumes nothing.
+use borrow.Author.Rules.{rules}
+use Rattle.text_field.specs.Outcome.{and_then}
+use Rattle.accepting.specs.Verdict.{meaning, accept_for}
 use Rattle.accepting.proofs.texts.accept.Goals as goal
 
-pub accept_over-requires : goal.accept_over-requires
-accept_over-requires c = record { room = c.is_short.ensures.room c.if-is_short.true }
+pub returns-in_err-with_graph : goal.returns-in_err-with_graph
+unfolding and_then meaning accept_for
+returns-in_err-with_graph c = record { answer = rw c.in_err-with_graph.ensures.refused.0 (search rules) }
 
-pub accept_over-requires-2 : goal.accept_over-requires-2
-accept_over-requires-2 c = record { room = inl (omega arith) }
+pub returns : goal.returns
+unfolding and_then accept_for
+returns c = record { answer = rw c.in_ok-with_graph.ensures.read.1 (search rules) }

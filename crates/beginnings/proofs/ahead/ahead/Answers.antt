@@ -31,12 +31,6 @@ offset_bounds-near-u-in-loop-i c = omega arith
 pub bounds-near-u-in-loop-i : goal.bounds-near-u-in-loop-i
 bounds-near-u-in-loop-i c = omega arith
 
-pub overflow_add-i : goal.overflow_add-i
-overflow_add-i c = omega arith
-
-pub loop-i-smaller : goal.loop-i-smaller
-loop-i-smaller c = omega arith
-
 pub loop-i-preserved : goal.loop-i-preserved
 loop-i-preserved c = simp length-set c.loop-i.invariant
 

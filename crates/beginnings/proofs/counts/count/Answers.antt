@@ -1,10 +1,14 @@
--- `count` meets its contract: either table has room for the text. Assumes nothing.
-use mathlib.Core.Logic.{inl}
-use native.Mathlib.Omega.{arith}
+-- `count` meets its contract: the text's refusals, then the table's. Assumes nothing.
+use borrow.Author.Rules.{rules}
+use Rattle.text_field.specs.Outcome.{and_then}
+use Rattle.text_field.specs.Answer.{answer_of}
+use Rattle.beginnings.specs.Beginnings.{count_for}
 use Rattle.beginnings.proofs.counts.count.Goals as goal
 
-pub count_over-requires : goal.count_over-requires
-count_over-requires c = record { room = c.is_short.ensures.room c.if-is_short.true }
+pub returns-in_err-with_graph : goal.returns-in_err-with_graph
+unfolding and_then answer_of count_for
+returns-in_err-with_graph c = record { answer = rw c.in_err-with_graph.ensures.refused.0 (search rules) }
 
-pub count_over-requires-2 : goal.count_over-requires-2
-count_over-requires-2 c = record { room = inl (omega arith) }
+pub returns : goal.returns
+unfolding and_then count_for
+returns c = record { answer = rw c.in_ok-with_graph.ensures.read.1 (search rules) }

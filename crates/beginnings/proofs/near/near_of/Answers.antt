@@ -6,14 +6,8 @@ use Rattle.beginnings.proofs.near.near_of.Goals as goal
 pub loop-p-init : goal.loop-p-init
 loop-p-init c = rw c.edges_from-p.ensures.answer (near_none _ _ c.requires.scope)
 
-pub overflow_add-p : goal.overflow_add-p
-overflow_add-p c = omega arith
-
-pub loop-p-smaller : goal.loop-p-smaller
-loop-p-smaller c = omega arith
-
 pub loop-p-preserved : goal.loop-p-preserved
 loop-p-preserved c = near_more _ _ _ _ _ _ (omega (arith, c)) c.loop-p.invariant c.edge_at.ensures.answer (rw c.edge_scope.ensures.answer at c.single-out.ensures.answer)
 
 pub returns : goal.returns
-returns c = record { covers = near_all _ _ _ _ (omega (arith, c.edges_end-end.ensures.answer)) c.loop-p.invariant }
+returns c = record { covers = near_all _ _ _ _ (omega (arith, c.edges_end-p-end.ensures.answer)) c.loop-p.invariant }

@@ -1,32 +1,17 @@
 -- `is_unordered` meets its contract. Assumes nothing.
-use mathlib.Core.Bool.{false≢true}
+use Prim.Native.Nat.{◌%◌}
+use mathlib.Core.Path.{◌≡◌}
+use borrow.Author.Rules.{rules}
+use borrow.Author.Tests.{tests}
 use native.Mathlib.Omega.{arith}
-use Rattle.beginnings.proofs.UncutLaws.{unordered_more, unordered_all}
+use lib.ListN.{take, drop}
+use Rattle.std.proofs.lemmas.Iterator.{cases_from_all, YieldsList-from_slice}
+use Rattle.block.specs.Layout.{BETTER}
+use Rattle.beginnings.proofs.UncutLaws.{unordered_cells}
 use Rattle.beginnings.proofs.uncut.is_unordered.Goals as goal
 
-pub loop-c-init : goal.loop-c-init
-loop-c-init c = (omega arith, λ a c h. absurd (omega arith))
-
-pub overflow_add-c : goal.overflow_add-c
-overflow_add-c c = omega arith
-
-pub offset_bounds-block-c : goal.offset_bounds-block-c
-offset_bounds-block-c c = omega arith
-
-pub bounds-block-c : goal.bounds-block-c
-bounds-block-c c = omega arith
-
-pub returns-then-block-c-ne0 : goal.returns-then-block-c-ne0
-returns-then-block-c-ne0 c = record { none = λ e. absurd (false≢true e) }
-
-pub overflow_add-c-in-loop-c : goal.overflow_add-c-in-loop-c
-overflow_add-c-in-loop-c c = omega arith
-
-pub loop-c-smaller : goal.loop-c-smaller
-loop-c-smaller c = omega arith
-
-pub loop-c-preserved : goal.loop-c-preserved
-loop-c-preserved c = (omega arith, unordered_more _ c.loop-c.c (omega arith) c.if-block-c-ne0.false c.loop-c.invariant.1)
-
 pub returns : goal.returns
-returns c = record { none = λ e. unordered_all _ c.loop-c.c (omega arith) c.loop-c.invariant.1 }
+returns c = record {
+  none = λ e. let told = cases_from_all _ _ _ (λ x. x % 512 ≡ 0) (λ x. Unit {0}) c.all.ensures.ran (YieldsList-from_slice (take 9 (drop BETTER c.args.block.now)) (search rules)) (λ x q k. search (rules, tests)) (λ x q k. tt) in
+      unordered_cells c.args.block.now (omega arith) (rw e at told);
+}

@@ -9,20 +9,14 @@ loop-width-init c = omega arith
 pub ahead-fewer-requires : goal.ahead-fewer-requires
 ahead-fewer-requires c = record { near = c.requires.near; start = c.requires.inside.scope; width = omega (arith, c.loop-width.invariant) }
 
-pub slice_bounds-leaves_out-end : goal.slice_bounds-leaves_out-end
-slice_bounds-leaves_out-end c = omega arith
-
-pub leaves_out-requires : goal.leaves_out-requires
-leaves_out-requires c = record { near = c.requires.near; fewer = omega arith }
-
-pub returns-then-not-leaves_out : goal.returns-then-not-leaves_out
-returns-then-not-leaves_out c = record { most = λ e. absurd (false≢true e) }
+pub returns-then-eq : goal.returns-then-eq
+returns-then-eq c = record { most = λ e. absurd (false≢true e) }
 
 pub slice_bounds-count_by-end : goal.slice_bounds-count_by-end
 slice_bounds-count_by-end c = omega arith
 
 pub count_by-requires : goal.count_by-requires
-count_by-requires c = record { block = c.requires.block; bounds = c.requires.bounds; ask = c.requires.ask; live = c.requires.live; table = c.requires.table; worth = c.requires.worth; near = omega arith; hopes = c.requires.hopes; inside = c.requires.inside; few = c.requires.few }
+count_by-requires c = record { bounds = c.requires.bounds; live = c.requires.live; table = c.requires.table; worth = c.requires.worth; near = omega arith; hopes = c.requires.hopes; inside = c.requires.inside; few = c.requires.few }
 
 pub returns-then-count_by-ge-MOST : goal.returns-then-count_by-ge-MOST
 returns-then-count_by-ge-MOST c = record { most = λ e. omega (arith, c.count_by.ensures.told.below c.requires.uncut, c.if-count_by-ge-MOST.true) }

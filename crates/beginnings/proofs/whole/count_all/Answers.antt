@@ -7,7 +7,7 @@ use Rattle.beginnings.proofs.Start.{at_start_lem}
 use Rattle.beginnings.proofs.whole.count_all.Goals as goal
 
 pub comes_to_most-requires : goal.comes_to_most-requires
-comes_to_most-requires c = let begun = at_start_lem c.args.block.now c.args.ask.now c.args.onward.now c.scope_count-scopes.result c.ask_start-start.result c.first_scopes.result c.taken.result c.scope_count-scopes.ensures.answer c.ask_start-start.ensures.answer c.first_scopes.ensures.answer c.taken.ensures.answer c.requires.live c.requires.start c.requires.scopes c.requires.inside c.requires.worth in record { block = c.requires.block; bounds = c.requires.bounds; ask = c.requires.ask; live = begun.live; table = c.requires.table; worth = begun.worth; near = omega arith; hopes = c.requires.hopes; inside = begun.inside; few = begun.few; uncut = c.is_uncut.ensures.uncut c.if-is_uncut.true }
+comes_to_most-requires c = let begun = at_start_lem c.args.block.now c.args.ask.now c.args.onward.now c.scope_count-scopes.result c.ask_start-start.result c.first_scopes.result c.taken.result c.scope_count-scopes.ensures.answer c.ask_start-start.ensures.answer c.first_scopes.ensures.answer c.taken.ensures.answer c.requires.live c.requires.start c.requires.scopes c.requires.inside c.requires.worth in record { bounds = c.requires.bounds; live = begun.live; table = c.requires.table; worth = begun.worth; near = omega arith; hopes = c.requires.hopes; inside = begun.inside; few = begun.few; uncut = c.is_uncut.ensures.uncut c.if-is_uncut.true }
 
 pub returns-then-comes_to_most : goal.returns-then-comes_to_most
 returns-then-comes_to_most c = record {
@@ -16,7 +16,7 @@ returns-then-comes_to_most c = record {
 }
 
 pub count_by-requires : goal.count_by-requires
-count_by-requires c = let begun = at_start_lem c.args.block.now c.args.ask.now c.args.onward.now c.scope_count-scopes.result c.ask_start-start.result c.first_scopes.result c.taken.result c.scope_count-scopes.ensures.answer c.ask_start-start.ensures.answer c.first_scopes.ensures.answer c.taken.ensures.answer c.requires.live c.requires.start c.requires.scopes c.requires.inside c.requires.worth in record { block = c.requires.block; bounds = c.requires.bounds; ask = c.requires.ask; live = begun.live; table = c.requires.table; worth = begun.worth; near = omega arith; hopes = c.requires.hopes; inside = begun.inside; few = begun.few }
+count_by-requires c = let begun = at_start_lem c.args.block.now c.args.ask.now c.args.onward.now c.scope_count-scopes.result c.ask_start-start.result c.first_scopes.result c.taken.result c.scope_count-scopes.ensures.answer c.ask_start-start.ensures.answer c.first_scopes.ensures.answer c.taken.ensures.answer c.requires.live c.requires.start c.requires.scopes c.requires.inside c.requires.worth in record { bounds = c.requires.bounds; live = begun.live; table = c.requires.table; worth = begun.worth; near = omega arith; hopes = c.requires.hopes; inside = begun.inside; few = begun.few }
 
 pub returns : goal.returns
 returns c = record {

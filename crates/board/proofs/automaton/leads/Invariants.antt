@@ -1,4 +1,3 @@
-use Prim.Native.Nat.{◌≤◌}
 use mathlib.Core.Path.{◌≡◌}
 use Rattle.scope_graph.specs.Computed.{any_below}
 use Rattle.block.specs.Sets.{has_state}
@@ -6,7 +5,4 @@ use Rattle.block.specs.Block.{next_cell}
 use Rattle.board.proofs.automaton.leads.Given as goal
 
 abbrev pub invariant-loop-l : goal.invariant-loop-l
-invariant-loop-l l = (l.l ≤ 8) × (any_below (λ k. has_state l.set (next_cell l.delta l.q k)) l.l ≡ any_below (λ k. has_state l.set (next_cell l.delta l.q k)) 8)
-
-abbrev pub decreases-loop-l : goal.decreases-loop-l
-decreases-loop-l l = l.l
+invariant-loop-l l = any_below (λ k. has_state l.set (next_cell l.block l.q k)) l.l ≡ any_below (λ k. has_state l.set (next_cell l.block l.q k)) 8

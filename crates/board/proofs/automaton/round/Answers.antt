@@ -1,26 +1,8 @@
-use Rattle.board.specs.Tables.{round_set}
-use Rattle.board.proofs.Sets.{gathered_none, gathered_next, gathered_few, gathered_all}
-use native.Mathlib.Omega.{arith}
+use borrow.Author.Rules.{rules}
+use Rattle.block.specs.Block.{next_cell, accept_set}
+use Rattle.board.specs.Tables.{round_set, round_flag}
 use Rattle.board.proofs.automaton.round.Goals as goal
-
-pub loop-q-init : goal.loop-q-init
-loop-q-init c = gathered_none _
-
-pub round_bit-out-requires : goal.round_bit-out-requires
-round_bit-out-requires c = record { table = c.requires.table; state = c.loop-q-test.true }
-
-pub overflow_add-out : goal.overflow_add-out
-overflow_add-out c = let l = gathered_few _ _ _ _ c.loop-q.invariant c.loop-q-test.true c.round_bit-out.ensures.answer in omega arith
-
-pub overflow_add-q : goal.overflow_add-q
-overflow_add-q c = omega arith
-
-pub loop-q-smaller : goal.loop-q-smaller
-loop-q-smaller c = omega arith
-
-pub loop-q-preserved : goal.loop-q-preserved
-loop-q-preserved c = gathered_next _ _ _ _ c.loop-q.invariant c.loop-q-test.true c.round_bit-out.ensures.answer
 
 pub returns : goal.returns
 unfolding round_set
-returns c = record { answer = gathered_all _ _ _ c.loop-q.invariant c.loop-q-test.false }
+returns c = record { answer = c.states_where.ensures.answer (round_flag (next_cell c.args.block.now) (accept_set c.args.block.now) c.args.set) (λ q r h p. search rules) }

@@ -1,8 +1,6 @@
+use Prim.Native.Nat.{◌*◌}
 use Rattle.board.proofs.Passes.{Stepping}
 use Rattle.board.proofs.automaton.transition_table.Given as goal
 
-abbrev pub invariant-loop-p : goal.invariant-loop-p
-invariant-loop-p l = Stepping l.rows l.p l.t
-
-abbrev pub decreases-loop-p : goal.decreases-loop-p
-decreases-loop-p l = l.p
+abbrev pub invariant-loop-i : goal.invariant-loop-i
+invariant-loop-i l = Stepping l.rows (l.i * 6) l.t

@@ -9,21 +9,9 @@ use Rattle.board.proofs.letters.letter_table.Goals as goal
 pub loop-i-init : goal.loop-i-init
 loop-i-init c = filled_none _ 8 _ (length-replicate {A = ℕ} 8 0)
 
-pub offset_bounds-t-i : goal.offset_bounds-t-i
-offset_bounds-t-i c = omega arith
-
-pub bounds-t-i : goal.bounds-t-i
-bounds-t-i c = omega arith
-
-pub overflow_add-i : goal.overflow_add-i
-overflow_add-i c = omega arith
-
-pub loop-i-smaller : goal.loop-i-smaller
-loop-i-smaller c = omega arith
-
 pub loop-i-preserved : goal.loop-i-preserved
 unfolding letter_of
-loop-i-preserved c = filled_next _ _ _ _ _ c.loop-i.invariant c.loop-i-test.true (ap (λ v. v % 256) c.value_of.ensures.answer)
+loop-i-preserved c = filled_next _ _ _ _ _ c.loop-i.invariant (omega arith) (ap (λ v. v % 256) c.value_of.ensures.answer)
 
 pub returns : goal.returns
 returns c = record { answer = filled_all _ _ _ _ c.loop-i.invariant c.loop-i-test.false }

@@ -3,10 +3,10 @@ use borrow.Author.Rules.{rules}
 use Rattle.board.proofs.making.put_board.Goals as goal
 
 pub put_rules-requires : goal.put_rules-requires
-put_rules-requires c = record { places = starts_are _ _ c.starts-at.ensures.answer; block = c.requires.block }
+put_rules-requires c = record { places = starts_are _ _ c.starts-at.ensures.answer }
 
 pub put_graph-requires : goal.put_graph-requires
-put_graph-requires c = record { places = starts_are _ _ c.starts-at.ensures.answer; block = c.put_rules.ensures.put.size }
+put_graph-requires c = record { places = starts_are _ _ c.starts-at.ensures.answer }
 
 pub rows_at-requires : goal.rows_at-requires
 rows_at-requires c = record { places = starts_are _ _ c.starts-at.ensures.answer; section = search rules }

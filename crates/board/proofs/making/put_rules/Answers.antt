@@ -1,64 +1,46 @@
-use Prim.Native.Nat.{ℕ, ◌≤◌}
+use Prim.Native.Nat.{ℕ}
 use mathlib.Core.Path.{◌≡◌, ap, subst, ◌∙◌}
 use mathlib.Core.List.{List}
 use lib.ListN.{length, get_or, set, length-set}
+use borrow.Rule.Slice.PartMut.{put_mid}
 use Rattle.graph_rows.specs.Admission.{value, blank}
-use Rattle.block.specs.Block.{next_cell}
 use Rattle.graph_table.specs.Sections.{rows_of}
-use Rattle.board.specs.Tables.{tabulate, transition_cells, accepted, letter_of, BetterIs, hopeful_set, usable_states}
-use Rattle.board.specs.Made.{delta_of}
-use Rattle.board.proofs.Fill.{tabulate_length}
+use Rattle.block.specs.Layout.{DELTA, BETTER, ACCEPT, SCOPES, USABLE, LETTER}
+use Rattle.board.specs.Tables.{tabulate, transition_cells, accepted, letter_of, BetterIs}
+use Rattle.board.proofs.CellLaws.{puts_size, copied}
 use Rattle.board.proofs.FillLaws.{rules_put}
 use native.Mathlib.Omega.{arith}
-use borrow.Author.Rules.{rules}
 use Rattle.board.proofs.making.put_rules.Goals as goal
-
-pub slice_bounds-put_cells-end : goal.slice_bounds-put_cells-end
-slice_bounds-put_cells-end c = search (rules, c.transition_table-delta)
-
-pub put_cells-requires : goal.put_cells-requires
-put_cells-requires c = record { room = search (rules, c.transition_table-delta, c.requires.block) }
-
-pub put_cells-requires-2 : goal.put_cells-requires-2
-put_cells-requires-2 c = record { room = let z = c.put_cells.auto.block ∙ c.requires.block in omega arith }
-
-pub bounds-block-137 : goal.bounds-block-137
-bounds-block-137 c = let z = c.put_cells-2.auto.block ∙ c.put_cells.auto.block ∙ c.requires.block in omega arith
-
-pub bounds-block-138 : goal.bounds-block-138
-bounds-block-138 c = let z = c.put_cells-2.auto.block ∙ c.put_cells.auto.block ∙ c.requires.block in simp length-set (omega arith)
-
-pub put_cells-requires-3 : goal.put_cells-requires-3
-put_cells-requires-3 c = record { room = let z = c.put_cells-2.auto.block ∙ c.put_cells.auto.block ∙ c.requires.block in let u = ap length c.usable_table-usable.ensures.answer ∙ tabulate_length _ 9 in simp length-set (omega arith) }
-
-pub put_cells-requires-4 : goal.put_cells-requires-4
-put_cells-requires-4 c = record {
-  room = let z = c.put_cells-2.auto.block ∙ c.put_cells.auto.block ∙ c.requires.block in
-      let y : length c.put_cells-3.new.block ≡ 1900 = c.put_cells-3.auto.block ∙ length-set (set c.put_cells-2.new.block 137 c.accept_set-accept.result) 138 c.value_of-scopes.result ∙ length-set c.put_cells-2.new.block 137 c.accept_set-accept.result ∙ z in
-      let u = ap length c.letter_table-letters.ensures.answer ∙ tabulate_length _ 8 in omega arith;
-}
-
-pub bounds-block-808 : goal.bounds-block-808
-bounds-block-808 c = let z = c.put_cells-2.auto.block ∙ c.put_cells.auto.block ∙ c.requires.block in
-    let y : length c.put_cells-3.new.block ≡ 1900 = c.put_cells-3.auto.block ∙ length-set (set c.put_cells-2.new.block 137 c.accept_set-accept.result) 138 c.value_of-scopes.result ∙ length-set c.put_cells-2.new.block 137 c.accept_set-accept.result ∙ z in
-    let x : length c.put_cells-4.new.block ≡ 1900 = c.put_cells-4.auto.block ∙ y in omega arith
-
-pub shape_of-block : goal.shape_of-block
-shape_of-block c = let z = c.put_cells-2.auto.block ∙ c.put_cells.auto.block in
-    length-set c.put_cells-4.new.block 808 c.states_of-states.result ∙ c.put_cells-4.auto.block ∙ c.put_cells-3.auto.block ∙ length-set (set c.put_cells-2.new.block 137 c.accept_set-accept.result) 138 c.value_of-scopes.result ∙ length-set c.put_cells-2.new.block 137 c.accept_set-accept.result ∙ z
 
 pub returns : goal.returns
 returns c = record {
-  put = let delta-eq : c.transition_table-delta.result ≡ delta_of c.args.table.now = c.transition_table-delta.ensures.answer ∙ ap (λ (x : List ℕ). transition_cells (rows_of x)) c.rows_at.ensures.answer in
-      rules_put c.args.table.now c.args.block.now c.better_table-better.result c.accept_set-accept.result c.value_of-scopes.result c.states_of-states.result c.requires.block
-      (subst (λ (x : List ℕ). BetterIs (rows_of x) c.better_table-better.result) c.rows_at-3.ensures.answer c.better_table-better.ensures.answer)
-      (λ q h. c.accept_set-accept.ensures.answer q h ∙ ap (λ (x : List ℕ). accepted (rows_of x) q) c.rows_at-2.ensures.answer)
-      (c.value_of-scopes.ensures.answer ∙ ap (λ (x : List ℕ). value (get_or (rows_of x) 0 blank) 0) c.rows_at-4.ensures.answer)
-      (subst (λ (x : List ℕ). (q l : ℕ) → c.states_of-states.result ≤ q → 16 ≤ next_cell x q l) delta-eq c.states_of-states.ensures.still)
-      c.transition_table-delta.result c.usable_table-usable.result c.letter_table-letters.result
-      c.put_cells.new.block c.put_cells-2.new.block c.put_cells-3.new.block c.put_cells-4.new.block
-      delta-eq
-      (c.usable_table-usable.ensures.answer ∙ ap (λ (x : List ℕ). tabulate (usable_states (next_cell x) c.accept_set-accept.result (hopeful_set (next_cell x) c.accept_set-accept.result)) 9) delta-eq)
+  put = let table = c.args.table.now in
+      let b0 = c.args.block.now in
+      let delta = c.transition_table-delta.result in
+      let better = c.better_table-better.result in
+      let usable = c.usable_table-usable.result in
+      let letters = c.letter_table-letters.result in
+      let b1 : List ℕ = put_mid DELTA 128 b0 c.copy_from_slice.new.self in
+      let b2 : List ℕ = put_mid BETTER 9 b1 c.copy_from_slice-2.new.self in
+      let b4 : List ℕ = set (set b2 ACCEPT c.accepting.result) SCOPES c.value_of.result in
+      let b5 : List ℕ = put_mid USABLE 9 b4 c.copy_from_slice-3.new.self in
+      let b6 : List ℕ = put_mid LETTER 8 b5 c.copy_from_slice-4.new.self in
+      let e1 = copied b0 DELTA 128 _ delta c.copy_from_slice.ensures.after (omega arith) (omega arith) in
+      let l1 : length b1 ≡ 1900 = ap length e1 ∙ puts_size delta b0 DELTA ∙ c.told-block in
+      let e2 = copied b1 BETTER 9 _ better c.copy_from_slice-2.ensures.after (omega arith) (omega arith) in
+      let l2 : length b2 ≡ 1900 = ap length e2 ∙ puts_size better b1 BETTER ∙ l1 in
+      let l4 : length b4 ≡ 1900 = simp length-set l2 in
+      let e5 = copied b4 USABLE 9 _ usable c.copy_from_slice-3.ensures.after (omega arith) (omega arith) in
+      let l5 : length b5 ≡ 1900 = ap length e5 ∙ puts_size usable b4 USABLE ∙ l4 in
+      let e6 = copied b5 LETTER 8 _ letters c.copy_from_slice-4.ensures.after (omega arith) (omega arith) in
+      rules_put table b0 better c.accepting.result c.value_of.result c.told-block
+      (subst (λ (x : List ℕ). BetterIs (rows_of x) better) c.rows_at-2.ensures.answer c.better_table-better.ensures.answer)
+      c.states_of.result delta usable letters b1 b2 b5 b6
+      (c.transition_table-delta.ensures.answer ∙ ap (λ (x : List ℕ). transition_cells (rows_of x)) c.rows_at.ensures.answer)
+      e1 e2 c.usable_table-usable.ensures.answer e5
       (c.letter_table-letters.ensures.answer ∙ ap (λ (x : List ℕ). tabulate (letter_of (rows_of x)) 8) c.rows_at-5.ensures.answer)
-      c.put_cells.ensures.cells c.put_cells-2.ensures.cells c.put_cells-3.ensures.cells c.put_cells-4.ensures.cells;
+      e6
+      (λ q h. c.accepting.ensures.answer q h ∙ ap (λ (x : List ℕ). accepted (rows_of x) q) c.rows_at-3.ensures.answer)
+      (c.value_of.ensures.answer ∙ ap (λ (x : List ℕ). value (get_or (rows_of x) 0 blank) 0) c.rows_at-4.ensures.answer)
+      c.states_of.ensures.still;
 }

@@ -1,12 +1,16 @@
 -- `end_place` meets its contract, by the match on the end. Assumes nothing.
-use Rattle.board.proofs.Passes.{end_stop, end_none, end_label}
+use borrow.Author.Tests.{lt-ltb, le-ltb}
+use Rattle.board.specs.Places.{end_place}
 use Rattle.board.proofs.order.end_place.Goals as goal
 
-pub returns-then-l-ge-LABELS : goal.returns-then-l-ge-LABELS
-returns-then-l-ge-LABELS c = record { answer = end_none _ _ _ c.in-Label.is c.if-l-ge-LABELS.true }
-
 pub returns-in-Stop : goal.returns-in-Stop
-returns-in-Stop c = record { answer = end_stop _ c.in-Stop.is }
+unfolding end_place
+returns-in-Stop c = record { answer = rw c.in-Stop.is }
 
-pub returns-else-l-ge-LABELS : goal.returns-else-l-ge-LABELS
-returns-else-l-ge-LABELS c = record { answer = end_label _ _ _ c.in-Label.is c.if-l-ge-LABELS.false }
+pub returns-in-Label : goal.returns-in-Label
+unfolding end_place
+returns-in-Label c = record { answer = rw (c.in-Label.is, lt-ltb _ _ c.if-l-lt-LABELS.true, end_place) }
+
+pub returns-in-Label-2 : goal.returns-in-Label-2
+unfolding end_place
+returns-in-Label-2 c = record { answer = rw (c.in-Label.is, le-ltb _ _ c.if-l-lt-LABELS.false, end_place) }

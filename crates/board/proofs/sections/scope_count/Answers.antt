@@ -7,4 +7,4 @@ use Rattle.board.proofs.SectionFound.{count_is}
 use Rattle.board.proofs.sections.scope_count.Goals as goal
 
 pub returns : goal.returns
-returns c = record { answer = c.cell.ensures.answer ∙ ap (λ (l : List ℕ). get_or l 1 0) c.section_rows.ensures.answer ∙ count_is c.args.table.now c.requires.read }
+returns c = record { answer = c.get_or.ensures.answer ∙ ap (λ (l : List ℕ). get_or l 1 0) c.section_rows.ensures.answer ∙ count_is c.args.table.now c.requires.read }

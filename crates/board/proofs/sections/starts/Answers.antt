@@ -1,33 +1,30 @@
-use Prim.Native.Nat.{ℕ}
-use lib.ListN.{length-replicate}
-use Rattle.board.proofs.Fill.{filled_none, filled_next, filled_all}
-use Rattle.graph_table.proofs.Leading.{looking_starts, looking_place, looking_next}
+use Prim.Native.Nat.{ℕ, ◌+◌, ◌-◌}
+use mathlib.Core.Path.{◌≡◌, ap, ◌∙◌, fun_ext}
+use mathlib.Core.List.{List}
+use lib.ListN.{length, take, drop, length-drop}
+use lib.Seq.{take_all}
 use native.Mathlib.Omega.{arith}
+use Rattle.graph_table.specs.Sections.{leading}
+use Rattle.graph_table.proofs.Leading.{first_within, start_first}
+use Rattle.board.specs.Tables.{tabulate}
 use Rattle.board.proofs.sections.starts.Goals as goal
 
-pub loop-k-init : goal.loop-k-init
-loop-k-init c = (filled_none _ 10 _ (length-replicate {A = ℕ} 10 0), looking_starts c.args.table.now c.first_row-p.result c.first_row-p.ensures.answer)
+pub offset_bounds-table-from : goal.offset_bounds-table-from
+offset_bounds-table-from c = let w = first_within c.args.table.now in omega (arith, c.first_row-from.ensures.answer)
 
-pub rows_from-p-requires : goal.rows_from-p-requires
-rows_from-p-requires c = record { column = omega arith; within = c.loop-k.invariant.1.within }
+pub slice_bounds-places-count : goal.slice_bounds-places-count
+slice_bounds-places-count c = let w = first_within c.args.table.now in omega (arith, c.first_row-from.ensures.answer)
 
-pub offset_bounds-t-k : goal.offset_bounds-t-k
-offset_bounds-t-k c = omega arith
-
-pub bounds-t-k : goal.bounds-t-k
-bounds-t-k c = omega arith
-
-pub overflow_add-k : goal.overflow_add-k
-overflow_add-k c = omega arith
-
-pub loop-k-smaller : goal.loop-k-smaller
-loop-k-smaller c = omega arith
-
-pub loop-k-preserved : goal.loop-k-preserved
-loop-k-preserved c = (
-  filled_next _ _ _ _ _ c.loop-k.invariant.0 c.loop-k-test.true (looking_place _ _ _ _ _ _ c.loop-k.invariant.1 c.rows_from-p.ensures.answer),
-  looking_next _ _ _ _ _ _ c.loop-k.invariant.1 c.rows_from-p.ensures.answer,
-)
+pub slice_bounds-places-start : goal.slice_bounds-places-start
+slice_bounds-places-start c = let w = first_within c.args.table.now in omega (arith, c.first_row-from.ensures.answer)
 
 pub returns : goal.returns
-returns c = record { answer = filled_all _ _ _ _ c.loop-k.invariant.0 c.loop-k-test.false }
+returns c = record {
+  answer = let table = c.args.table.now in
+      let from = c.first_row-from.result in
+      let rest : take (length table - from) (drop from table) ≡ drop from table = take_all (length table - from) (drop from table) (omega (arith, length-drop from table)) in
+      let found : c.places.result ≡ tabulate (λ k. from + leading 0 k (take (length table - from) (drop from table))) 10 = c.places.ensures.answer in
+      found
+      ∙ ap (λ (f : ℕ → ℕ). tabulate f 10)
+      (fun_ext (λ k. ap (λ (l : List ℕ). from + leading 0 k l) rest ∙ ap (λ (n : ℕ). n + leading 0 k (drop n table)) c.first_row-from.ensures.answer ∙ start_first k table));
+}

@@ -1,26 +1,14 @@
--- `agreed` meets its contract. The loop's invariant: the steps counted and those that are left make
--- the number. Assumes nothing.
-use native.Mathlib.Omega.{arith}
-use Rattle.comparison.proofs.AgreeLaws.{starts_at, agrees_ends, agrees_stops, agrees_letter, agrees_scope, agrees_on}
+-- `agreed` meets its contract: the place of the first difference, or the length of the shorter one.
+-- Assumes nothing.
+use mathlib.Core.Path.{◌≡◌, ◌∙◌}
+use borrow.Author.Tests.{tests}
+use Rattle.std.proofs.Common.{rules}
+use Rattle.std.proofs.lemmas.Iterator.{IsFirst-from_position, YieldsList-from_slice, YieldsList-from_zip}
+use Rattle.path_row.specs.declared.form.Step.{Step}
+use Rattle.comparison.proofs.AgreeLaws.{first_difference}
 use Rattle.comparison.proofs.agree.agreed.Goals as goal
 
-pub loop-equal-init : goal.loop-equal-init
-loop-equal-init c = starts_at _
-
-pub returns-then-b-equal : goal.returns-then-b-equal
-returns-then-b-equal c = record { answer = agrees_stops c.args.a c.args.b c.loop-equal.equal _ c.loop-equal.invariant c.if-b-equal.true }
-
-pub returns-then-s-t : goal.returns-then-s-t
-returns-then-s-t c = record { answer = agrees_letter c.args.a c.args.b c.loop-equal.equal _ c.loop-equal.invariant c.loop-equal-test.true c.if-b-equal.false c.step_of-s.result c.step_of-t.result c.step_of-s.ensures.answer c.step_of-t.ensures.answer c.if-s-t.true }
-
-pub returns-then-s-t-2 : goal.returns-then-s-t-2
-returns-then-s-t-2 c = record { answer = agrees_scope c.args.a c.args.b c.loop-equal.equal _ c.loop-equal.invariant c.loop-equal-test.true c.if-b-equal.false c.step_of-s.result c.step_of-t.result c.step_of-s.ensures.answer c.step_of-t.ensures.answer c.if-s-t-2.true }
-
-pub loop-equal-smaller : goal.loop-equal-smaller
-loop-equal-smaller c = omega arith
-
-pub loop-equal-preserved : goal.loop-equal-preserved
-loop-equal-preserved c = agrees_on c.args.a c.args.b c.loop-equal.equal _ c.loop-equal.invariant c.loop-equal-test.true c.if-b-equal.false c.step_of-s.result c.step_of-t.result c.step_of-s.ensures.answer c.step_of-t.ensures.answer c.if-s-t.false c.if-s-t-2.false
-
 pub returns : goal.returns
-returns c = record { answer = agrees_ends c.args.a c.args.b c.loop-equal.equal _ c.loop-equal.invariant c.loop-equal-test.false }
+returns c =
+    let first = IsFirst-from_position c.position.new.self _ _ (λ (p : Step × Step). p.0 ≡ p.1 → ⊥) (λ (p : Step × Step). p.0 ≡ p.1) c.position.ensures.ran (YieldsList-from_zip {s = c.zip-pairs.result} (YieldsList-from_slice c.args.a.now cc) (YieldsList-from_slice c.args.b.now cc)) (λ x q k. search (rules, tests)) (λ x q k. search (rules, tests)) in
+    record { answer = c.unwrap_or.ensures ∙ rw c.min.ensures (first_difference c.args.a.now c.args.b.now _ first) }

@@ -1,12 +1,8 @@
 use mathlib.Core.Path.{◌≡◌}
-use Prim.Native.Nat.{◌-◌, ◌≤◌}
 use Rattle.path_row.specs.Numbering.{label_number}
 use Rattle.comparison.specs.Letters.{block_letters}
 use Rattle.comparison.proofs.LetterLaws.{seek}
 use Rattle.comparison.proofs.letters.label_number.Given as goal
 
 abbrev pub invariant-loop-l : goal.invariant-loop-l
-invariant-loop-l l = (label_number (block_letters l.block) l.x ≡ seek l.block l.x l.l) × (l.l ≤ 8)
-
-abbrev pub decreases-loop-l : goal.decreases-loop-l
-decreases-loop-l l = 8 - l.l
+invariant-loop-l l = label_number (block_letters l.block) l.x ≡ seek l.block l.x l.l

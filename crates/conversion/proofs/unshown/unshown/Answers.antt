@@ -1,28 +1,37 @@
--- `unshown` meets its contract. The loop's invariant: what the rows from here on tell is what
--- all rows tell. Assumes nothing.
-use mathlib.Core.Path.{sym, ◌∙◌}
+-- `unshown` meets its contract: each row is asked by its number. Assumes nothing.
+use mathlib.Core.Path.{refl, ◌∙◌}
+use native.Mathlib.Nat.{sub-zero}
 use native.Mathlib.Omega.{arith}
+use lib.ListN.{length}
+use borrow.Author.Rules.{rules}
+use borrow.Author.Tests.{tests}
+use Rattle.std.proofs.lemmas.Iterator.{YieldsList-from_range, serves_from_Range}
+use Rattle.std.proofs.lemmas.Iterator.Search.{any_from_yields_List}
 use Rattle.graph_table.proofs.Leading.{first_within}
-use Rattle.conversion.proofs.Rows.{among_hit, among_next, among_end, among_all}
+use Rattle.graph_table.proofs.Parts.{rows_count}
+use Rattle.conversion.proofs.Rows.{other_at, behind, other_some}
 use Rattle.conversion.proofs.unshown.unshown.Goals as goal
 
-pub loop-at-init : goal.loop-at-init
-loop-at-init c = let w = first_within c.args.table.now in (omega arith, among_all _ _ c.first_row-at.ensures.answer)
+pub offset_bounds-table-first_row : goal.offset_bounds-table-first_row
+offset_bounds-table-first_row c = let f = first_within c.args.table.now in omega (arith, c.first_row.ensures.answer)
 
-pub overflow_sub-table : goal.overflow_sub-table
-overflow_sub-table c = omega arith
+pub slice_bounds-rows-count : goal.slice_bounds-rows-count
+slice_bounds-rows-count c = let f = first_within c.args.table.now in omega (arith, c.first_row.ensures.answer)
 
-pub returns-then-is_other : goal.returns-then-is_other
-returns-then-is_other c = record { answer = sym (among_hit c.args.table.now c.loop-at.at c.loop-at-test.true (sym c.is_other.ensures.answer ∙ c.if-is_other.true)) ∙ c.loop-at.invariant.1 }
+pub slice_bounds-rows-start : goal.slice_bounds-rows-start
+slice_bounds-rows-start c = let f = first_within c.args.table.now in omega (arith, c.first_row.ensures.answer)
 
-pub overflow_add-at : goal.overflow_add-at
-overflow_add-at c = omega arith
-
-pub loop-at-smaller : goal.loop-at-smaller
-loop-at-smaller c = omega arith
-
-pub loop-at-preserved : goal.loop-at-preserved
-loop-at-preserved c = (omega arith, among_next c.args.table.now c.loop-at.at c.loop-at-test.true (sym c.is_other.ensures.answer ∙ c.if-is_other.false) ∙ c.loop-at.invariant.1)
+pub any-requires-clause-callable : goal.any-requires-clause-callable
+any-requires-clause-callable c =
+    let rows = behind c.args.table.now c.first_row.result in
+    let n = rows_count (length rows) rows (omega arith) in
+    serves_from_Range (λ x q k. search rules) (λ x a b. ((λ l r g e o s u. omega arith), (λ l r g e o s u v. omega arith)))
 
 pub returns : goal.returns
-returns c = record { answer = sym (among_end c.args.table.now c.loop-at.at c.loop-at-test.false) ∙ c.loop-at.invariant.1 }
+returns c =
+    let n = c.row_count.result in
+    record {
+      answer =
+          any_from_yields_List (other_at (behind c.args.table.now c.first_row.result)) _ _ c.any.result c.any.ensures.ran (YieldsList-from_range 0 n n refl (sub-zero n)) (λ x b q k. search (rules, tests))
+          ∙ other_some c.args.table.now c.first_row.result n c.first_row.ensures.answer c.row_count.ensures.answer;
+    }

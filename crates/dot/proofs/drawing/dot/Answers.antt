@@ -1,10 +1,22 @@
--- `dot` meets its contract. Assumes nothing.
-use mathlib.Core.Logic.{inl}
-use native.Mathlib.Omega.{arith}
+-- `dot` meets its contract: the text is refused, or its table is drawn. Assumes nothing.
+use borrow.Author.Rules.{rules}
+use Rattle.text_field.specs.Outcome.{and_then}
+use Rattle.text_field.specs.Answer.{answer, leaves, answer_of}
+use Rattle.dot.specs.Drawing.{dot_of}
 use Rattle.dot.proofs.drawing.dot.Goals as goal
 
-pub dot_over-requires : goal.dot_over-requires
-dot_over-requires c = record { room = c.is_short.ensures.room c.if-is_short.true }
+pub returns-in_err-with_graph-clause-answer : goal.returns-in_err-with_graph-clause-answer
+unfolding and_then answer_of answer dot_of
+returns-in_err-with_graph-clause-answer c = rw c.in_err-with_graph.ensures.refused.0 (search rules)
 
-pub dot_over-requires-2 : goal.dot_over-requires-2
-dot_over-requires-2 c = record { room = inl (omega arith) }
+pub returns-in_err-with_graph-clause-memory : goal.returns-in_err-with_graph-clause-memory
+unfolding and_then leaves dot_of
+returns-in_err-with_graph-clause-memory c = rw c.in_err-with_graph.ensures.refused.0 (search rules)
+
+pub returns-clause-answer : goal.returns-clause-answer
+unfolding and_then dot_of
+returns-clause-answer c = rw c.in_ok-with_graph.ensures.read.1 (search rules)
+
+pub returns-clause-memory : goal.returns-clause-memory
+unfolding and_then dot_of
+returns-clause-memory c = rw c.in_ok-with_graph.ensures.read.1 (search rules)

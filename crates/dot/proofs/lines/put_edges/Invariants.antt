@@ -1,12 +1,8 @@
-use Prim.Native.Nat.{◌-◌, ◌≤◌}
-use mathlib.Core.Path.{◌≡◌}
-use lib.ListN.{length, drop}
-use Rattle.text_field.specs.Buffer.{puts}
+use Prim.Native.Nat.{◌*◌}
+use lib.ListN.{drop}
+use Rattle.text_field.proofs.WritingLaws.{Left}
 use Rattle.dot.specs.Rows.{edge_lines}
 use Rattle.dot.proofs.lines.put_edges.Given as goal
 
-abbrev pub invariant-loop-at : goal.invariant-loop-at
-invariant-loop-at l = (length l.out ≡ length l.initial.out) × (l.at ≤ length l.edges) × (puts (l.out, l.k) (edge_lines l.labels (drop l.at l.edges)) ≡ puts (l.initial.out, l.n) (edge_lines l.labels l.edges))
-
-abbrev pub decreases-loop-at : goal.decreases-loop-at
-decreases-loop-at l = length l.edges - l.at
+abbrev pub invariant-loop-i : goal.invariant-loop-i
+invariant-loop-i l = Left l.initial.to l.to (edge_lines l.labels l.edges) (edge_lines l.labels (drop (6 * l.i) l.edges))

@@ -1,12 +1,15 @@
 -- `put_head` meets its contract. Assumes nothing.
-use Rattle.dot.specs.Drawing.{open_line}
-use Rattle.dot.proofs.Texts.{head_dropped, head_plain}
+use Rattle.text_field.proofs.WritingLaws.{◌then◌, wrote_from}
+use Rattle.dot.specs.Drawing.{dropped_if, open_line}
+use Rattle.dot.proofs.lines.put_head.Goals.{then-dropped, else-dropped}
 use Rattle.dot.proofs.lines.put_head.Goals as goal
 
-pub returns-then-dropped : goal.returns-then-dropped
-unfolding open_line
-returns-then-dropped c = record { written = head_dropped _ c.if-dropped.true _ _ _ c.put_bytes-n.ensures.written c.put_bytes.ensures.written }
-
 pub returns : goal.returns
-unfolding open_line
-returns c = record { written = head_plain _ c.if-dropped.false _ _ c.put_bytes-2.ensures.written }
+unfolding dropped_if open_line
+returns c =
+    record {
+      wrote = elim c.if-dropped.branch [
+        | then-dropped w ↦ rw w.if-dropped.true (w.put_bytes.ensures.wrote then wrote_from w.to-is c.put_bytes-2.ensures.wrote)
+        | else-dropped w ↦ rw w.if-dropped.false (wrote_from w.to-is c.put_bytes-2.ensures.wrote)
+      ];
+    }

@@ -1,30 +1,26 @@
--- `has_turn` meets its contract. The loop's invariant: the rows from here on have another turn
--- exactly if the whole section has. Assumes nothing.
-use mathlib.Core.Path.{refl, sym, ◌∙◌}
+-- `has_turn` meets its contract: each row is asked by its number. Assumes nothing.
+use mathlib.Core.Path.{refl, ◌∙◌}
+use native.Mathlib.Nat.{sub-zero}
 use native.Mathlib.Omega.{arith}
-use Rattle.dot.proofs.Found.{turn_hit, turn_miss, turn_end}
+use lib.ListN.{length}
+use borrow.Author.Rules.{rules}
+use borrow.Author.Tests.{tests}
+use Rattle.std.proofs.lemmas.Iterator.{YieldsList-from_range, serves_from_Range}
+use Rattle.std.proofs.lemmas.Iterator.Search.{any_from_yields_List}
+use Rattle.graph_table.proofs.Parts.{rows_count}
+use Rattle.dot.proofs.Found.{turned, turned_some}
 use Rattle.dot.proofs.rows.has_turn.Goals as goal
 
-pub loop-at-init : goal.loop-at-init
-loop-at-init c = (omega arith, refl)
-
-pub overflow_sub-edges : goal.overflow_sub-edges
-overflow_sub-edges c = omega arith
-
-pub edge_row-row-requires : goal.edge_row-row-requires
-edge_row-row-requires c = record { whole = omega arith }
-
-pub returns-then-row-ne-DRAWN_TURN : goal.returns-then-row-ne-DRAWN_TURN
-returns-then-row-ne-DRAWN_TURN c = record { answer = sym (turn_hit c.args.edges.now c.loop-at.at _ c.edge_row-row.ensures.answer c.loop-at-test.true c.if-row-ne-DRAWN_TURN.true) ∙ c.loop-at.invariant.1 }
-
-pub overflow_add-at : goal.overflow_add-at
-overflow_add-at c = omega arith
-
-pub loop-at-smaller : goal.loop-at-smaller
-loop-at-smaller c = omega arith
-
-pub loop-at-preserved : goal.loop-at-preserved
-loop-at-preserved c = (omega arith, turn_miss c.args.edges.now c.loop-at.at _ c.edge_row-row.ensures.answer c.loop-at-test.true c.if-row-ne-DRAWN_TURN.false ∙ c.loop-at.invariant.1)
+pub any-requires-clause-callable : goal.any-requires-clause-callable
+any-requires-clause-callable c =
+    let n = rows_count (length c.args.edges.now) c.args.edges.now (omega arith) in
+    serves_from_Range (λ x q k. search rules) (λ x a b. ((λ l r g e o s u. omega arith), (λ l r g e o s u v. omega arith)))
 
 pub returns : goal.returns
-returns c = record { answer = sym (turn_end c.args.edges.now c.loop-at.at c.loop-at-test.false) ∙ c.loop-at.invariant.1 }
+returns c =
+    let n = c.row_count.result in
+    record {
+      answer =
+          any_from_yields_List (turned c.args.edges.now) _ _ c.any.result c.any.ensures.ran (YieldsList-from_range 0 n n refl (sub-zero n)) (λ x b q k. search (rules, tests))
+          ∙ turned_some c.args.edges.now n c.row_count.ensures.answer;
+    }

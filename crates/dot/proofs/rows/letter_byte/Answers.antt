@@ -6,4 +6,4 @@ use Rattle.dot.proofs.rows.letter_byte.Goals as goal
 
 pub returns : goal.returns
 unfolding letter_byte
-returns c = record { answer = ap (λ (v : ℕ). v % 256) c.cell.ensures.answer }
+returns c = record { answer = ap (λ (v : ℕ). v % 256) c.get_or.ensures.answer }

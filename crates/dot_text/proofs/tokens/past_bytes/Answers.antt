@@ -1,25 +1,14 @@
--- `past_bytes` meets its contract: the bytes left over the text from here on are all bytes over the
--- text from the start on. Assumes nothing.
-use mathlib.Core.Path.{refl, ◌∙◌}
-use native.Mathlib.Omega.{arith}
+use Rattle.std.proofs.lemmas.Bool.Decides.{Decides-eqb}
+use Rattle.std.proofs.lemmas.Slice.Eq.{strip_prefix_is}
+use Rattle.std.specs.declared.option.Option.TheVariants.{Some, None}
 use Rattle.dot_text.specs.Answers.{rest_of}
-use Rattle.dot_text.proofs.Steps.{bytes_end, bytes_short, bytes_other, bytes_go}
+use Rattle.dot_text.proofs.Steps.{strip_off, strip_on}
 use Rattle.dot_text.proofs.tokens.past_bytes.Goals as goal
 
-pub loop-i-init : goal.loop-i-init
-loop-i-init c = refl
-
-pub returns-then-text-p : goal.returns-then-text-p
+pub returns-in_err-left : goal.returns-in_err-left
 unfolding rest_of
-returns-then-text-p c = record { answer = bytes_short c.args.bytes.now c.args.text.now c.loop-i.i c.loop-i.p (omega arith) (omega arith) ∙ c.loop-i.invariant }
-
-pub returns-then-text-p-2 : goal.returns-then-text-p-2
-unfolding rest_of
-returns-then-text-p-2 c = record { answer = bytes_other c.args.bytes.now c.args.text.now c.loop-i.i c.loop-i.p (omega arith) (omega arith) c.if-text-p-2.true ∙ c.loop-i.invariant }
-
-pub loop-i-preserved : goal.loop-i-preserved
-loop-i-preserved c = bytes_go c.args.bytes.now c.args.text.now c.loop-i.i c.loop-i.p (omega arith) (omega arith) c.if-text-p-2.false ∙ c.loop-i.invariant
+returns-in_err-left c = record { answer = let a = c.args in rw c.from_residual.ensures (strip_off a.text.now a.at c.text_from.result.now c.text_from.ensures.rest a.bytes.now (strip_prefix_is Decides-eqb _ _ None c.in_err-left.ensures.cases)) }
 
 pub returns : goal.returns
 unfolding rest_of
-returns c = record { answer = bytes_end c.args.bytes.now c.args.text.now c.loop-i.i c.loop-i.p (omega arith) ∙ c.loop-i.invariant }
+returns c = record { answer = let a = c.args in strip_on a.text.now a.at c.text_from.result.now c.text_from.ensures.rest a.bytes.now c.in_ok-left.left.now (strip_prefix_is Decides-eqb _ _ (Some c.in_ok-left.left) c.in_ok-left.ensures.cases) }

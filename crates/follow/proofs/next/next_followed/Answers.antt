@@ -1,14 +1,10 @@
 -- `next_followed` meets its contract: where the highest turn is 0, all are. Assumes nothing.
-use mathlib.Core.Path.{sym, ◌∙◌}
 use native.Mathlib.Omega.{arith}
 use Rattle.follow.proofs.StepLaws.{next_none}
 use Rattle.follow.proofs.next.next_followed.Goals as goal
 
 pub edges_end-requires : goal.edges_end-requires
-edges_end-requires c = record { block = c.requires.block; scope = c.requires.inside.scope }
+edges_end-requires c = record { scope = c.requires.inside.scope }
 
 pub returns-then-edges_end-p : goal.returns-then-edges_end-p
 returns-then-edges_end-p c = record { known = c.requires.known; next = next_none c.args.block.now c.args.ask.now c.args.onward.now c.args.n c.args.p (omega (arith, c.edges_end.ensures.answer, c.if-edges_end-p.true)) }
-
-pub next_unturned-requires : goal.next_unturned-requires
-next_unturned-requires c = record { block = c.requires.block; bounds = c.requires.bounds; ask = c.requires.ask; live = c.requires.live; table = c.requires.table; inside = c.requires.inside; known = c.requires.known; unturned = sym c.most_turn.ensures.answer ∙ c.if-most_turn-eq0.true }

@@ -45,68 +45,68 @@ module _ (block table ask : List ℕ) (aim : Aim) (path deeper : Path) (n : Node
 pub follow_at-returns-then-node-eq0 : goal.follow_at-returns-then-node-eq0
 follow_at-returns-then-node-eq0 t c = record {
   taken = rows_as _ _ _ _ _ c.visit-t.ensures.taken
-      (rest_ends c.args.block.now c.args.table.now c.args.ask.now c.args.aim (path_hops c.args.path) c.args.node (first_edge c.args.block.now c.args.node.scope) _ _ (rows_on c.args.block.now c.args.table.now c.args.ask.now c.args.aim (path_hops c.args.path) c.args.node c.requires.inside.scope c.own_end-own.result.cut c.own_end-own.ensures.passed _ refl) c.if-node-eq0.true);
+      (rest_ends c.args.on.now.block.now c.args.on.now.table.now c.args.on.now.ask.now c.args.on.now.aim (path_hops c.args.path) c.args.node (first_edge c.args.on.now.block.now c.args.node.scope) _ _ (rows_on c.args.on.now.block.now c.args.on.now.table.now c.args.on.now.ask.now c.args.on.now.aim (path_hops c.args.path) c.args.node c.requires.inside.scope c.own_end-own.result.cut c.own_end-own.ensures.passed _ refl) c.if-node-eq0.true);
 }
 
 pub follow_at-returns-then-is_done : goal.follow_at-returns-then-is_done
-follow_at-returns-then-is_done t c = record { taken = rows_then _ _ _ _ _ _ _ c.visit-t.ensures.taken (sym (rows_done _ _ _ _ (sym c.is_done.ensures.done ∙ c.if-is_done.true))) (rows_on c.args.block.now c.args.table.now c.args.ask.now c.args.aim (path_hops c.args.path) c.args.node c.requires.inside.scope c.own_end-own.result.cut c.own_end-own.ensures.passed _ refl) }
+follow_at-returns-then-is_done t c = record { taken = rows_then _ _ _ _ _ _ _ c.visit-t.ensures.taken (sym (rows_done _ _ _ _ (sym c.is_done.ensures.done ∙ c.if-is_done.true))) (rows_on c.args.on.now.block.now c.args.on.now.table.now c.args.on.now.ask.now c.args.on.now.aim (path_hops c.args.path) c.args.node c.requires.inside.scope c.own_end-own.result.cut c.own_end-own.ensures.passed _ refl) }
 
 pub follow_at-first_followed-next-requires : goal.follow_at-first_followed-next-requires
-follow_at-first_followed-next-requires t c = record { block = c.requires.block; bounds = c.requires.bounds; ask = c.requires.ask; live = c.requires.live; table = c.requires.table; inside = c.requires.inside; known = c.own_end-own.ensures.known }
+follow_at-first_followed-next-requires t c = record { bounds = c.requires.bounds; live = c.requires.live; table = c.requires.table; inside = c.requires.inside; known = c.own_end-own.ensures.known }
 
-pub follow_at-returns-then-edges_end-i : goal.follow_at-returns-then-edges_end-i
-follow_at-returns-then-edges_end-i t c = record {
+pub follow_at-returns-then-edges_end-next : goal.follow_at-returns-then-edges_end-next
+follow_at-returns-then-edges_end-next t c = record {
   taken = rows_as _ _ _ _ _ c.visit-t.ensures.taken
-      (rest_last c.args.block.now c.args.table.now c.args.ask.now c.args.aim (path_hops c.args.path) c.args.node (first_edge c.args.block.now c.args.node.scope) _ _ (rows_on c.args.block.now c.args.table.now c.args.ask.now c.args.aim (path_hops c.args.path) c.args.node c.requires.inside.scope c.own_end-own.result.cut c.own_end-own.ensures.passed _ refl) c.args.onward.now c.requires.worth c.first_followed-next.result.at c.first_followed-next.ensures.next (omega (arith, c.edges_end.ensures.answer, c.if-edges_end-i.true)));
+      (rest_last c.args.on.now.block.now c.args.on.now.table.now c.args.on.now.ask.now c.args.on.now.aim (path_hops c.args.path) c.args.node (first_edge c.args.on.now.block.now c.args.node.scope) _ _ (rows_on c.args.on.now.block.now c.args.on.now.table.now c.args.on.now.ask.now c.args.on.now.aim (path_hops c.args.path) c.args.node c.requires.inside.scope c.own_end-own.result.cut c.own_end-own.ensures.passed _ refl) c.args.onward.now c.requires.worth c.first_followed-next.result.at c.first_followed-next.ensures.next (omega (arith, c.edges_end.ensures.answer, c.if-edges_end-next.true)));
 }
 
 pub follow_at-follow_from-requires : goal.follow_at-follow_from-requires
-follow_at-follow_from-requires t c = (lex_by_fst (over c.args.block.now) (suc c.args.node.left) 0 c.decreases c.args.node.left (first_edge c.args.block.now (suc c.args.node.scope) - c.first_followed-next.result.at) (omega arith) (over_edges c.args.block.now (suc c.args.node.scope) c.first_followed-next.result.at), (c.requires.block, (c.requires.bounds, (c.requires.ask, (c.requires.live, (c.requires.table, (c.requires.worth, (c.requires.inside, (c.requires.depth, (c.requires.room, (c.first_followed-next.ensures.known, (c.first_followed-next.ensures.next.found (omega (arith, c.edges_end.ensures.answer, c.if-edges_end-i.false)), omega (arith, c.if-node-eq0.false)))))))))))))
+follow_at-follow_from-requires t c = (lex_by_fst (over c.args.on.now.block.now) (suc c.args.node.left) 0 c.decreases c.args.node.left (first_edge c.args.on.now.block.now (suc c.args.node.scope) - c.first_followed-next.result.at) (omega arith) (over_edges c.args.on.now.block.now (suc c.args.node.scope) c.first_followed-next.result.at), (c.requires.bounds, (c.requires.live, (c.requires.table, (c.requires.worth, (c.requires.inside, (c.requires.depth, (c.requires.room, (c.first_followed-next.ensures.known, (c.first_followed-next.ensures.next.found (omega (arith, c.edges_end.ensures.answer, c.if-edges_end-next.false)), omega (arith, c.if-node-eq0.false)))))))))))
 
 pub follow_at-returns : goal.follow_at-returns
 follow_at-returns t c = record {
   taken = rows_then _ _ _ _ _ _ _ c.visit-t.ensures.taken c.follow_from.ensures.taken
-      (rest_further c.args.block.now c.args.table.now c.args.ask.now c.args.aim (path_hops c.args.path) c.args.node (first_edge c.args.block.now c.args.node.scope) _ (own_rows c.args.block.now c.args.table.now c.args.ask.now c.args.aim (path_hops c.args.path) c.args.node c.own_end-own.result.cut) (rows_on c.args.block.now c.args.table.now c.args.ask.now c.args.aim (path_hops c.args.path) c.args.node c.requires.inside.scope c.own_end-own.result.cut c.own_end-own.ensures.passed _ refl) c.args.onward.now c.requires.worth c.first_followed-next.result.at c.first_followed-next.ensures.next);
+      (rest_further c.args.on.now.block.now c.args.on.now.table.now c.args.on.now.ask.now c.args.on.now.aim (path_hops c.args.path) c.args.node (first_edge c.args.on.now.block.now c.args.node.scope) _ (own_rows c.args.on.now.block.now c.args.on.now.table.now c.args.on.now.ask.now c.args.on.now.aim (path_hops c.args.path) c.args.node c.own_end-own.result.cut) (rows_on c.args.on.now.block.now c.args.on.now.table.now c.args.on.now.ask.now c.args.on.now.aim (path_hops c.args.path) c.args.node c.requires.inside.scope c.own_end-own.result.cut c.own_end-own.ensures.passed _ refl) c.args.onward.now c.requires.worth c.first_followed-next.result.at c.first_followed-next.ensures.next);
 }
 
 pub follow_from-follow_at-t-requires : goal.follow_from-follow_at-t-requires
-follow_from-follow_at-t-requires t c = let to = (hop_of c.edge_at-x.result).to in (rw c.entered-behind.ensures.answer.left (lex_by_snd (over c.args.block.now) c.args.node.left (first_edge c.args.block.now (suc c.args.node.scope) - c.args.p) c.decreases 0 (omega (arith, c.requires.followed.inside))), (c.requires.block, (c.requires.bounds, (c.requires.ask, (live_taken c.args.block.now (ask_goal c.args.ask.now) c.args.node.free to c.entered-behind.result.free c.entered-behind.ensures.answer.free c.args.ask.now c.requires.live, (c.requires.table, (worth_taken c.args.block.now (ask_goal c.args.ask.now) c.args.node.free to c.entered-behind.result.free c.entered-behind.ensures.answer.free c.args.aim.scopes c.args.aim.states c.args.onward.now c.requires.worth, (enter_inside c.args.block.now (ask_goal c.args.ask.now) c.args.node ALL_LABELS c.args.onward.now c.args.p c.entered-behind.result (behind_node c.requires.followed.worth c.edge_at-x.ensures.answer c.worth.ensures.answer c.entered-behind.ensures.answer), (omega (arith, c.pushed.ensures.depth, c.entered-behind.ensures.answer.left, c.requires.depth, c.requires.some), c.requires.room)))))))))
+follow_from-follow_at-t-requires t c = let to = (hop_of c.edge_at-x.result).to in (rw c.entered-behind.ensures.answer.left (lex_by_snd (over c.args.on.now.block.now) c.args.node.left (first_edge c.args.on.now.block.now (suc c.args.node.scope) - c.args.next.at) c.decreases 0 (omega (arith, c.requires.followed.inside))), (c.requires.bounds, (live_taken c.args.on.now.block.now (ask_goal c.args.on.now.ask.now) c.args.node.free to c.entered-behind.result.free c.entered-behind.ensures.answer.free c.args.on.now.ask.now c.requires.live, (c.requires.table, (worth_taken c.args.on.now.block.now (ask_goal c.args.on.now.ask.now) c.args.node.free to c.entered-behind.result.free c.entered-behind.ensures.answer.free c.args.on.now.aim.scopes c.args.on.now.aim.states c.args.onward.now c.requires.worth, (enter_inside c.args.on.now.block.now (ask_goal c.args.on.now.ask.now) c.args.node ALL_LABELS c.args.onward.now c.args.next.at c.entered-behind.result (behind_node c.requires.followed.worth c.edge_at-x.ensures.answer c.worth.ensures.answer c.entered-behind.ensures.answer), (omega (arith, c.pushed.ensures.depth, c.entered-behind.ensures.answer.left, c.requires.depth, c.requires.some), c.requires.room)))))))
 
 pub follow_from-returns-then-is_done : goal.follow_from-returns-then-is_done
-follow_from-returns-then-is_done t c = record { taken = rows_then _ _ _ _ _ _ _ c.follow_at-t.ensures.taken (sym (rows_done _ _ _ _ (sym c.is_done.ensures.done ∙ c.if-is_done.true))) (enters c.args.block.now c.args.table.now c.args.ask.now c.args.aim c.args.path c.pushed.result c.args.node c.args.onward.now c.args.p c.entered-behind.result c.requires.followed c.edge_at-x.ensures.answer c.worth.ensures.answer c.entered-behind.ensures.answer c.pushed.ensures.hops) }
+follow_from-returns-then-is_done t c = record { taken = rows_then _ _ _ _ _ _ _ c.follow_at-t.ensures.taken (sym (rows_done _ _ _ _ (sym c.is_done.ensures.done ∙ c.if-is_done.true))) (enters c.args.on.now.block.now c.args.on.now.table.now c.args.on.now.ask.now c.args.on.now.aim c.args.path c.pushed.result c.args.node c.args.onward.now c.args.next.at c.entered-behind.result c.requires.followed c.edge_at-x.ensures.answer c.worth.ensures.answer c.entered-behind.ensures.answer c.pushed.ensures.hops) }
 
-pub follow_from-overflow_add-p : goal.follow_from-overflow_add-p
-follow_from-overflow_add-p t c = omega (arith, c.edges_end-end.ensures.answer, c.requires.followed.inside)
+pub follow_from-overflow_add-next : goal.follow_from-overflow_add-next
+follow_from-overflow_add-next t c = omega (arith, c.edges_end-end.ensures.answer, c.requires.followed.inside)
 
 pub follow_from-next_followed-further-requires : goal.follow_from-next_followed-further-requires
-follow_from-next_followed-further-requires t c = record { block = c.requires.block; bounds = c.requires.bounds; ask = c.requires.ask; live = c.requires.live; table = c.requires.table; inside = c.requires.inside; known = c.requires.known }
+follow_from-next_followed-further-requires t c = record { bounds = c.requires.bounds; live = c.requires.live; table = c.requires.table; inside = c.requires.inside; known = c.requires.known }
 
-pub follow_from-returns-then-end-j : goal.follow_from-returns-then-end-j
-follow_from-returns-then-end-j t c = record {
+pub follow_from-returns-then-end-further : goal.follow_from-returns-then-end-further
+follow_from-returns-then-end-further t c = record {
   taken = rows_as _ _ _ _ _ c.follow_at-t.ensures.taken
-      (rest_last c.args.block.now c.args.table.now c.args.ask.now c.args.aim (path_hops c.args.path) c.args.node (c.args.p + 1) _ _ (enters c.args.block.now c.args.table.now c.args.ask.now c.args.aim c.args.path c.pushed.result c.args.node c.args.onward.now c.args.p c.entered-behind.result c.requires.followed c.edge_at-x.ensures.answer c.worth.ensures.answer c.entered-behind.ensures.answer c.pushed.ensures.hops) c.args.onward.now c.requires.worth c.next_followed-further.result.at c.next_followed-further.ensures.next (omega (arith, c.edges_end-end.ensures.answer, c.if-end-j.true)));
+      (rest_last c.args.on.now.block.now c.args.on.now.table.now c.args.on.now.ask.now c.args.on.now.aim (path_hops c.args.path) c.args.node (c.args.next.at + 1) _ _ (enters c.args.on.now.block.now c.args.on.now.table.now c.args.on.now.ask.now c.args.on.now.aim c.args.path c.pushed.result c.args.node c.args.onward.now c.args.next.at c.entered-behind.result c.requires.followed c.edge_at-x.ensures.answer c.worth.ensures.answer c.entered-behind.ensures.answer c.pushed.ensures.hops) c.args.onward.now c.requires.worth c.next_followed-further.result.at c.next_followed-further.ensures.next (omega (arith, c.edges_end-end.ensures.answer, c.if-end-further.true)));
 }
 
 pub follow_from-follow_from-requires : goal.follow_from-follow_from-requires
-follow_from-follow_from-requires t c = (lex_by_snd (over c.args.block.now) c.args.node.left (first_edge c.args.block.now (suc c.args.node.scope) - c.args.p) c.decreases (first_edge c.args.block.now (suc c.args.node.scope) - c.next_followed-further.result.at) (omega (arith, c.next_followed-further.ensures.next.past.on, c.requires.followed.inside)), (c.requires.block, (c.requires.bounds, (c.requires.ask, (c.requires.live, (c.requires.table, (c.requires.worth, (c.requires.inside, (c.requires.depth, (c.requires.room, (c.next_followed-further.ensures.known, (c.next_followed-further.ensures.next.found (omega (arith, c.edges_end-end.ensures.answer, c.if-end-j.false)), c.requires.some))))))))))))
+follow_from-follow_from-requires t c = (lex_by_snd (over c.args.on.now.block.now) c.args.node.left (first_edge c.args.on.now.block.now (suc c.args.node.scope) - c.args.next.at) c.decreases (first_edge c.args.on.now.block.now (suc c.args.node.scope) - c.next_followed-further.result.at) (omega (arith, c.next_followed-further.ensures.next.past.on, c.requires.followed.inside)), (c.requires.bounds, (c.requires.live, (c.requires.table, (c.requires.worth, (c.requires.inside, (c.requires.depth, (c.requires.room, (c.next_followed-further.ensures.known, (c.next_followed-further.ensures.next.found (omega (arith, c.edges_end-end.ensures.answer, c.if-end-further.false)), c.requires.some))))))))))
 
 pub follow_from-returns-then-not-in_vain : goal.follow_from-returns-then-not-in_vain
-follow_from-returns-then-not-in_vain t c = record { taken = rows_then _ _ _ _ _ _ _ c.follow_at-t.ensures.taken c.follow_from.ensures.taken (further c.args.block.now c.args.table.now c.args.ask.now c.args.aim c.args.path c.pushed.result c.args.node c.args.onward.now c.args.p c.entered-behind.result (enters c.args.block.now c.args.table.now c.args.ask.now c.args.aim c.args.path c.pushed.result c.args.node c.args.onward.now c.args.p c.entered-behind.result c.requires.followed c.edge_at-x.ensures.answer c.worth.ensures.answer c.entered-behind.ensures.answer c.pushed.ensures.hops) c.requires.worth c.next_followed-further.result.at c.next_followed-further.ensures.next) }
+follow_from-returns-then-not-in_vain t c = record { taken = rows_then _ _ _ _ _ _ _ c.follow_at-t.ensures.taken c.follow_from.ensures.taken (further c.args.on.now.block.now c.args.on.now.table.now c.args.on.now.ask.now c.args.on.now.aim c.args.path c.pushed.result c.args.node c.args.onward.now c.args.next.at c.entered-behind.result (enters c.args.on.now.block.now c.args.on.now.table.now c.args.on.now.ask.now c.args.on.now.aim c.args.path c.pushed.result c.args.node c.args.onward.now c.args.next.at c.entered-behind.result c.requires.followed c.edge_at-x.ensures.answer c.worth.ensures.answer c.entered-behind.ensures.answer c.pushed.ensures.hops) c.requires.worth c.next_followed-further.result.at c.next_followed-further.ensures.next) }
 
 pub follow_from-next_followed-again-requires : goal.follow_from-next_followed-again-requires
-follow_from-next_followed-again-requires t c = record { block = c.requires.block; bounds = c.requires.bounds; ask = c.requires.ask; live = c.requires.live; table = omega arith; inside = c.requires.inside; known = c.next_followed-further.ensures.known }
+follow_from-next_followed-again-requires t c = record { bounds = c.requires.bounds; live = c.requires.live; table = omega arith; inside = c.requires.inside; known = c.next_followed-further.ensures.known }
 
-pub follow_from-returns-then-end-k : goal.follow_from-returns-then-end-k
-follow_from-returns-then-end-k t c = record {
+pub follow_from-returns-then-end-again : goal.follow_from-returns-then-end-again
+follow_from-returns-then-end-again t c = record {
   taken = rows_as _ _ _ _ _ c.follow_at-t.ensures.taken
-      (rest_last c.args.block.now c.args.table.now c.args.ask.now c.args.aim (path_hops c.args.path) c.args.node c.next_followed-further.result.at _ _ (further c.args.block.now c.args.table.now c.args.ask.now c.args.aim c.args.path c.pushed.result c.args.node c.args.onward.now c.args.p c.entered-behind.result (enters c.args.block.now c.args.table.now c.args.ask.now c.args.aim c.args.path c.pushed.result c.args.node c.args.onward.now c.args.p c.entered-behind.result c.requires.followed c.edge_at-x.ensures.answer c.worth.ensures.answer c.entered-behind.ensures.answer c.pushed.ensures.hops) c.requires.worth c.next_followed-further.result.at c.next_followed-further.ensures.next) c.live_table-new.result (rw c.ask_goal.ensures.answer at (c.live_table-new.ensures.closed (ask_goal c.args.ask.now))) c.next_followed-again.result.at c.next_followed-again.ensures.next (omega (arith, c.edges_end-end.ensures.answer, c.if-end-k.true)));
+      (rest_last c.args.on.now.block.now c.args.on.now.table.now c.args.on.now.ask.now c.args.on.now.aim (path_hops c.args.path) c.args.node c.next_followed-further.result.at _ _ (further c.args.on.now.block.now c.args.on.now.table.now c.args.on.now.ask.now c.args.on.now.aim c.args.path c.pushed.result c.args.node c.args.onward.now c.args.next.at c.entered-behind.result (enters c.args.on.now.block.now c.args.on.now.table.now c.args.on.now.ask.now c.args.on.now.aim c.args.path c.pushed.result c.args.node c.args.onward.now c.args.next.at c.entered-behind.result c.requires.followed c.edge_at-x.ensures.answer c.worth.ensures.answer c.entered-behind.ensures.answer c.pushed.ensures.hops) c.requires.worth c.next_followed-further.result.at c.next_followed-further.ensures.next) c.live_table-new.result (rw c.ask_goal.ensures.answer at (c.live_table-new.ensures.closed (ask_goal c.args.on.now.ask.now))) c.next_followed-again.result.at c.next_followed-again.ensures.next (omega (arith, c.edges_end-end.ensures.answer, c.if-end-again.true)));
 }
 
 pub follow_from-follow_from-requires-2 : goal.follow_from-follow_from-requires-2
-follow_from-follow_from-requires-2 t c = (lex_by_snd (over c.args.block.now) c.args.node.left (first_edge c.args.block.now (suc c.args.node.scope) - c.args.p) c.decreases (first_edge c.args.block.now (suc c.args.node.scope) - c.next_followed-again.result.at) (omega (arith, c.next_followed-further.ensures.next.past.on, c.next_followed-again.ensures.next.past.on, c.requires.followed.inside)), (c.requires.block, (c.requires.bounds, (c.requires.ask, (c.requires.live, (omega arith, (rw c.ask_goal.ensures.answer at (c.live_table-new.ensures.closed (ask_goal c.args.ask.now)), (c.requires.inside, (c.requires.depth, (c.requires.room, (c.next_followed-again.ensures.known, (c.next_followed-again.ensures.next.found (omega (arith, c.edges_end-end.ensures.answer, c.if-end-k.false)), c.requires.some))))))))))))
+follow_from-follow_from-requires-2 t c = (lex_by_snd (over c.args.on.now.block.now) c.args.node.left (first_edge c.args.on.now.block.now (suc c.args.node.scope) - c.args.next.at) c.decreases (first_edge c.args.on.now.block.now (suc c.args.node.scope) - c.next_followed-again.result.at) (omega (arith, c.next_followed-further.ensures.next.past.on, c.next_followed-again.ensures.next.past.on, c.requires.followed.inside)), (c.requires.bounds, (c.requires.live, (omega arith, (rw c.ask_goal.ensures.answer at (c.live_table-new.ensures.closed (ask_goal c.args.on.now.ask.now)), (c.requires.inside, (c.requires.depth, (c.requires.room, (c.next_followed-again.ensures.known, (c.next_followed-again.ensures.next.found (omega (arith, c.edges_end-end.ensures.answer, c.if-end-again.false)), c.requires.some))))))))))
 
 pub follow_from-returns : goal.follow_from-returns
 follow_from-returns t c = record {
   taken = rows_then _ _ _ _ _ _ _ c.follow_at-t.ensures.taken c.follow_from-2.ensures.taken
-      (rest_further c.args.block.now c.args.table.now c.args.ask.now c.args.aim (path_hops c.args.path) c.args.node c.next_followed-further.result.at _ (rows_from c.args.block.now c.args.table.now c.args.ask.now c.args.aim (path_hops c.pushed.result) (suc c.entered-behind.result.left) (has_scope c.entered-behind.result.free) c.entered-behind.result.scope c.entered-behind.result.state) (further c.args.block.now c.args.table.now c.args.ask.now c.args.aim c.args.path c.pushed.result c.args.node c.args.onward.now c.args.p c.entered-behind.result (enters c.args.block.now c.args.table.now c.args.ask.now c.args.aim c.args.path c.pushed.result c.args.node c.args.onward.now c.args.p c.entered-behind.result c.requires.followed c.edge_at-x.ensures.answer c.worth.ensures.answer c.entered-behind.ensures.answer c.pushed.ensures.hops) c.requires.worth c.next_followed-further.result.at c.next_followed-further.ensures.next) c.live_table-new.result (rw c.ask_goal.ensures.answer at (c.live_table-new.ensures.closed (ask_goal c.args.ask.now))) c.next_followed-again.result.at c.next_followed-again.ensures.next);
+      (rest_further c.args.on.now.block.now c.args.on.now.table.now c.args.on.now.ask.now c.args.on.now.aim (path_hops c.args.path) c.args.node c.next_followed-further.result.at _ (rows_from c.args.on.now.block.now c.args.on.now.table.now c.args.on.now.ask.now c.args.on.now.aim (path_hops c.pushed.result) (suc c.entered-behind.result.left) (has_scope c.entered-behind.result.free) c.entered-behind.result.scope c.entered-behind.result.state) (further c.args.on.now.block.now c.args.on.now.table.now c.args.on.now.ask.now c.args.on.now.aim c.args.path c.pushed.result c.args.node c.args.onward.now c.args.next.at c.entered-behind.result (enters c.args.on.now.block.now c.args.on.now.table.now c.args.on.now.ask.now c.args.on.now.aim c.args.path c.pushed.result c.args.node c.args.onward.now c.args.next.at c.entered-behind.result c.requires.followed c.edge_at-x.ensures.answer c.worth.ensures.answer c.entered-behind.ensures.answer c.pushed.ensures.hops) c.requires.worth c.next_followed-further.result.at c.next_followed-further.ensures.next) c.live_table-new.result (rw c.ask_goal.ensures.answer at (c.live_table-new.ensures.closed (ask_goal c.args.on.now.ask.now))) c.next_followed-again.result.at c.next_followed-again.ensures.next);
 }

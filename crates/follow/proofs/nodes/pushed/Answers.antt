@@ -4,4 +4,4 @@ use Rattle.follow.proofs.RowLaws.{path_more}
 use Rattle.follow.proofs.nodes.pushed.Goals as goal
 
 pub returns : goal.returns
-returns c = record { depth = omega arith; hops = path_more c.args.path _ _ _ (omega arith) c.narrow.ensures.hop (omega arith) }
+returns c = record { depth = omega arith; hops = path_more c.args.path _ _ _ (omega arith) (omega arith) (omega arith) }

@@ -1,7 +1,6 @@
--- `put_entry` meets its contract: one law for each of its six ways. Assumes nothing.
+-- `put_entry` meets its contract: one law for each of its ways. Assumes nothing.
 use Rattle.follow.proofs.RowLaws.{row_sum, number_most, row_most}
-use Rattle.follow.proofs.TakeLaws.{fits_true, take_done, answer_after, answer_past, answer_unkept, answer_full, answer_written}
-use borrow.Author.Tests.{not-true, not-false}
+use Rattle.follow.proofs.TakeLaws.{take_done, answer_after, answer_past, answer_within}
 use native.Mathlib.Omega.{arith}
 use mathlib.Core.Path.{◌≡◌, sym, ◌∙◌}
 use Rattle.follow.specs.Walk.{path_hops}
@@ -15,19 +14,18 @@ pub returns-then-tally : goal.returns-then-tally
 returns-then-tally c = record { taken = answer_after _ _ _ (record { at = c.args.at; mark = c.args.mark; text = _ }) 0 _ _ (sym c.is_done.ensures.done ∙ c.if-is_done.false) c.one_more-entries.ensures.counted c.note-seen.ensures.noted c.if-tally.true }
 
 pub overflow_add-k : goal.overflow_add-k
-overflow_add-k c = let whole : c.args.size ≡ path_size c.args.start (path_hops c.args.path) = c.requires.measured in omega (arith, number_most c.args.mark (omega arith), row_most c.args.path c.args.start (omega arith))
+overflow_add-k c =
+    let whole : c.args.size ≡ path_size c.args.start (path_hops c.args.path) = c.requires.measured
+    in omega (arith, number_most c.args.mark (omega arith), row_most c.args.path c.args.start (omega arith))
 
 pub returns-then-not-is_room : goal.returns-then-not-is_room
-returns-then-not-is_room c = record { taken = answer_past _ _ _ _ _ _ _ (sym c.is_done.ensures.done ∙ c.if-is_done.false) c.one_more-entries.ensures.counted c.note-seen.ensures.noted (row_sum _ _ _ _ _ _ c.number_size.ensures.digits c.requires.measured) (sym c.is_room.ensures.room ∙ not-true _ c.if-not-is_room.true-raw) }
+returns-then-not-is_room c = record { taken = answer_past _ _ _ _ _ _ _ (sym c.is_done.ensures.done ∙ c.if-is_done.false) c.one_more-entries.ensures.counted c.note-seen.ensures.noted (row_sum _ _ _ _ _ _ c.number_size.ensures.digits c.requires.measured) (sym c.is_room.ensures.room ∙ c.if-not-is_room.true) }
 
-pub overflow_add-sum : goal.overflow_add-sum
-overflow_add-sum c = omega (arith, fits_true _ _ _ (sym c.is_room.ensures.room ∙ not-false _ c.if-not-is_room.false-raw))
+pub keep_row-requires : goal.keep_row-requires
+keep_row-requires c = record { size = row_sum _ _ _ _ _ _ c.number_size.ensures.digits c.requires.measured }
 
-pub returns-then-not-is_room-2 : goal.returns-then-not-is_room-2
-returns-then-not-is_room-2 c = record { taken = answer_unkept _ _ _ _ _ _ _ (sym c.is_done.ensures.done ∙ c.if-is_done.false) c.one_more-entries.ensures.counted c.note-seen.ensures.noted (row_sum _ _ _ _ _ _ c.number_size.ensures.digits c.requires.measured) c.if-tally.false (sym c.is_room.ensures.room ∙ not-false _ c.if-not-is_room.false-raw) (sym c.is_room-2.ensures.room ∙ not-true _ c.if-not-is_room-2.true-raw) }
-
-pub returns-then-not-is_room-3 : goal.returns-then-not-is_room-3
-returns-then-not-is_room-3 c = record { taken = answer_full _ _ _ _ _ _ _ (sym c.is_done.ensures.done ∙ c.if-is_done.false) c.one_more-entries.ensures.counted c.note-seen.ensures.noted (row_sum _ _ _ _ _ _ c.number_size.ensures.digits c.requires.measured) c.if-tally.false (sym c.is_room.ensures.room ∙ not-false _ c.if-not-is_room.false-raw) (sym c.is_room-3.ensures.room ∙ not-true _ c.if-not-is_room-3.true-raw) }
+pub overflow_add-result : goal.overflow_add-result
+overflow_add-result c = omega (arith, c.is_room.ensures.end c.if-not-is_room.false)
 
 pub returns : goal.returns
-returns c = record { taken = answer_written _ _ _ _ _ _ _ (sym c.is_done.ensures.done ∙ c.if-is_done.false) c.one_more-entries.ensures.counted c.note-seen.ensures.noted (row_sum _ _ _ _ _ _ c.number_size.ensures.digits c.requires.measured) c.if-tally.false (sym c.is_room.ensures.room ∙ not-false _ c.if-not-is_room.false-raw) (sym c.is_room-2.ensures.room ∙ not-false _ c.if-not-is_room-2.false-raw) (sym c.is_room-3.ensures.room ∙ not-false _ c.if-not-is_room-3.false-raw) _ _ c.put_row.ensures.written }
+returns c = record { taken = answer_within _ _ _ _ _ _ _ (sym c.is_done.ensures.done ∙ c.if-is_done.false) c.one_more-entries.ensures.counted c.note-seen.ensures.noted (row_sum _ _ _ _ _ _ c.number_size.ensures.digits c.requires.measured) c.if-tally.false (sym c.is_room.ensures.room ∙ c.if-not-is_room.false) _ c.keep_row.ensures.kept }

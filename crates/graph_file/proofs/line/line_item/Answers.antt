@@ -1,18 +1,15 @@
-use native.Mathlib.Omega.{arith}
-use Rattle.graph_file.proofs.LineLaws.{place_small, line_nothing, line_bare, line_one, line_two}
+use Rattle.graph_rows.specs.Table.{content_meaning, item_meaning}
+use Rattle.graph_file.proofs.LineLaws.{byte_put, field_none, field_put}
 use Rattle.graph_file.proofs.line.line_item.Goals as goal
 
-pub overflow_add-c : goal.overflow_add-c
-overflow_add-c c = omega (arith, c.place_of-c-in-Two.ensures.answer, place_small c.args.x)
+pub returns-in-Byte : goal.returns-in-Byte
+unfolding item_meaning
+returns-in-Byte c = record { answer = rw c.in-Byte.is (byte_put _ c.args.row.now _ c.args.text.now c.in-Byte.b c.take_bare.result c.take_bare.ensures.answer) }
 
-pub returns-in-Nothing : goal.returns-in-Nothing
-returns-in-Nothing c = record { answer = line_nothing _ _ _ _ _ c.take_item-t.result c.take_item-t.ensures.answer _ _ c.in-Nothing.is }
+pub returns-in_err-values-in-Field : goal.returns-in_err-values-in-Field
+unfolding item_meaning
+returns-in_err-values-in-Field c = record { answer = rw (c.from_residual.ensures, c.in-Field.is) (field_none _ c.args.row.now _ c.args.text.now (content_meaning c.in-Field.content) c.in-Field.c c.take_field.result c.take_field.ensures.answer c.args.row.now c.in_err-values-in-Field.was) }
 
-pub returns-in-Bare : goal.returns-in-Bare
-returns-in-Bare c = record { answer = line_bare _ _ _ _ _ c.take_item-t.result c.take_item-t.ensures.answer _ c.in-Bare.is }
-
-pub returns-in-One : goal.returns-in-One
-returns-in-One c = record { answer = line_one _ _ _ _ _ c.take_item-t.result c.take_item-t.ensures.answer _ _ c.place_of-c.result _ c.in-One.is c.place_of-c.ensures.answer c.put_value.ensures.written }
-
-pub returns-in-Two : goal.returns-in-Two
-returns-in-Two c = record { answer = line_two _ _ _ _ _ c.take_item-t.result c.take_item-t.ensures.answer _ _ _ c.place_of-c-in-Two.result c.put_value-in-Two.new.row _ c.in-Two.is c.place_of-c-in-Two.ensures.answer c.put_value-in-Two.ensures.written c.put_value-in-Two-2.ensures.written }
+pub returns-in_ok-values-in-Field : goal.returns-in_ok-values-in-Field
+unfolding item_meaning
+returns-in_ok-values-in-Field c = record { answer = rw c.in-Field.is (field_put _ c.args.row.now _ c.args.text.now (content_meaning c.in-Field.content) c.in-Field.c c.take_field.result c.take_field.ensures.answer _ _ _ c.in_ok-values-in-Field.was c.put_values.ensures.written) }

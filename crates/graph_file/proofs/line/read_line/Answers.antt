@@ -1,36 +1,30 @@
-use Prim.Native.Nat.{◌<◌}
-use mathlib.Core.Path.{refl, sym, ◌∙◌}
-use native.Mathlib.Omega.{arith}
-use borrow.Author.Tests.{not-true, not-false}
-use Rattle.graph_rows.proofs.FormatLaws.{within_format}
-use Rattle.graph_file.proofs.LineLaws.{line_refused, line_on, line_done}
+use mathlib.Core.Path.{◌≡◌, refl, ap, ◌∙◌}
+use mathlib.Core.List.{[], ◌∷◌}
+use lib.ListN.{drop}
+use Rattle.graph_rows.specs.Format.{byte}
+use Rattle.graph_rows.specs.Table.{line_of, items_at, letters_at}
 use Rattle.graph_file.specs.Reader.{line_outcome}
+use Rattle.graph_file.proofs.LineLaws.{line_refused, line_on, code_last, code_none, line_open, line_done}
 use Rattle.graph_file.proofs.line.read_line.Goals as goal
-
-pub item-x-requires : goal.item-x-requires
-item-x-requires c = record { format = c.requires.format }
+use Rattle.graph_file.proofs.line.read_line.Goals.{else-loop-x-test, then-loop-x-test+then-x-eq10}
 
 pub loop-x-init : goal.loop-x-init
-loop-x-init c = (c.item-x.ensures.answer, refl, refl)
+unfolding items_at
+loop-x-init c = (rw c.codes_from-x-items.ensures.answer, refl)
 
-pub slice_bounds-line_item-end : goal.slice_bounds-line_item-end
-slice_bounds-line_item-end c = sym c.loop-x.invariant.2
-
-pub returns-then-not-l : goal.returns-then-not-l
+pub returns-in_err-place : goal.returns-in_err-place
 unfolding line_outcome
-returns-then-not-l c = record { answer = line_refused _ c.loop-x.i c.loop-x.x c.loop-x.row _ _ (record { ok = c.line_item-l.result.ok; next = c.line_item-l.result.next; row = c.line_item-l.new.row }) c.loop-x.invariant.0 c.line_item-l.ensures.answer c.loop-x-test.true (not-true _ c.if-not-l.true) ∙ c.loop-x.invariant.1 }
-
-pub overflow_add-i : goal.overflow_add-i
-overflow_add-i c = let h : c.loop-x.i < 260 = within_format c.loop-x.i (λ e. c.loop-x-test.true (c.loop-x.invariant.0 ∙ e)) in omega arith
-
-pub item-x-requires-in-loop-x : goal.item-x-requires-in-loop-x
-item-x-requires-in-loop-x c = record { format = c.requires.format }
-
-pub loop-x-smaller : goal.loop-x-smaller
-loop-x-smaller c = let h : c.loop-x.i < 260 = within_format c.loop-x.i (λ e. c.loop-x-test.true (c.loop-x.invariant.0 ∙ e)) in omega arith
+returns-in_err-place c = record { answer = ap (λ x. line_outcome x c.args.text.now) c.from_residual.ensures ∙ line_refused (letters_at c.args.labels (drop 1 c.args.table.now)) c.codes_from-x-items.result.now c.loop-x.x-index c.loop-x-test.true c.loop-x.row _ c.args.text.now _ c.of.ensures.answer c.if-x-eq10.false c.line_item.new.row c.in_err-place.ensures.answer ∙ c.loop-x.invariant.0 }
 
 pub loop-x-preserved : goal.loop-x-preserved
-loop-x-preserved c = (c.item-x-in-loop-x.ensures.answer, line_on _ c.loop-x.i c.loop-x.x c.loop-x.row _ _ (record { ok = c.line_item-l.result.ok; next = c.line_item-l.result.next; row = c.line_item-l.new.row }) c.loop-x.invariant.0 c.line_item-l.ensures.answer c.loop-x-test.true (not-false _ c.if-not-l.false) ∙ c.loop-x.invariant.1, c.line_item-l.auto.row ∙ c.loop-x.invariant.2)
+loop-x-preserved c = (line_on (letters_at c.args.labels (drop 1 c.args.table.now)) c.codes_from-x-items.result.now c.loop-x.x-index c.loop-x-test.true c.loop-x.row _ c.args.text.now _ c.of.ensures.answer c.if-x-eq10.false c.line_item.new.row c.in_ok-place.place c.in_ok-place.ensures.answer ∙ c.loop-x.invariant.0, c.line_item.auto.row ∙ c.loop-x.invariant.1)
+
+pub returns-in_err-next : goal.returns-in_err-next
+returns-in_err-next c =
+    let last : line_of (drop c.loop-x.x-index c.codes_from-x-items.result.now) ≡ byte 10 ∷ [] = elim c.loop-x-test.branch [ else-loop-x-test w ↦ code_none _ _ w.loop-x-test.false | then-loop-x-test+then-x-eq10 w ↦ code_last _ _ w.loop-x-test.true w.if-x-eq10.true ]
+    in record { answer = ap (λ x. line_outcome x c.args.text.now) c.from_residual-in_err-next.ensures ∙ line_open (letters_at c.args.labels (drop 1 c.args.table.now)) _ last c.loop-x.row _ c.args.text.now _ c.take_bare.ensures.answer c.in_err-next.was ∙ c.loop-x.invariant.0 }
 
 pub returns : goal.returns
-returns c = record { answer = line_done _ c.loop-x.i c.loop-x.x c.loop-x.row _ _ c.end_line.result c.loop-x.invariant.0 c.loop-x-test.false c.end_line.ensures.answer ∙ c.loop-x.invariant.1 }
+returns c =
+    let last : line_of (drop c.loop-x.x-index c.codes_from-x-items.result.now) ≡ byte 10 ∷ [] = elim c.loop-x-test.branch [ else-loop-x-test w ↦ code_none _ _ w.loop-x-test.false | then-loop-x-test+then-x-eq10 w ↦ code_last _ _ w.loop-x-test.true w.if-x-eq10.true ]
+    in record { answer = line_done (letters_at c.args.labels (drop 1 c.args.table.now)) _ last c.loop-x.row _ c.args.text.now _ c.take_bare.ensures.answer _ c.in_ok-next.was ∙ c.loop-x.invariant.0 }

@@ -1,11 +1,7 @@
-use Rattle.graph_file.specs.Line.{byte_taken}
+use mathlib.Core.Path.{ap, ◌∙◌}
 use Rattle.graph_file.specs.Reader.{took}
+use Rattle.graph_file.proofs.LineLaws.{byte_took}
 use Rattle.graph_file.proofs.line.take_byte.Goals as goal
 
-pub returns-then-ok : goal.returns-then-ok
-unfolding took byte_taken
-returns-then-ok c = record { answer = rw (c.if-ok.true, c.past.ensures.place) }
-
-pub returns-else-ok : goal.returns-else-ok
-unfolding took byte_taken
-returns-else-ok c = record { answer = rw c.if-ok.false }
+pub returns : goal.returns
+returns c = record { answer = ap (λ x. took x c.args.text.now) c.then_some.ensures ∙ byte_took c.args.of_class c.args.v c.args.at c.past.result c.args.text.now c.past.ensures.place }

@@ -1,22 +1,28 @@
-use mathlib.Core.Path.{sym, ap, ◌∙◌}
+use Rattle.text_field.proofs.WritingLaws.{wrote_none}
 use lib.ListN.{drop}
-use Rattle.text_field.specs.Buffer.{puts}
-use Rattle.text_field.proofs.BufferLaws.{puts_none, puts_one}
-use Rattle.graph_rows.specs.Table.{letters_at}
-use Rattle.graph_file.proofs.WriteLaws.{number_text_lem, one_byte, text_name, text_plain}
+use Rattle.graph_rows.specs.Table.{content_meaning, letters_at}
+use Rattle.graph_file.proofs.WriteLaws.{text_number, text_byte}
+use Rattle.graph_file.specs.Line.{field_text}
 use Rattle.graph_file.proofs.line_text.put_field.Goals as goal
 
-pub returns-then-is_number : goal.returns-then-is_number
-returns-then-is_number c = record { written = c.put_number.ensures.written ∙ ap (puts _) (number_text_lem (letters_at c.args.labels (drop 1 c.args.table.now)) c.args.content c.args.v c.args.w (sym c.is_number.ensures.answer ∙ c.if-is_number.true)) }
+pub returns-in-Name : goal.returns-in-Name
+unfolding field_text content_meaning
+returns-in-Name c = record { wrote = rw c.in-Name.is c.put_name.ensures.wrote }
 
-pub field_byte-requires : goal.field_byte-requires
-field_byte-requires c = record { one = one_byte c.args.content (sym c.is_number.ensures.answer ∙ c.if-is_number.false) c.in_default.in_default-own.rest.0.1 c.in_default.in_default-own.rest.1 }
+pub returns-in-Label : goal.returns-in-Label
+unfolding field_text content_meaning
+returns-in-Label c = record { wrote = rw (c.in-Label.is, ← c.letter_of.ensures.answer, ← c.byte_of-in-Label.ensures.answer) c.put-in-Label.ensures.wrote }
 
-pub returns-in-7 : goal.returns-in-7
-returns-in-7 c = record { written = c.put_name.ensures.written ∙ ap (puts _) (text_name (letters_at c.args.labels (drop 1 c.args.table.now)) c.args.content c.args.v c.args.w c.in-7.is) }
+pub returns-in-End : goal.returns-in-End
+unfolding field_text content_meaning
+returns-in-End c = record { wrote = rw (c.in-End.is, ← c.end_byte.ensures.answer) c.put-in-End.ensures.wrote }
 
-pub returns-in-9 : goal.returns-in-9
-returns-in-9 c = record { written = puts_none _ _ (sym (text_plain (letters_at c.args.labels (drop 1 c.args.table.now)) c.args.content c.args.v c.args.w c.in-9.is)) }
+pub returns-in-PlainKind : goal.returns-in-PlainKind
+unfolding field_text content_meaning
+returns-in-PlainKind c = record { wrote = rw c.in-PlainKind.is (wrote_none _) }
 
-pub returns-in_default : goal.returns-in_default
-returns-in_default c = record { written = c.put_byte.ensures.written ∙ puts_one _ _ ∙ ap (puts _) (c.field_byte.ensures.answer c.args.w) }
+pub returns-in-State : goal.returns-in-State
+returns-in-State c = record { wrote = rw (← text_number (letters_at c.args.labels (drop 1 c.args.table.now)) c.args.content c.args.v c.args.w c.in-State.is) c.put_number.ensures.wrote }
+
+pub returns-in-Letter : goal.returns-in-Letter
+returns-in-Letter c = record { wrote = rw (← text_byte (letters_at c.args.labels (drop 1 c.args.table.now)) c.args.content c.args.v c.args.w c.in-Letter.is, ← c.byte_of.ensures.answer) c.put.ensures.wrote }

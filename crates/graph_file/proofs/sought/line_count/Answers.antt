@@ -1,16 +1,14 @@
-use Prim.Native.Nat.{◌<◌}
-use lib.ListN.{get_or}
-use Rattle.graph_file.proofs.SoughtLaws.{count_small, count_next, count_done}
-use Prim.Native.Nat.{◌≤◌}
-use lib.ListN.{length}
-use native.Mathlib.Omega.{arith}
+use mathlib.Core.Path.{sym, ◌∙◌}
+use lib.Dec.{eqb}
+use borrow.Author.Rules.{rules}
+use borrow.Author.Tests.{tests}
+use Rattle.std.proofs.lemmas.Iterator.{YieldsList-from_slice}
+use Rattle.std.proofs.lemmas.Iterator.Consumers.{count_from_yields_List, YieldsList-from_filter}
+use Rattle.std.proofs.lemmas.List.Sums.{length-filter}
+use Rattle.graph_file.proofs.SoughtLaws.{count_ends}
 use Rattle.graph_file.proofs.sought.line_count.Goals as goal
 
-pub overflow_add-n : goal.overflow_add-n
-overflow_add-n c = omega (arith, c.ends_line-n.ensures.answer, count_small (get_or c.args.text.now c.loop-i.i 0))
-
-pub loop-i-preserved : goal.loop-i-preserved
-loop-i-preserved c = let h : c.loop-i.i < length c.args.text.now = omega arith in (omega arith, omega (arith, c.ends_line-n.ensures.answer, count_small (get_or c.args.text.now c.loop-i.i 0)), omega (arith, c.ends_line-n.ensures.answer, count_next c.args.text.now c.loop-i.i h))
-
 pub returns : goal.returns
-returns c = record { answer = let h : length c.args.text.now ≤ c.loop-i.i = omega arith in omega (arith, count_done c.args.text.now c.loop-i.i h) }
+returns c =
+    let text = c.args.text.now
+    in record { answer = count_from_yields_List c.filter.result _ c.count.ensures.ran (YieldsList-from_filter _ (λ b. eqb b 10) (YieldsList-from_slice text (cc)) c.filter.ensures.closure (λ x b q k. search (rules, tests))) ∙ length-filter (λ b. eqb b 10) text ∙ sym (count_ends text) }

@@ -6,4 +6,4 @@ pub returns-in_default : goal.returns-in_default
 returns-in_default c = record { answer = no_name_there c.args.text.now c.args.at (sym c.in_default.is ∙ c.read_name.ensures.answer) }
 
 pub returns : goal.returns
-returns c = record { answer = name_there c.args.text.now c.args.at c.in-Name.field-0 c.in-Name.field-1 c.in-Name.end (sym c.in-Name.is ∙ c.read_name.ensures.answer) }
+returns c = record { answer = name_there c.args.text.now c.args.at _ _ _ (sym c.in-Some.is ∙ c.read_name.ensures.answer) }

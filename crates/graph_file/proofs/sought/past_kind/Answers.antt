@@ -1,14 +1,18 @@
-use mathlib.Core.Path.{sym, ap, ◌∙◌}
-use borrow.Author.Tests.{not-true, not-false}
-use Rattle.text_field.specs.Bytes.{is_lower}
+use mathlib.Core.Path.{ap, ◌∙◌}
+use borrow.Author.Rules.{rules}
+use borrow.Author.Tests.{tests}
+use Rattle.graph_file.specs.Reader.{rest_after}
 use Rattle.graph_file.proofs.SoughtStart.{kind_none, kind_other, kind_here_lem}
 use Rattle.graph_file.proofs.sought.past_kind.Goals as goal
 
-pub returns-then-text-at : goal.returns-then-text-at
-returns-then-text-at c = record { place = kind_none c.args.text.now c.args.at c.if-text-at.true }
+pub returns-in_err-get-clause-place : goal.returns-in_err-get-clause-place
+unfolding rest_after
+returns-in_err-get-clause-place c = ap (λ x. rest_after x c.args.text.now) c.from_residual.ensures ∙ kind_none c.args.text.now c.args.at (search (rules, tests))
 
-pub returns-then-not-is_lower : goal.returns-then-not-is_lower
-returns-then-not-is_lower c = record { place = kind_other c.args.text.now c.args.at c.if-text-at.false (ap is_lower (sym c.byte_at.ensures.answer) ∙ sym c.is_lower.ensures.answer ∙ not-true _ c.if-not-is_lower.true-raw) }
+pub returns-then-not-is_lower-clause-place : goal.returns-then-not-is_lower-clause-place
+unfolding rest_after
+returns-then-not-is_lower-clause-place c = kind_other c.args.text.now c.args.at (search (rules, tests)) (search (rules, tests))
 
-pub returns : goal.returns
-returns c = record { place = kind_here_lem c.args.text.now c.args.at c.if-text-at.false (ap is_lower (sym c.byte_at.ensures.answer) ∙ sym c.is_lower.ensures.answer ∙ not-false _ c.if-not-is_lower.false-raw) }
+pub returns-clause-place : goal.returns-clause-place
+unfolding rest_after
+returns-clause-place c = kind_here_lem c.args.text.now c.args.at (search (rules, tests)) (search (rules, tests))

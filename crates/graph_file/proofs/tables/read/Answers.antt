@@ -1,9 +1,19 @@
-use mathlib.Core.Logic.{inl}
-use native.Mathlib.Omega.{arith}
+-- `read` meets its contract: the text is refused, or its cells are handed out. Assumes nothing.
+use borrow.Author.Rules.{rules}
+use Rattle.text_field.specs.Answer.{answer, leaves, answer_of}
+use Rattle.text_field.specs.Outcome.{and_then}
 use Rattle.graph_file.proofs.tables.read.Goals as goal
 
-pub read_by-requires : goal.read_by-requires
-read_by-requires c = record { room = c.is_short.ensures.room c.if-is_short.true }
+pub returns-in_err-with_graph-clause-answer : goal.returns-in_err-with_graph-clause-answer
+unfolding and_then answer_of answer
+returns-in_err-with_graph-clause-answer c = rw c.in_err-with_graph.ensures.refused.0 (search rules)
 
-pub read_by-requires-2 : goal.read_by-requires-2
-read_by-requires-2 c = record { room = inl (omega arith) }
+pub returns-in_err-with_graph-clause-memory : goal.returns-in_err-with_graph-clause-memory
+unfolding leaves
+returns-in_err-with_graph-clause-memory c = rw c.in_err-with_graph.ensures.refused.0 (search rules)
+
+pub returns-clause-answer : goal.returns-clause-answer
+returns-clause-answer c = rw c.in_ok-with_graph.ensures.read.1 (search rules)
+
+pub returns-clause-memory : goal.returns-clause-memory
+returns-clause-memory c = rw c.in_ok-with_graph.ensures.read.1 (search rules)

@@ -1,4 +1,4 @@
-use Prim.Native.Nat.{◌≤◌}
+use Prim.Native.Nat.{◌-◌, ◌≤◌}
 use mathlib.Core.Path.{◌≡◌}
 use lib.ListN.{drop}
 use Rattle.graph_rows.specs.Admission.{row_of}
@@ -6,8 +6,5 @@ use Rattle.graph_rows.specs.LookBack.{found_looking_back}
 use Rattle.graph_rows.specs.Table.{rows_back}
 use Rattle.graph_rows.proofs.apart.stands_above.Given as goal
 
-abbrev pub invariant-loop-left : goal.invariant-loop-left
-invariant-loop-left l = (l.q ≤ l.p) × (found_looking_back (rows_back l.left l.q l.table) (row_of (drop l.p l.table)) ≡ found_looking_back (rows_back l.rows l.p l.table) (row_of (drop l.p l.table)))
-
-abbrev pub decreases-loop-left : goal.decreases-loop-left
-decreases-loop-left l = l.left
+abbrev pub invariant-loop : goal.invariant-loop
+invariant-loop l = (l.q ≤ l.p) × (found_looking_back (rows_back (l.rows - l.counter) l.q l.table) (row_of (drop l.p l.table)) ≡ found_looking_back (rows_back l.rows l.p l.table) (row_of (drop l.p l.table)))

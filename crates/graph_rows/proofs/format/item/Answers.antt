@@ -1,8 +1,7 @@
-use Prim.Native.Nat.{ℕ}
-use mathlib.Core.Path.{ap, ◌∙◌}
-use mathlib.Core.List.{List}
-use lib.ListN.{get_or}
+use Rattle.graph_rows.specs.Format.{labels, pairs, transitions, accepts, scope_count, edges, declarations, open_pairs, queries, past_last, sections, has_kinds, has_turns, edge_shape, declaration_shape, query_shape, shapes_of}
+use Rattle.graph_rows.specs.Table.{content_number, code, shape_bytes, has_range, kept_ranged, ranged, range_bytes, layout, layouts, format_bytes}
 use Rattle.graph_rows.proofs.format.item.Goals as goal
 
 pub returns : goal.returns
-returns c = record { answer = c.byte_at.ensures.answer ∙ ap (λ (l : List ℕ). get_or l c.args.o 10) c.requires.format }
+unfolding labels pairs transitions accepts scope_count edges declarations open_pairs queries past_last sections has_kinds has_turns edge_shape declaration_shape query_shape shapes_of content_number code shape_bytes has_range kept_ranged ranged range_bytes layout layouts format_bytes
+returns c = record { answer = c.get_or.ensures.answer }

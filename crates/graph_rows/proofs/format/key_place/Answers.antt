@@ -1,7 +1,7 @@
 use mathlib.Core.Path.{sym}
+use native.Mathlib.Omega.{arith}
 use lib.ListN.{get_or-eq_default}
 use Rattle.graph_rows.specs.Table.{key_places, key_place}
-use Rattle.graph_rows.proofs.FormatLaws.{past_last_lem}
 use Rattle.graph_rows.proofs.format.key_place.Goals as goal
 
 pub returns-in-0 : goal.returns-in-0
@@ -42,4 +42,4 @@ returns-in-8 c = record { answer = rw c.in-8.is }
 
 pub returns-in_default : goal.returns-in_default
 unfolding key_place
-returns-in_default c = record { answer = sym (get_or-eq_default key_places 260 {n = c.args.k} (past_last_lem c.args.k c.in_default.in_default-own.rest.0.0.0.0.0.0.0.0.1 c.in_default.in_default-own.rest.0.0.0.0.0.0.0.1 c.in_default.in_default-own.rest.0.0.0.0.0.0.1 c.in_default.in_default-own.rest.0.0.0.0.0.1 c.in_default.in_default-own.rest.0.0.0.0.1 c.in_default.in_default-own.rest.0.0.0.1 c.in_default.in_default-own.rest.0.0.1 c.in_default.in_default-own.rest.0.1 c.in_default.in_default-own.rest.1)) }
+returns-in_default c = record { answer = sym (get_or-eq_default key_places 260 {n = c.args.k} (omega arith)) }

@@ -1,11 +1,6 @@
-use mathlib.Core.Path.{sym, ◌∙◌}
-use native.Mathlib.Omega.{arith}
-use lib.ListN.{get_or-eq_default}
-use Rattle.graph_rows.proofs.FormatLaws.{mosts, most_at}
+use mathlib.Core.Path.{◌∙◌}
+use Rattle.graph_rows.proofs.FormatLaws.{most_at}
 use Rattle.graph_rows.proofs.format.most.Goals as goal
 
-pub returns-then-k-lt9 : goal.returns-then-k-lt9
-returns-then-k-lt9 c = record { answer = most_at c.args.k }
-
-pub returns-else-k-lt9 : goal.returns-else-k-lt9
-returns-else-k-lt9 c = record { answer = sym (get_or-eq_default mosts 0 {n = c.args.k} (omega arith)) ∙ most_at c.args.k }
+pub returns : goal.returns
+returns c = record { answer = c.get_or.ensures.answer ∙ most_at c.args.k }

@@ -1,7 +1,7 @@
 use mathlib.Core.Path.{sym}
+use native.Mathlib.Omega.{arith}
 use lib.ListN.{get_or-eq_default}
 use Rattle.graph_rows.specs.Table.{range_places, range_place}
-use Rattle.graph_rows.proofs.FormatLaws.{past_last_lem}
 use Rattle.graph_rows.proofs.ColumnLaws.{place_told}
 use Rattle.graph_rows.proofs.format.range_place.Goals as goal
 
@@ -43,4 +43,4 @@ returns-in-8 c = record { answer = rw c.in-8.is }
 
 pub returns-in_default : goal.returns-in_default
 unfolding range_place
-returns-in_default c = record { answer = sym (get_or-eq_default (range_places c.args.form) 260 {n = c.args.k} (past_last_lem c.args.k c.in_default.in_default-own.rest.0.0.0.0.0.0.0.0.1 c.in_default.in_default-own.rest.0.0.0.0.0.0.0.1 c.in_default.in_default-own.rest.0.0.0.0.0.0.1 c.in_default.in_default-own.rest.0.0.0.0.0.1 c.in_default.in_default-own.rest.0.0.0.0.1 c.in_default.in_default-own.rest.0.0.0.1 c.in_default.in_default-own.rest.0.0.1 c.in_default.in_default-own.rest.0.1 c.in_default.in_default-own.rest.1)) }
+returns-in_default c = record { answer = sym (get_or-eq_default (range_places c.args.form) 260 {n = c.args.k} (omega arith)) }

@@ -1,8 +1,9 @@
 use mathlib.Core.Path.{sym, ap}
+use native.Mathlib.Omega.{arith}
 use lib.ListN.{get_or-eq_default}
 use Rattle.graph_rows.specs.Format.{Section, labels, pairs, transitions, accepts, scope_count, edges, declarations, open_pairs, queries, sections, past_last, section_at}
 use Rattle.graph_rows.specs.Table.{sequence_meaning}
-use Rattle.graph_rows.proofs.FormatLaws.{sequence_at, past_last_lem}
+use Rattle.graph_rows.proofs.FormatLaws.{sequence_at}
 use Rattle.graph_rows.proofs.format.sequence_of.Goals as goal
 
 pub returns-in-0 : goal.returns-in-0
@@ -43,4 +44,4 @@ returns-in-8 c = record { answer = sequence_at c.args.k 8 c.in-8.is }
 
 pub returns-in_default : goal.returns-in_default
 unfolding sequence_meaning section_at sections past_last labels pairs transitions accepts scope_count edges declarations open_pairs queries
-returns-in_default c = record { answer = ap (λ (s : Section). s.sequence) (sym (get_or-eq_default sections past_last {n = c.args.k} (past_last_lem c.args.k c.in_default.in_default-own.rest.0.0.0.0.0.0.0.0.1 c.in_default.in_default-own.rest.0.0.0.0.0.0.0.1 c.in_default.in_default-own.rest.0.0.0.0.0.0.1 c.in_default.in_default-own.rest.0.0.0.0.0.1 c.in_default.in_default-own.rest.0.0.0.0.1 c.in_default.in_default-own.rest.0.0.0.1 c.in_default.in_default-own.rest.0.0.1 c.in_default.in_default-own.rest.0.1 c.in_default.in_default-own.rest.1))) }
+returns-in_default c = record { answer = ap (λ (s : Section). s.sequence) (sym (get_or-eq_default sections past_last {n = c.args.k} (omega arith))) }

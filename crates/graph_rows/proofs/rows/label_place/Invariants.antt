@@ -1,4 +1,4 @@
-use Prim.Native.Nat.{◌-◌, ◌≤◌, ◌+◌, ◌*◌}
+use Prim.Native.Nat.{◌-◌, ◌+◌, ◌*◌}
 use mathlib.Core.Path.{◌≡◌}
 use lib.ListN.{drop}
 use Rattle.graph_rows.specs.Admission.{place}
@@ -6,7 +6,4 @@ use Rattle.graph_rows.specs.Table.{letters_at}
 use Rattle.graph_rows.proofs.rows.label_place.Given as goal
 
 abbrev pub invariant-loop-i : goal.invariant-loop-i
-invariant-loop-i l = (l.i ≤ l.labels) × (l.i + place l.x (letters_at (l.labels - l.i) (drop (1 + 6 * l.i) l.table)) ≡ place l.x (letters_at l.labels (drop 1 l.table)))
-
-abbrev pub decreases-loop-i : goal.decreases-loop-i
-decreases-loop-i l = l.labels - l.i
+invariant-loop-i l = l.i + place l.x (letters_at (l.labels - l.i) (drop (1 + 6 * l.i) l.table)) ≡ place l.x (letters_at l.labels (drop 1 l.table))

@@ -1,16 +1,24 @@
 use mathlib.Core.Path.{sym, ap, ◌∙◌}
-use borrow.Author.Tests.{not-true, not-false}
+use native.Mathlib.Omega.{arith}
+use Rattle.text_field.specs.Answer.{fault_of}
+use Rattle.text_field.specs.Refusal.{number_of}
 use Rattle.graph_rows.specs.Format.{shape_at}
 use Rattle.graph_rows.specs.Values.{formed}
 use Rattle.graph_rows.proofs.RowLaws.{row_part}
 use Rattle.graph_rows.proofs.TestLaws.{row_short, row_unformed, row_formed}
 use Rattle.graph_rows.proofs.tested.row_refusal.Goals as goal
 
-pub returns-then-table-end : goal.returns-then-table-end
-returns-then-table-end c = record { answer = row_short c.args.s.form c.args.s.section c.args.table.now c.args.p c.args.c c.if-table-end.true }
+pub returns-in_default : goal.returns-in_default
+unfolding fault_of number_of
+returns-in_default c = record { answer = row_short c.args.s.form c.args.s.section c.args.table.now c.args.p c.args.c (omega (arith, c.in_default.ensures.lookup)) }
 
 pub returns-then-not-is_formed : goal.returns-then-not-is_formed
-returns-then-not-is_formed c = record { answer = row_unformed c.args.s.form c.args.s.section c.args.table.now c.args.p c.args.c c.if-table-end.false (sym (c.is_formed.ensures.answer ∙ ap (formed (shape_at c.args.s.form c.args.s.section).row) (row_part c.args.table.now c.args.p c.if-table-end.false)) ∙ not-true _ c.if-not-is_formed.true-raw) }
+unfolding fault_of number_of
+returns-then-not-is_formed c =
+    let found = c.in-Some.ensures.lookup.0
+    in record { answer = row_unformed c.args.s.form c.args.s.section c.args.table.now c.args.p c.args.c found.1 (ap (formed (shape_at c.args.s.form c.args.s.section).row) (sym (row_part c.args.table.now c.args.p found.1) ∙ sym found.2) ∙ sym c.is_formed.ensures.answer ∙ c.if-not-is_formed.true) }
 
 pub returns : goal.returns
-returns c = record { answer = c.admitted.ensures.answer ∙ row_formed c.args.s.form c.args.s.section c.args.table.now c.args.p c.args.c c.if-table-end.false (sym (c.is_formed.ensures.answer ∙ ap (formed (shape_at c.args.s.form c.args.s.section).row) (row_part c.args.table.now c.args.p c.if-table-end.false)) ∙ not-false _ c.if-not-is_formed.false-raw) }
+returns c =
+    let found = c.in-Some.ensures.lookup.0
+    in record { answer = c.admitted.ensures.answer ∙ row_formed c.args.s.form c.args.s.section c.args.table.now c.args.p c.args.c found.1 (ap (formed (shape_at c.args.s.form c.args.s.section).row) (sym (row_part c.args.table.now c.args.p found.1) ∙ sym found.2) ∙ sym c.is_formed.ensures.answer ∙ c.if-not-is_formed.false) }

@@ -9,7 +9,4 @@ use Rattle.graph_rows.specs.Counting.{Placed, room_before}
 use Rattle.graph_rows.proofs.tested.test_sections.Given as goal
 
 abbrev pub invariant-loop-k : goal.invariant-loop-k
-invariant-loop-k l = (l.k ≤ 9) × Placed l.k l.p l.c × (l.p ≤ room_before l.k) × (through_sections (testing l.form) (9 - l.k) l.k (stage_from (sofar_at l.table l.p l.c) (drop l.p l.table)) ≡ through_sections (testing l.form) 9 0 (stage_from nothing (drop 1 l.table)))
-
-abbrev pub decreases-loop-k : goal.decreases-loop-k
-decreases-loop-k l = 9 - l.k
+invariant-loop-k l = Placed l.k l.r.cells l.r.counts × (l.r.cells ≤ room_before l.k) × (through_sections (testing l.form) (9 - l.k) l.k (stage_from (sofar_at l.table l.r.cells l.r.counts) (drop l.r.cells l.table)) ≡ through_sections (testing l.form) 9 0 (stage_from nothing (drop 1 l.table)))

@@ -1,7 +1,20 @@
 -- `gym::replies::put_count` puts the line of what `count` answers. Assumes nothing.
-use borrow.Author.Rules.{rules}
-use Rattle.gym.proofs.ReplyLaws.{count_replied}
+use native.Mathlib.Omega.{arith}
+use Rattle.text_field.specs.Answer.{answer_of}
+use Rattle.text_field.specs.Number.{number_text}
+use Rattle.text_field.proofs.AnswerLaws.{answer_ok, answer_err}
+use Rattle.gym.proofs.ReplyLaws.{count_replied, line_replied, short_replied, refused_replied, number_short}
 use Rattle.gym.proofs.replies.put_count.Goals as goal
 
-pub returns : goal.returns
-returns c = record { written = count_replied _ _ _ c.args.text.now c.args.query _ c.put_count_line.ensures.written (search rules) }
+pub returns-in-Ok : goal.returns-in-Ok
+returns-in-Ok c = record {
+  written = count_replied _ _ _ c.args.text.now c.args.query _ c.count.ensures.answer
+      (line_replied number_text (answer_of c.count.result) _ _ _ c.in-Ok.n (answer_ok c.count.result c.in-Ok.n c.in-Ok.is)
+      (short_replied (number_text c.in-Ok.n) _ _ _ (number_short c.in-Ok.n (omega arith)) c.put_counted.ensures.written));
+}
+
+pub returns-in-Err : goal.returns-in-Err
+returns-in-Err c = record {
+  written = count_replied _ _ _ c.args.text.now c.args.query _ c.count.ensures.answer
+      (refused_replied number_text (answer_of c.count.result) _ _ _ c.in-Err.r (answer_err c.count.result c.in-Err.r c.in-Err.is) c.put_refused.ensures.written);
+}

@@ -11,16 +11,15 @@ use Rattle.renumbering.proofs.AloneLaws.{file_answered}
 use Rattle.printing.specs.Printed.{in_place}
 use Rattle.gym.specs.Said.{reply_room}
 use Rattle.gym.specs.Handed.{Replied}
-use Rattle.gym.proofs.ReplyLaws.{answer_replied}
 use Rattle.gym.proofs.NumberedLaws.{room_enough}
 use Rattle.gym.proofs.replies.put_renumbered.Goals as goal
 
 pub returns : goal.returns
 returns c = record {
   written = let made : ℕ = length (replicate {A = ℕ} 256 0) in
-      subst (λ (o : Outcome Renumbering). Replied c.args.out.now c.put_answer.new.out c.put_answer.result (in_place reply_room (file_of o)))
+      subst (λ (o : Outcome Renumbering). Replied c.args.out.now c.put_made.new.out c.put_made.result (in_place reply_room (file_of o)))
       (room_enough c.args.text.now (length c.args.out.now) made (omega (arith, c.requires.room)) (omega (arith, length-replicate {A = ℕ} 256 0)))
-      (answer_replied (file_of (room_for (length c.args.out.now) made (renumber_of c.args.text.now))) _ _ c.file_answer.type_inv c.args.out.now _ _ _ c.requires.room
-      (c.file_answer.ensures.answer ∙ ap file_size c.renumber-a.ensures.answer ∙ file_answered (renumber_of c.args.text.now) (length c.args.out.now) made)
-      c.renumber-a.ensures.file c.put_answer.ensures.written);
+      (c.put_made.ensures.written (file_of (room_for (length c.args.out.now) made (renumber_of c.args.text.now))) c.args.out.now c.requires.room
+      (c.file_answer.ensures.answer ∙ ap file_size c.renumber.ensures.answer ∙ file_answered (renumber_of c.args.text.now) (length c.args.out.now) made)
+      c.renumber.ensures.file);
 }

@@ -11,16 +11,15 @@ use Rattle.renumbering.proofs.AloneLaws.{list_answered}
 use Rattle.printing.specs.Printed.{in_place}
 use Rattle.gym.specs.Said.{reply_room}
 use Rattle.gym.specs.Handed.{Replied}
-use Rattle.gym.proofs.ReplyLaws.{answer_replied}
 use Rattle.gym.proofs.NumberedLaws.{room_enough}
 use Rattle.gym.proofs.replies.put_was.Goals as goal
 
 pub returns : goal.returns
 returns c = record {
   written = let made : ℕ = length (replicate {A = ℕ} 32768 0) in
-      subst (λ (o : Outcome Renumbering). Replied c.args.out.now c.put_answer.new.out c.put_answer.result (in_place reply_room (list_of o)))
+      subst (λ (o : Outcome Renumbering). Replied c.args.out.now c.put_made.new.out c.put_made.result (in_place reply_room (list_of o)))
       (room_enough c.args.text.now made (length c.args.out.now) (omega (arith, length-replicate {A = ℕ} 32768 0)) (omega (arith, c.requires.room)))
-      (answer_replied (list_of (room_for made (length c.args.out.now) (renumber_of c.args.text.now))) _ _ c.list_answer.type_inv c.args.out.now _ _ _ c.requires.room
-      (c.list_answer.ensures.answer ∙ ap list_size c.renumber-a.ensures.answer ∙ list_answered (renumber_of c.args.text.now) made (length c.args.out.now))
-      c.renumber-a.ensures.list c.put_answer.ensures.written);
+      (c.put_made.ensures.written (list_of (room_for made (length c.args.out.now) (renumber_of c.args.text.now))) c.args.out.now c.requires.room
+      (c.list_answer.ensures.answer ∙ ap list_size c.renumber.ensures.answer ∙ list_answered (renumber_of c.args.text.now) made (length c.args.out.now))
+      c.renumber.ensures.list);
 }

@@ -1,22 +1,36 @@
 -- `gym::words::later_command` looks for the word in their sequence. Assumes nothing.
-use mathlib.Core.Path.{sym, ◌∙◌}
-use Rattle.gym.specs.Words.{count_asked, readers_asked, rules_word, count_word, readers_word}
-use Rattle.gym.specs.Handed.{meaning, reply_meaning}
-use Rattle.gym.proofs.WordLaws.{one_same, as_rules, as_count, as_readers, as_last}
+use mathlib.Core.Path.{refl, sym, ap, ◌∙◌}
+use mathlib.Core.Bool.{true, false}
+use Rattle.gym.specs.declared.words.Reply.TheVariants.{Count, Readers}
+use Rattle.gym.specs.Words.{count, readers, rules, count_asked, readers_asked, rules_word, count_word, readers_word}
+use Rattle.gym.specs.Handed.{meaning, reply_meaning, with_so_many}
+use Rattle.gym.proofs.WordLaws.{same_told, one_given, query_asks, as_rules, as_count, as_readers, as_last}
 use Rattle.gym.proofs.words.later_command.Goals as goal
 
-pub returns-then-is_same : goal.returns-then-is_same
+pub returns-then-eq : goal.returns-then-eq
 unfolding meaning reply_meaning rules_word
-returns-then-is_same c = record { answer = λ b. c.with_one.ensures.answer c.args.first.now b ∙ sym (as_rules c.args.name.now _ (sym c.if-is_same.true ∙ c.is_same.ensures.answer)) }
+returns-then-eq c = record { answer = λ b. c.given.ensures.answer c.args.first.now b ∙ one_given c.args.first.now b c.args.count rules ∙ sym (as_rules c.args.name.now _ (same_told _ _ _ true _ c.as_slice.ensures c.if-eq.true c.eq.ensures)) }
 
-pub returns-then-is_same-2 : goal.returns-then-is_same-2
-unfolding rules_word count_word
-returns-then-is_same-2 c = record { answer = λ b. c.with_one-then-is_same-2.ensures.answer c.args.first.now b ∙ one_same _ c.args.first.now b (λ x. meaning _ x b) count_asked (c.count_asked.ensures.answer b) ∙ sym (as_count c.args.name.now _ (sym c.if-is_same.false ∙ c.is_same.ensures.answer) (sym c.if-is_same-2.true ∙ c.is_same-2.ensures.answer)) }
+pub returns-then-eq-2 : goal.returns-then-eq-2
+unfolding reply_meaning count_asked rules_word count_word
+returns-then-eq-2 c = record {
+  answer = λ b.
+      c.given-then-eq-2.ensures.answer c.args.first.now b
+      ∙ ap (with_so_many c.args.count 1) (query_asks Count count c.args.first.now b _ _ c.map_or-reply.ensures (λ i. refl) ∙ c.query_of.ensures.answer count)
+      ∙ one_given c.args.first.now b c.args.count count_asked
+      ∙ sym (as_count c.args.name.now _ (same_told _ _ _ false _ c.as_slice.ensures c.if-eq.false c.eq.ensures) (same_told _ _ _ true _ c.as_slice-2.ensures c.if-eq-2.true c.eq-2.ensures));
+}
 
-pub returns-then-is_same-3 : goal.returns-then-is_same-3
-unfolding rules_word count_word readers_word
-returns-then-is_same-3 c = record { answer = λ b. c.with_one-then-is_same-3.ensures.answer c.args.first.now b ∙ one_same _ c.args.first.now b (λ x. meaning _ x b) readers_asked (c.readers_asked.ensures.answer b) ∙ sym (as_readers c.args.name.now _ (sym c.if-is_same.false ∙ c.is_same.ensures.answer) (sym c.if-is_same-2.false ∙ c.is_same-2.ensures.answer) (sym c.if-is_same-3.true ∙ c.is_same-3.ensures.answer)) }
+pub returns-then-eq-3 : goal.returns-then-eq-3
+unfolding reply_meaning readers_asked rules_word count_word readers_word
+returns-then-eq-3 c = record {
+  answer = λ b.
+      c.given-then-eq-3.ensures.answer c.args.first.now b
+      ∙ ap (with_so_many c.args.count 1) (query_asks Readers readers c.args.first.now b _ _ c.map_or-reply-then-eq-3.ensures (λ i. refl) ∙ c.query_of-then-eq-3.ensures.answer readers)
+      ∙ one_given c.args.first.now b c.args.count readers_asked
+      ∙ sym (as_readers c.args.name.now _ (same_told _ _ _ false _ c.as_slice.ensures c.if-eq.false c.eq.ensures) (same_told _ _ _ false _ c.as_slice-2.ensures c.if-eq-2.false c.eq-2.ensures) (same_told _ _ _ true _ c.as_slice-3.ensures c.if-eq-3.true c.eq-3.ensures));
+}
 
 pub returns : goal.returns
 unfolding rules_word count_word readers_word
-returns c = record { answer = λ b. c.last_command.ensures.answer c.args.first.now b ∙ sym (as_last c.args.name.now _ (sym c.if-is_same.false ∙ c.is_same.ensures.answer) (sym c.if-is_same-2.false ∙ c.is_same-2.ensures.answer) (sym c.if-is_same-3.false ∙ c.is_same-3.ensures.answer)) }
+returns c = record { answer = λ b. c.last_command.ensures.answer c.args.first.now b ∙ sym (as_last c.args.name.now _ (same_told _ _ _ false _ c.as_slice.ensures c.if-eq.false c.eq.ensures) (same_told _ _ _ false _ c.as_slice-2.ensures c.if-eq-2.false c.eq-2.ensures) (same_told _ _ _ false _ c.as_slice-3.ensures c.if-eq-3.false c.eq-3.ensures)) }

@@ -4,8 +4,8 @@ use Rattle.search.proofs.CutEnds.{known_none}
 use Rattle.judge.proofs.CutLaws.{end_told}
 use Rattle.judge.proofs.cut.end_cut.Goals as goal
 
-pub learn-told-requires : goal.learn-told-requires
-learn-told-requires c = record { block = c.requires.ready.size; bounds = c.requires.ready.bounds; table = c.requires.ready.table; inside = c.requires.ready.inside; live = c.requires.ready.closed; known = known_none c.args.block.now c.args.goal c.args.n }
+pub learn-requires : goal.learn-requires
+learn-requires c = record { bounds = c.requires.ready.bounds; table = c.requires.ready.table; inside = c.requires.ready.inside; live = c.requires.ready.closed; known = known_none c.args.block.now c.args.goal c.args.n }
 
 pub returns : goal.returns
-returns c = record { answer = end_told c.args.block.now c.args.goal c.args.n _ _ c.learn-told.ensures.cut }
+returns c = record { answer = end_told c.args.block.now c.args.goal c.args.n _ _ c.learn.ensures.cut }

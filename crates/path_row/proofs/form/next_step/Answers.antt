@@ -1,27 +1,40 @@
 -- `path_row::form::next_step` meets its contract: a letter, and a scope after it. Assumes nothing.
-use mathlib.Core.Path.{ap}
+use mathlib.Core.Path.{◌≡◌, ap, sym, ◌∙◌}
 use native.Mathlib.Omega.{arith}
-use borrow.Author.Tests.{not-true, not-false}
+use borrow.Author.Tests.{tests, ltb-true, ltb-false}
+use lib.ListN.{get_or}
+use Rattle.std.proofs.Common.{rules}
+use Rattle.text_field.specs.Bytes.{is_capital}
 use Rattle.path_row.specs.Form.{step_meaning}
 use Rattle.path_row.proofs.Steps.{step_end, step_other, step_bare, step_taken, scope_small}
 use Rattle.path_row.proofs.form.next_step.Goals as goal
 
--- src/form.rt:71:9
-pub returns-then-s-at : goal.returns-then-s-at
-returns-then-s-at c = record { answer = ap step_meaning (step_end c.args.s.now c.args.at c.if-s-at.true) }
+pub returns-in_err-label : goal.returns-in_err-label
+returns-in_err-label c =
+    let e = step_end c.args.s.now c.args.at (ltb-false _ _ (sym c.in_err-label.ensures.lookup.0)) in
+    record { answer = ap step_meaning (c.from_residual.ensures ∙ e) }
 
--- src/form.rt:75:9
 pub returns-then-not-is_capital : goal.returns-then-not-is_capital
-returns-then-not-is_capital c = record { answer = ap step_meaning (step_other c.args.s.now c.args.at c.is_capital.result c.if-s-at.false c.is_capital.ensures.answer (not-true _ c.if-not-is_capital.true-raw)) }
+returns-then-not-is_capital c =
+    let near = ltb-true _ _ (sym c.in_ok-label.ensures.lookup.0) in
+    let byte : c.in_ok-label.field-0.now ≡ get_or c.args.s.now c.args.at 0 = search (rules, tests) in
+    record { answer = ap step_meaning (step_other c.args.s.now c.args.at c.is_capital.result near (c.is_capital.ensures.answer ∙ ap is_capital byte) c.if-not-is_capital.true) }
 
--- src/form.rt:78:9
-pub returns-in_default : goal.returns-in_default
-returns-in_default c = record { answer = ap step_meaning (step_bare c.args.s.now c.args.at c.is_capital.result c.number_up_to.result c.if-s-at.false c.is_capital.ensures.answer (not-false _ c.if-not-is_capital.false-raw) c.number_up_to.ensures.answer c.in_default.is) }
+pub returns-in_err-scope : goal.returns-in_err-scope
+returns-in_err-scope c =
+    let near = ltb-true _ _ (sym c.in_ok-label.ensures.lookup.0) in
+    let byte : c.in_ok-label.field-0.now ≡ get_or c.args.s.now c.args.at 0 = search (rules, tests) in
+    let e = step_bare c.args.s.now c.args.at c.is_capital.result c.number_up_to.result near (c.is_capital.ensures.answer ∙ ap is_capital byte) c.if-not-is_capital.false c.number_up_to.ensures.answer c.in_err-scope.was in
+    record { answer = ap step_meaning (c.from_residual-in_err-scope.ensures ∙ e) }
 
--- src/form.rt:80:24
-pub overflow_cast-result : goal.overflow_cast-result
-overflow_cast-result c = omega (arith, scope_small c.args.s.now c.args.at c.is_capital.result c.number_up_to.result c.if-s-at.false c.is_capital.ensures.answer (not-false _ c.if-not-is_capital.false-raw) c.number_up_to.ensures.answer c.in-Number.v c.in-Number.next c.in-Number.is)
+pub overflow_cast-step : goal.overflow_cast-step
+overflow_cast-step c =
+    let near = ltb-true _ _ (sym c.in_ok-label.ensures.lookup.0) in
+    let byte : c.in_ok-label.field-0.now ≡ get_or c.args.s.now c.args.at 0 = search (rules, tests) in
+    omega (arith, scope_small c.args.s.now c.args.at c.is_capital.result c.number_up_to.result near (c.is_capital.ensures.answer ∙ ap is_capital byte) c.if-not-is_capital.false c.number_up_to.ensures.answer c.in_ok-scope.scope c.in_ok-scope.next c.in_ok-scope.was)
 
--- src/form.rt:67:1
 pub returns : goal.returns
-returns c = record { answer = ap step_meaning (step_taken c.args.s.now c.args.at c.is_capital.result c.number_up_to.result c.if-s-at.false c.is_capital.ensures.answer (not-false _ c.if-not-is_capital.false-raw) c.number_up_to.ensures.answer c.in-Number.v c.in-Number.next c.in-Number.is) }
+returns c =
+    let near = ltb-true _ _ (sym c.in_ok-label.ensures.lookup.0) in
+    let byte : c.in_ok-label.field-0.now ≡ get_or c.args.s.now c.args.at 0 = search (rules, tests) in
+    record { answer = rw byte (ap step_meaning (step_taken c.args.s.now c.args.at c.is_capital.result c.number_up_to.result near (c.is_capital.ensures.answer ∙ ap is_capital byte) c.if-not-is_capital.false c.number_up_to.ensures.answer c.in_ok-scope.scope c.in_ok-scope.next c.in_ok-scope.was)) }

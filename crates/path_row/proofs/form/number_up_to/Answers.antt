@@ -6,17 +6,15 @@ use Rattle.path_row.specs.Form.{number_up_to}
 use Rattle.path_row.proofs.Steps.{up_none, up_past, up_in}
 use Rattle.path_row.proofs.form.number_up_to.Goals as goal
 
--- src/form.rt:39:9
-pub returns-in_default : goal.returns-in_default
+pub returns-in_err-v : goal.returns-in_err-v
 unfolding number_up_to
-returns-in_default c = record { answer = up_none c.args.at c.args.most (number_here (drop c.args.at c.args.s.now)) c.read_number.result c.read_number.ensures.answer c.in_default.is }
+returns-in_err-v c =
+    let e = up_none c.args.at c.args.most (number_here (drop c.args.at c.args.s.now)) _ c.read_number.ensures.answer c.in_err-v.was in record { answer = cc }
 
--- src/form.rt:42:9
 pub returns-then-most-v : goal.returns-then-most-v
 unfolding number_up_to
-returns-then-most-v c = record { answer = up_past c.args.at c.args.most (number_here (drop c.args.at c.args.s.now)) c.read_number.result c.in-Number.v c.in-Number.next c.read_number.ensures.answer c.in-Number.is c.if-most-v.true }
+returns-then-most-v c = record { answer = up_past c.args.at c.args.most (number_here (drop c.args.at c.args.s.now)) _ c.in_ok-v.v c.in_ok-v.next c.read_number.ensures.answer c.in_ok-v.was c.if-most-v.true }
 
--- src/form.rt:35:1
 pub returns : goal.returns
 unfolding number_up_to
-returns c = record { answer = up_in c.args.at c.args.most (number_here (drop c.args.at c.args.s.now)) c.read_number.result c.in-Number.v c.in-Number.next c.read_number.ensures.answer c.in-Number.is c.if-most-v.false }
+returns c = record { answer = up_in c.args.at c.args.most (number_here (drop c.args.at c.args.s.now)) _ c.in_ok-v.v c.in_ok-v.next c.read_number.ensures.answer c.in_ok-v.was c.if-most-v.false }

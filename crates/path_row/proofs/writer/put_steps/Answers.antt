@@ -1,22 +1,21 @@
 -- `path_row::writer::put_steps` meets its contract. The loop's invariant: what is left to write
 -- gives the whole. Assumes nothing.
-use mathlib.Core.Path.{refl, ap, ◌∙◌}
-use native.Mathlib.Omega.{arith}
-use Rattle.text_field.specs.Buffer.{puts}
-use Rattle.path_row.proofs.WriterLaws.{text_first, put_next, put_last}
+use mathlib.Core.Path.{ap}
+use native.Mathlib.Numerals.{add-one}
+use lib.ListN.{drop_of_length-le}
+use lib.Seq.{drop-cons}
+use Rattle.text_field.proofs.WritingLaws.{left_start, left_step, left_end}
+use Rattle.path_row.specs.Form.{steps_text, no_step}
 use Rattle.path_row.proofs.writer.put_steps.Goals as goal
 
-pub loop-i-init : goal.loop-i-init
-loop-i-init c = (refl, omega arith, ap (puts _) (text_first _ _ _))
+pub loop-step-init : goal.loop-step-init
+loop-step-init c = left_start _ _
 
-pub overflow_add-i : goal.overflow_add-i
-overflow_add-i c = omega arith
-
-pub loop-i-smaller : goal.loop-i-smaller
-loop-i-smaller c = omega arith
-
-pub loop-i-preserved : goal.loop-i-preserved
-loop-i-preserved c = (c.put_step-k.auto.out ∙ c.loop-i.invariant.0, omega arith, put_next _ _ _ _ _ _ c.loop-i.i _ _ c.put_step-k.ensures.written c.byte_at.ensures.answer c.byte_at-in-loop-i.ensures.answer (omega arith) c.loop-i.invariant.2)
+pub loop-step-preserved : goal.loop-step-preserved
+unfolding steps_text
+loop-step-preserved c =
+    left_step _ c.loop-step.invariant (rw add-one (ap steps_text (drop-cons c.args.steps.now c.loop-step.step-index no_step c.loop-step-test.true))) c.put_step.ensures.wrote
 
 pub returns : goal.returns
-returns c = record { written = put_last _ _ _ _ _ c.loop-i.i (omega arith) c.loop-i.invariant.2 }
+unfolding steps_text
+returns c = record { wrote = left_end c.loop-step.invariant (ap steps_text (drop_of_length-le c.args.steps.now {i = c.loop-step.step-index} c.loop-step-test.false)) }

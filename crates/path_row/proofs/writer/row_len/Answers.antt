@@ -1,8 +1,14 @@
 -- `path_row::writer::row_len` meets its contract. Assumes nothing.
+use mathlib.Core.Path.{◌∙◌}
 use native.Mathlib.Omega.{arith}
-use Rattle.path_row.proofs.WriterLaws.{measured}
+use lib.ListN.{replicate, length-replicate}
+use Rattle.text_field.proofs.WritingLaws.{written, stands}
+use Rattle.path_row.specs.Form.{row_of}
+use Rattle.path_row.proofs.FormLaws.{row_short}
 use Rattle.path_row.proofs.writer.row_len.Goals as goal
 
--- src/writer.rt:91:1
 pub returns : goal.returns
-returns c = record { answer = measured c.args.mark c.args.start c.args.count c.args.letters.now c.args.scopes.now 256 _ _ (omega arith) c.requires.row c.put_row.ensures.written }
+returns c =
+    let short = row_short (row_of c.args.mark c.args.start c.args.steps.now) c.requires.row in
+    let m = written _ _ _ _ c.new-to.ensures.starts c.put_row.ensures.wrote in
+    record { answer = c.end.ensures.answer ∙ (stands (replicate 256 0) _ _ m (rw length-replicate (omega arith))).0 }

@@ -1,26 +1,24 @@
 -- `place` meets its contract. Assumes nothing.
-use Rattle.path_rules.proofs.Steps.{place_here, place_on, place_end}
-use mathlib.Core.Path.{refl, ◌∙◌}
-use native.Mathlib.Omega.{arith}
+use mathlib.Core.Path.{ap, ◌∙◌}
+use lib.Dec.{eqb}
+use borrow.Author.Rules.{rules}
+use borrow.Author.Tests.{tests}
+use Rattle.std.specs.Option.{unwrap_or}
+use Rattle.std.proofs.lemmas.Iterator.{YieldsList-from_slice}
+use Rattle.std.proofs.lemmas.Iterator.Adapters.{position_from-zero}
+use Rattle.std.proofs.lemmas.Iterator.Search.{position_from_yields_List}
+use Rattle.path_rules.proofs.Steps.{place_is}
 use Rattle.path_rules.proofs.reading.place.Goals as goal
 
-pub loop-i-init : goal.loop-i-init
-loop-i-init c = (omega arith, refl)
-
-pub bounds-labels-i : goal.bounds-labels-i
-bounds-labels-i c = omega arith
-
-pub returns-then-b-labels : goal.returns-then-b-labels
-returns-then-b-labels c = record { answer = place_here _ _ _ c.loop-i-test.true c.if-b-labels.true ∙ c.loop-i.invariant.1 }
-
-pub overflow_add-i : goal.overflow_add-i
-overflow_add-i c = omega arith
-
-pub loop-i-smaller : goal.loop-i-smaller
-loop-i-smaller c = omega arith
-
-pub loop-i-preserved : goal.loop-i-preserved
-loop-i-preserved c = (omega arith, place_on _ _ _ c.loop-i-test.true c.if-b-labels.false ∙ c.loop-i.invariant.1)
-
 pub returns : goal.returns
-returns c = record { answer = place_end _ _ _ c.loop-i-test.false ∙ c.loop-i.invariant.1 }
+returns c =
+    let labels = c.args.labels.now in
+    let b = c.args.b in
+    record {
+      answer =
+          c.unwrap_or.ensures
+          ∙ ap (λ o. unwrap_or o 8)
+          (position_from_yields_List (λ l. eqb l b) _ _ c.position.result c.position.ensures.ran (YieldsList-from_slice labels (cc)) (λ x b q k. search (rules, tests))
+          ∙ position_from-zero (λ l. eqb l b) labels)
+          ∙ place_is b labels 0;
+    }

@@ -1,28 +1,27 @@
 -- `read` meets its contract. Assumes nothing.
-use Rattle.path_rules.proofs.Steps.{read_on, read_end, depth_byte}
+use Rattle.path_rules.proofs.Steps.{read_on, read_stop, read_end, depth_byte}
 use Rattle.path_rules.specs.Reading.{fresh}
-use mathlib.Core.Path.{◌∙◌}
+use mathlib.Core.Path.{sym, ◌∙◌}
 use native.Mathlib.Omega.{arith}
 use Rattle.path_rules.proofs.reading.read.Goals as goal
 
-pub loop-i-init : goal.loop-i-init
+pub loop-b-init : goal.loop-b-init
 unfolding fresh
-loop-i-init c = (rw c.nothing-s.ensures.answer, rw c.nothing-s.ensures.answer (omega arith), omega arith)
+loop-b-init c = record { rest = rw c.nothing-s.ensures.answer; depth = rw c.nothing-s.ensures.answer (omega arith) }
 
-pub bounds-text-i : goal.bounds-text-i
-bounds-text-i c = omega arith
+pub returns-in_err-s : goal.returns-in_err-s
+returns-in_err-s c = record {
+  answer =
+      c.from_residual.ensures
+      ∙ read_stop _ _ _ _ c.loop-b-test.true (sym c.read_byte.ensures.answer ∙ c.in_err-s.was)
+      ∙ c.loop-b.invariant.rest;
+}
 
-pub read_byte-s-requires : goal.read_byte-s-requires
-read_byte-s-requires c = record { depth = c.loop-i.invariant.1 }
-
-pub overflow_add-i : goal.overflow_add-i
-overflow_add-i c = omega arith
-
-pub loop-i-smaller : goal.loop-i-smaller
-loop-i-smaller c = omega arith
-
-pub loop-i-preserved : goal.loop-i-preserved
-loop-i-preserved c = (rw c.read_byte-s.ensures.answer (read_on _ _ _ _ c.loop-i-test.true ∙ c.loop-i.invariant.0), rw c.read_byte-s.ensures.answer (depth_byte _ _ _ c.loop-i.invariant.1), omega arith)
+pub loop-b-preserved : goal.loop-b-preserved
+loop-b-preserved c = record {
+  rest = read_on _ _ _ _ _ c.loop-b-test.true (sym c.read_byte.ensures.answer ∙ c.in_ok-s.was) ∙ c.loop-b.invariant.rest;
+  depth = depth_byte _ _ _ _ c.loop-b.invariant.depth (sym c.read_byte.ensures.answer ∙ c.in_ok-s.was);
+}
 
 pub returns : goal.returns
-returns c = record { answer = read_end _ _ _ _ c.loop-i-test.false ∙ c.loop-i.invariant.0 }
+returns c = record { answer = read_end _ _ _ _ c.loop-b-test.false ∙ c.loop-b.invariant.rest }

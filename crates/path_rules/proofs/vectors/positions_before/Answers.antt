@@ -1,25 +1,9 @@
 -- `positions_before` meets its contract. Assumes nothing.
-use Rattle.path_rules.proofs.Steps.{gather_none, gather_all}
-use Rattle.path_rules.proofs.SetLaws.{gather_next}
-use Rattle.path_rules.specs.Vectors.{before}
-use native.Mathlib.Omega.{arith}
+use borrow.Author.Rules.{rules}
+use borrow.Author.Tests.{tests}
+use Rattle.path_rules.specs.Vectors.{before, before_cell}
 use Rattle.path_rules.proofs.vectors.positions_before.Goals as goal
 
-pub loop-p-init : goal.loop-p-init
-loop-p-init c = (gather_none _, omega arith)
-
-pub before_cell-out-requires : goal.before_cell-out-requires
-before_cell-out-requires c = record { position = omega arith }
-
-pub overflow_add-p : goal.overflow_add-p
-overflow_add-p c = omega arith
-
-pub loop-p-smaller : goal.loop-p-smaller
-loop-p-smaller c = omega arith
-
-pub loop-p-preserved : goal.loop-p-preserved
-loop-p-preserved c = (gather_next _ _ _ _ c.loop-p.invariant.0 c.before_cell-out.ensures.answer, omega arith)
-
 pub returns : goal.returns
-unfolding before
-returns c = record { answer = gather_all _ 10 _ _ c.loop-p.invariant.0 c.loop-p.invariant.1 c.loop-p-test.false }
+unfolding before before_cell
+returns c = record { answer = c.gather.ensures.answer (before_cell c.args.positions.now.after c.args.positions.now.labels c.args.v c.args.l) (λ p r b h. search (rules, tests)) }

@@ -7,4 +7,4 @@ use Rattle.printing.proofs.Laws.{in_place_lem}
 use Rattle.printing.proofs.parts.put_listing.Goals as goal
 
 pub returns : goal.returns
-returns c = record { written = in_place_lem _ c.args.out.now _ _ c.put_answer-size.ensures.written (listing_of c.args.table.now c.args.i) c.listing_on-l.ensures.answer c.listing_on-l.ensures.memory; found = c.listing_on-l.ensures.found ∙ found_inside c.args.table.now c.args.i c.requires.number }
+returns c = record { written = in_place_lem _ c.args.out.now _ _ c.put_answer.ensures.written (listing_of c.args.table.now c.args.i) c.listing_on-l.ensures.answer c.listing_on-l.ensures.memory; found = c.listing_on-l.ensures.found ∙ found_inside c.args.table.now c.args.i c.requires.number }

@@ -1,6 +1,12 @@
--- `printing::parts::put_refused` writes the line, in three writes. Assumes nothing.
-use Rattle.printing.proofs.Laws.{refused_puts}
+-- `printing::parts::put_refused` writes the line. Assumes nothing.
+use borrow.Author.Rules.{rules}
+use Rattle.text_field.proofs.WritingLaws.{◌then◌, written}
+use Rattle.printing.specs.Printed.{refused_line}
 use Rattle.printing.proofs.parts.put_refused.Goals as goal
 
 pub returns : goal.returns
-returns c = record { written = refused_puts c.args.n _ _ _ _ c.put_bytes-b.ensures.written c.put_number-c.ensures.written c.put_byte.ensures.written }
+unfolding refused_line
+returns c =
+    let w = c.put_bytes.ensures.wrote then c.put_number.ensures.wrote then c.put.ensures.wrote
+    in let m = written _ _ _ _ c.new-to.ensures.starts w
+    in record { written = rw (← c.number.ensures.answer) (search (rules, w.same, m)) }

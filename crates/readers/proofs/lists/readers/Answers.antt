@@ -1,9 +1,23 @@
-use mathlib.Core.Logic.{inl}
-use native.Mathlib.Omega.{arith}
+-- `readers` meets its contract: the text is refused, or its table's readers are put out. Assumes
+-- nothing.
+use borrow.Author.Rules.{rules}
+use Rattle.text_field.specs.Outcome.{and_then}
+use Rattle.text_field.specs.Answer.{answer, leaves, answer_of}
+use Rattle.readers.specs.Readers.{readers_for}
 use Rattle.readers.proofs.lists.readers.Goals as goal
 
-pub readers_over-requires : goal.readers_over-requires
-readers_over-requires c = record { room = c.is_short.ensures.room c.if-is_short.true }
+pub returns-in_err-with_graph-clause-answer : goal.returns-in_err-with_graph-clause-answer
+unfolding and_then answer_of answer readers_for
+returns-in_err-with_graph-clause-answer c = rw c.in_err-with_graph.ensures.refused.0 (search rules)
 
-pub readers_over-requires-2 : goal.readers_over-requires-2
-readers_over-requires-2 c = record { room = inl (omega arith) }
+pub returns-in_err-with_graph-clause-memory : goal.returns-in_err-with_graph-clause-memory
+unfolding and_then leaves readers_for
+returns-in_err-with_graph-clause-memory c = rw c.in_err-with_graph.ensures.refused.0 (search rules)
+
+pub returns-clause-answer : goal.returns-clause-answer
+unfolding and_then readers_for
+returns-clause-answer c = rw c.in_ok-with_graph.ensures.read.1 (search rules)
+
+pub returns-clause-memory : goal.returns-clause-memory
+unfolding and_then readers_for
+returns-clause-memory c = rw c.in_ok-with_graph.ensures.read.1 (search rules)

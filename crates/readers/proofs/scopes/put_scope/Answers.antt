@@ -1,6 +1,8 @@
 -- `put_scope` meets its contract. Assumes nothing.
-use Rattle.readers.proofs.Texts.{scope_puts}
+use Rattle.text_field.proofs.WritingLaws.{◌then◌}
+use Rattle.readers.specs.Readers.{scope_line}
 use Rattle.readers.proofs.scopes.put_scope.Goals as goal
 
 pub returns : goal.returns
-returns c = record { written = scope_puts _ _ _ _ c.put_number-k.ensures.written c.put_byte.ensures.written }
+unfolding scope_line
+returns c = record { wrote = c.put_number.ensures.wrote then c.put.ensures.wrote }

@@ -1,16 +1,10 @@
 -- `renumbering::alone::list_answer` answers for the list alone. Assumes nothing.
-use mathlib.Core.Path.{sym, ap}
-use Rattle.text_field.specs.Outcome.{and_then}
-use Rattle.text_field.specs.Answer.{answer_of}
-use Rattle.renumbering.specs.declared.Numbered.{Numbered}
-use Rattle.renumbering.specs.Renumbering.{numbered_of}
+use Prim.Native.Nat.{ℕ}
+use borrow.Author.Rules.{rules}
 use Rattle.renumbering.specs.Alone.{list_size}
+use Rattle.renumbering.proofs.AloneLaws.{one_alone}
 use Rattle.renumbering.proofs.alone.list_answer.Goals as goal
 
-pub returns-in-Refused : goal.returns-in-Refused
-unfolding answer_of numbered_of list_size and_then
-returns-in-Refused c = record { answer = sym (ap (λ (x : Numbered). list_size (numbered_of x)) c.in-Refused.is) }
-
-pub returns-in-Written : goal.returns-in-Written
-unfolding answer_of numbered_of list_size and_then
-returns-in-Written c = record { answer = sym (ap (λ (x : Numbered). list_size (numbered_of x)) c.in-Written.is) }
+pub returns : goal.returns
+unfolding list_size
+returns c = record { answer = one_alone (λ (s : ℕ × ℕ). s.1) c.args.sizes c.map.result _ (λ s n h. search rules) c.map.ensures.cases }

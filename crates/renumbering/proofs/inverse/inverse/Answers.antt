@@ -5,13 +5,7 @@ use Rattle.renumbering.proofs.InverseLaws.{filled_start, number_below, filled_ne
 use Rattle.renumbering.proofs.inverse.inverse.Goals as goal
 
 pub loop-i-init : goal.loop-i-init
-loop-i-init c = (filled_start _, omega arith)
-
-pub offset_bounds-list-i : goal.offset_bounds-list-i
-offset_bounds-list-i c = omega arith
-
-pub bounds-list-i : goal.bounds-list-i
-bounds-list-i c = omega arith
+loop-i-init c = filled_start _
 
 pub offset_bounds-out-x : goal.offset_bounds-out-x
 offset_bounds-out-x c = let b = number_below c.args.list.now c.loop-i.out c.loop-i.i c.requires.once c.loop-i-test.true in omega arith
@@ -19,14 +13,8 @@ offset_bounds-out-x c = let b = number_below c.args.list.now c.loop-i.out c.loop
 pub bounds-out-x : goal.bounds-out-x
 bounds-out-x c = let b = number_below c.args.list.now c.loop-i.out c.loop-i.i c.requires.once c.loop-i-test.true in omega arith
 
-pub overflow_add-i : goal.overflow_add-i
-overflow_add-i c = omega arith
-
-pub loop-i-smaller : goal.loop-i-smaller
-loop-i-smaller c = omega arith
-
 pub loop-i-preserved : goal.loop-i-preserved
-loop-i-preserved c = (filled_next c.args.list.now c.loop-i.out c.loop-i.i c.requires.once c.loop-i-test.true c.requires.room c.loop-i.invariant.0, omega arith)
+loop-i-preserved c = filled_next c.args.list.now c.loop-i.out c.loop-i.i c.requires.once c.loop-i-test.true c.requires.room c.loop-i.invariant
 
 pub returns : goal.returns
-returns c = record { answer = filled_all c.args.list.now c.loop-i.out c.requires.once c.requires.room c.loop-i.i c.loop-i-test.false c.loop-i.invariant.0 }
+returns c = record { answer = filled_all c.args.list.now c.loop-i.out c.requires.once c.requires.room c.loop-i.i c.loop-i-test.false c.loop-i.invariant }

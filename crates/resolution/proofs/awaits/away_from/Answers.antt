@@ -5,7 +5,7 @@ use Rattle.resolution.proofs.Unfollowed.{none_away}
 use Rattle.resolution.proofs.awaits.away_from.Goals as goal
 
 pub away_table-away-requires : goal.away_table-away-requires
-away_table-away-requires c = record { block = c.requires.block; bounds = c.requires.bounds; scope = c.requires.scope }
+away_table-away-requires c = record { bounds = c.requires.bounds; scope = c.requires.scope }
 
 pub place-requires : goal.place-requires
 place-requires c = record { table = omega arith; scope = c.requires.scope }

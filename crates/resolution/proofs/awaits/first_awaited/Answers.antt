@@ -1,33 +1,19 @@
 -- `first_awaited` meets its contract. The loop's invariant: from the rows that are left the answer
 -- is the same. Assumes nothing.
-use mathlib.Core.Path.{refl, sym, ◌∙◌}
+use mathlib.Core.Path.{sym, ◌∙◌}
 use native.Mathlib.Omega.{arith}
 use Rattle.resolution.proofs.First.{first_end, first_hit, first_miss}
 use Rattle.resolution.proofs.awaits.first_awaited.Goals as goal
 
-pub loop-p-init : goal.loop-p-init
-loop-p-init c = (omega arith, refl)
+pub returns-then-pair_followed : goal.returns-then-pair_followed
+returns-then-pair_followed c =
+    let s = c.in-Some.ensures.steps
+    in record { answer = first_hit c.args.block.now c.args.table.now c.args.ask.now _ _ _ s.1.0 (s.1.1 ∙ c.loop-row.invariant.0) c.open_row-pair.result c.open_row-pair.ensures.answer (sym c.pair_followed.ensures.answer ∙ c.if-pair_followed.true) ∙ c.loop-row.invariant.1 }
 
-pub overflow_sub-opens : goal.overflow_sub-opens
-overflow_sub-opens c = omega arith
-
-pub open_row-row-requires : goal.open_row-row-requires
-open_row-row-requires c = record { whole = omega arith }
-
-pub pair_followed-followed-requires : goal.pair_followed-followed-requires
-pair_followed-followed-requires c = record { ready = c.requires.ready; table = c.requires.table; away = c.requires.away }
-
-pub returns-then-followed : goal.returns-then-followed
-returns-then-followed c = record { answer = first_hit c.args.block.now c.args.table.now c.args.ask.now c.args.opens.now c.loop-p.p c.open_row-row.result (omega arith) c.open_row-row.ensures.answer (sym c.pair_followed-followed.ensures.answer ∙ c.if-followed.true) ∙ c.loop-p.invariant.1 }
-
-pub overflow_add-p : goal.overflow_add-p
-overflow_add-p c = omega arith
-
-pub loop-p-smaller : goal.loop-p-smaller
-loop-p-smaller c = omega arith
-
-pub loop-p-preserved : goal.loop-p-preserved
-loop-p-preserved c = (omega arith, first_miss c.args.block.now c.args.table.now c.args.ask.now c.args.opens.now c.loop-p.p c.open_row-row.result (omega arith) c.open_row-row.ensures.answer (sym c.pair_followed-followed.ensures.answer ∙ c.if-followed.false) ∙ c.loop-p.invariant.1)
+pub loop-row-preserved : goal.loop-row-preserved
+loop-row-preserved c =
+    let s = c.in-Some.ensures.steps
+    in (s.0 ∙ c.loop-row.invariant.0, first_miss c.args.block.now c.args.table.now c.args.ask.now _ _ _ s.1.0 (s.1.1 ∙ c.loop-row.invariant.0) c.open_row-pair.result c.open_row-pair.ensures.answer (sym c.pair_followed.ensures.answer ∙ c.if-pair_followed.false) ∙ c.loop-row.invariant.1)
 
 pub returns : goal.returns
-returns c = record { answer = first_end c.args.block.now c.args.table.now c.args.ask.now c.args.opens.now c.loop-p.p (omega arith) ∙ c.loop-p.invariant.1 }
+returns c = let s = c.in-None.ensures.steps in record { answer = first_end c.args.block.now c.args.table.now c.args.ask.now _ (omega (arith, s.1.0, c.loop-row.invariant.0)) ∙ c.loop-row.invariant.1 }

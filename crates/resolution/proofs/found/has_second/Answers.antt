@@ -1,42 +1,30 @@
 -- `has_second` meets its contract. The loop's invariant: from the rows that are left, and from
 -- whether one was met, the answer is the same. Assumes nothing.
-use mathlib.Core.Path.{refl, sym, ◌∙◌}
+use mathlib.Core.Path.{sym, ◌∙◌}
 use native.Mathlib.Omega.{arith}
-use borrow.Author.Tests.{not-true, not-false}
+use borrow.Author.Rules.{rules}
 use Rattle.graph_table.specs.Values.{packed}
 use Rattle.resolution.proofs.Seconds.{second_after, second_none, second_pass, second_met, second_first}
 use Rattle.resolution.proofs.found.has_second.Goals as goal
 
-pub loop-p-init : goal.loop-p-init
+pub loop-row-init : goal.loop-row-init
 unfolding second_after
-loop-p-init c = (omega arith, refl)
+loop-row-init c = search rules
 
-pub overflow_sub-rows : goal.overflow_sub-rows
-overflow_sub-rows c = omega arith
-
-pub declaration_row-row-requires : goal.declaration_row-row-requires
-declaration_row-row-requires c = record { whole = omega arith }
-
-pub overflow_add-p : goal.overflow_add-p
-overflow_add-p c = omega arith
-
-pub declares-requires : goal.declares-requires
-declares-requires c = tt
-
-pub loop-p-smaller-then-not-declares : goal.loop-p-smaller-then-not-declares
-loop-p-smaller-then-not-declares c = omega arith
-
-pub loop-p-preserved-then-not-declares : goal.loop-p-preserved-then-not-declares
-loop-p-preserved-then-not-declares c = (omega arith, second_pass c.args.rows.now c.args.s (packed c.args.name) c.loop-p.p _ c.declaration_row-row.ensures.answer (omega arith) c.loop-p.one (sym c.declares.ensures.answer ∙ not-true _ c.if-not-declares.true-raw) ∙ c.loop-p.invariant.1)
+pub loop-row-preserved-then-not-declares : goal.loop-row-preserved-then-not-declares
+loop-row-preserved-then-not-declares c =
+    let s = c.in-Some.ensures.steps
+    in (s.0 ∙ c.loop-row.invariant.0, second_pass _ c.args.s (packed c.args.name) _ _ s.1.0 (s.1.1 ∙ c.loop-row.invariant.0) _ c.declaration_row.ensures.answer c.loop-row.one (sym c.declares.ensures.answer ∙ c.if-not-declares.true) ∙ c.loop-row.invariant.1)
 
 pub returns-then-one : goal.returns-then-one
-returns-then-one c = record { answer = second_met c.args.rows.now c.args.s (packed c.args.name) c.loop-p.p _ c.declaration_row-row.ensures.answer (omega arith) c.loop-p.one c.if-one.true (sym c.declares.ensures.answer ∙ not-false _ c.if-not-declares.false-raw) ∙ c.loop-p.invariant.1 }
+returns-then-one c =
+    let s = c.in-Some.ensures.steps
+    in record { answer = second_met _ c.args.s (packed c.args.name) _ _ s.1.0 (s.1.1 ∙ c.loop-row.invariant.0) _ c.declaration_row.ensures.answer c.loop-row.one c.if-one.true (sym c.declares.ensures.answer ∙ c.if-not-declares.false) ∙ c.loop-row.invariant.1 }
 
-pub loop-p-smaller : goal.loop-p-smaller
-loop-p-smaller c = omega arith
-
-pub loop-p-preserved : goal.loop-p-preserved
-loop-p-preserved c = (omega arith, second_first c.args.rows.now c.args.s (packed c.args.name) c.loop-p.p _ c.declaration_row-row.ensures.answer (omega arith) c.loop-p.one c.if-one.false (sym c.declares.ensures.answer ∙ not-false _ c.if-not-declares.false-raw) ∙ c.loop-p.invariant.1)
+pub loop-row-preserved : goal.loop-row-preserved
+loop-row-preserved c =
+    let s = c.in-Some.ensures.steps
+    in (s.0 ∙ c.loop-row.invariant.0, second_first _ c.args.s (packed c.args.name) _ _ s.1.0 (s.1.1 ∙ c.loop-row.invariant.0) _ c.declaration_row.ensures.answer c.loop-row.one c.if-one.false (sym c.declares.ensures.answer ∙ c.if-not-declares.false) ∙ c.loop-row.invariant.1)
 
 pub returns : goal.returns
-returns c = record { answer = second_none c.args.rows.now c.args.s (packed c.args.name) c.loop-p.p c.loop-p.one (omega arith) ∙ c.loop-p.invariant.1 }
+returns c = let s = c.in-None.ensures.steps in record { answer = second_none _ c.args.s (packed c.args.name) c.loop-row.one (omega (arith, s.1.0, c.loop-row.invariant.0)) ∙ c.loop-row.invariant.1 }

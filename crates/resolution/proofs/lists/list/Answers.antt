@@ -5,6 +5,7 @@ use mathlib.Core.Path.{refl, sym, ap}
 use native.Mathlib.Omega.{arith}
 use lib.Seq.{length-take-le}
 use lib.ListN.{replicate, length-replicate}
+use Rattle.text_field.specs.Refusal.{number_of}
 use Rattle.text_field.specs.Answer.{answer_of}
 use Rattle.follow.specs.Tally.{State}
 use Rattle.resolution.proofs.Heads.{list_over, rows_room, head_within, list_no_head, list_kept, list_again}
@@ -14,7 +15,7 @@ pub found_by-found-requires : goal.found_by-found-requires
 found_by-found-requires c = record { ready = c.requires.ready; tallied = (_, sym (ap (λ (s : State). s.1) c.take_entries-t.ensures.taken)) }
 
 pub returns-then-t : goal.returns-then-t
-unfolding answer_of
+unfolding answer_of number_of
 returns-then-t c = let x = list_over c.args.table.now c.args.block.now c.args.ask.now c.requires.ready c.args.out.now _ _ refl (_, _) c.take_entries-t.ensures.taken c.if-t.true in record { answer = x.0; memory = x.1; found = c.found_by-found.ensures.answer }
 
 pub put_heading-h-requires : goal.put_heading-h-requires
@@ -24,7 +25,7 @@ pub overflow_sub-room : goal.overflow_sub-room
 overflow_sub-room c = rows_room c.args.table.now c.args.block.now c.args.ask.now c.requires.ready c.args.out.now _ _ refl (_, _) c.take_entries-t.ensures.taken c.if-t.false
 
 pub returns-then-room-n : goal.returns-then-room-n
-unfolding answer_of
+unfolding answer_of number_of
 returns-then-room-n c = let x = list_no_head c.args.table.now c.args.block.now c.args.ask.now c.requires.ready c.args.out.now _ _ refl (_, _) c.take_entries-t.ensures.taken c.if-t.false (replicate 128 0) _ _ (length-replicate {A = ℕ} 128 0) c.put_heading-h.ensures.written c.if-room-n.true in record { answer = x.0; memory = x.1; found = c.found_by-found.ensures.answer }
 
 pub slice_bounds-head-end : goal.slice_bounds-head-end

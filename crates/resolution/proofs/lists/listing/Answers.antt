@@ -1,9 +1,22 @@
-use mathlib.Core.Logic.{inl}
-use native.Mathlib.Omega.{arith}
+-- `listing` meets its contract: the text's refusals, then the table's. Assumes nothing.
+use borrow.Author.Rules.{rules}
+use Rattle.text_field.specs.Outcome.{and_then}
+use Rattle.text_field.specs.Answer.{answer, leaves, answer_of}
+use Rattle.resolution.specs.Listing.{listing_for}
 use Rattle.resolution.proofs.lists.listing.Goals as goal
 
-pub listing_over-requires : goal.listing_over-requires
-listing_over-requires c = record { room = c.is_short.ensures.room c.if-is_short.true }
+pub returns-in_err-with_graph-clause-answer : goal.returns-in_err-with_graph-clause-answer
+unfolding and_then answer_of answer listing_for
+returns-in_err-with_graph-clause-answer c = rw c.in_err-with_graph.ensures.refused.0 (search rules)
 
-pub listing_over-requires-2 : goal.listing_over-requires-2
-listing_over-requires-2 c = record { room = inl (omega arith) }
+pub returns-in_err-with_graph-clause-memory : goal.returns-in_err-with_graph-clause-memory
+unfolding and_then leaves listing_for
+returns-in_err-with_graph-clause-memory c = rw c.in_err-with_graph.ensures.refused.0 (search rules)
+
+pub returns-clause-answer : goal.returns-clause-answer
+unfolding and_then listing_for
+returns-clause-answer c = rw c.in_ok-with_graph.ensures.read.1 (search rules)
+
+pub returns-clause-memory : goal.returns-clause-memory
+unfolding and_then listing_for
+returns-clause-memory c = rw c.in_ok-with_graph.ensures.read.1 (search rules)

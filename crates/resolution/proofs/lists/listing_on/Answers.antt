@@ -1,13 +1,14 @@
 -- `listing_on` meets its contract. Assumes nothing.
 use mathlib.Core.Path.{◌∙◌}
 use native.Mathlib.Omega.{arith}
+use Rattle.text_field.specs.Refusal.{number_of}
 use Rattle.text_field.specs.Answer.{answer_of}
 use Rattle.resolution.specs.Asked.{found_meaning}
 use Rattle.resolution.proofs.Heads.{no_query_lem, query_listed}
 use Rattle.resolution.proofs.lists.listing_on.Goals as goal
 
 pub returns-then-query_count-i : goal.returns-then-query_count-i
-unfolding answer_of found_meaning
+unfolding answer_of number_of found_meaning
 returns-then-query_count-i c = let told = no_query_lem c.args.table.now c.args.i (omega arith) c.args.out.now in record { answer = told.0; memory = told.1.0; found = told.1.1 }
 
 pub query_at-requires : goal.query_at-requires

@@ -1,6 +1,8 @@
-use Rattle.resolution.proofs.Counts.{field_puts}
+-- `put_field` meets its contract. Assumes nothing.
+use Rattle.text_field.proofs.WritingLaws.{◌then◌}
+use Rattle.resolution.specs.Figures.{field_text}
 use Rattle.resolution.proofs.sums.put_field.Goals as goal
 
--- src/sums.rt:64:1
 pub returns : goal.returns
-returns c = record { written = field_puts _ _ _ _ c.put_number-b.ensures.written c.put_byte.ensures.written }
+unfolding field_text
+returns c = record { wrote = c.put_number.ensures.wrote then c.put.ensures.wrote }

@@ -1,7 +1,11 @@
 -- `put_summary` meets its contract. Assumes nothing.
-use mathlib.Core.Path.{refl}
-use Rattle.resolution.proofs.Counts.{summary_puts}
+use borrow.Author.Rules.{rules}
+use Rattle.text_field.proofs.WritingLaws.{◌then◌, written}
+use Rattle.resolution.proofs.Counts.{summary_parts}
 use Rattle.resolution.proofs.sums.put_summary.Goals as goal
 
 pub returns : goal.returns
-returns c = record { written = summary_puts c.args.c _ _ _ _ _ refl c.put_counts-b.ensures.written c.put_share-k.ensures.written c.put_byte.ensures.written }
+returns c =
+    let w = c.put_counts.ensures.wrote then c.put_share.ensures.wrote then c.put.ensures.wrote
+    in let m = written _ _ _ _ c.new-to.ensures.starts w
+    in record { written = rw (← summary_parts c.args.c) (search (rules, w.same, m)) }

@@ -1,15 +1,12 @@
 -- `summary_of` meets its contract. Assumes nothing.
 use lib.ListN.{length}
 use Prim.Native.Nat.{ℕ}
-use mathlib.Core.Path.{refl, ap, ◌∙◌}
+use mathlib.Core.Path.{ap, ◌∙◌}
 use mathlib.Core.List.{List}
 use Rattle.text_field.specs.Answer.{answer, leaves}
 use Rattle.text_field.specs.Outcome.{done}
 use Rattle.resolution.proofs.Counts.{figures_few, figures_text_lem}
 use Rattle.resolution.proofs.sums.summary_of.Goals as goal
-
-pub put_board-requires : goal.put_board-requires
-put_board-requires c = record { block = refl }
 
 pub summary_by-requires : goal.summary_by-requires
 summary_by-requires c = record { few = figures_few c.args.table.now _ c.figures_of-c.ensures.answer c.requires.accepted }

@@ -1,9 +1,12 @@
 -- `put_awaits` meets its contract. Assumes nothing.
-use Rattle.resolution.proofs.Texts.{awaits_none, awaits_pair}
+use Rattle.text_field.proofs.WritingLaws.{◌then◌}
+use Rattle.resolution.specs.Asked.{awaits_bytes}
 use Rattle.resolution.proofs.text.put_awaits.Goals as goal
 
-pub returns-in-Settled : goal.returns-in-Settled
-returns-in-Settled c = record { written = awaits_none c.args.block.now c.args.a _ _ c.in-Settled.is c.put_byte.ensures.written }
+pub returns-in-None : goal.returns-in-None
+unfolding awaits_bytes
+returns-in-None c = record { wrote = rw c.in-None.is c.put.ensures.wrote }
 
-pub returns-in-Pair : goal.returns-in-Pair
-returns-in-Pair c = record { written = awaits_pair c.args.block.now c.args.a _ _ _ _ _ _ c.in-Pair.is c.put_number-k.ensures.written c.end_byte.ensures.answer c.put_byte-in-Pair.ensures.written }
+pub returns-in-Some : goal.returns-in-Some
+unfolding awaits_bytes
+returns-in-Some c = record { wrote = rw (c.in-Some.is, ← c.end_byte.ensures.answer) (c.put_number.ensures.wrote then c.put-in-Some.ensures.wrote) }

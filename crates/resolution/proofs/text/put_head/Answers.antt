@@ -1,6 +1,8 @@
 -- `put_head` meets its contract. Assumes nothing.
-use Rattle.resolution.proofs.Texts.{head_puts}
+use Rattle.text_field.proofs.WritingLaws.{◌then◌}
+use Rattle.resolution.specs.Asked.{head_text}
 use Rattle.resolution.proofs.text.put_head.Goals as goal
 
 pub returns : goal.returns
-returns c = record { written = head_puts _ _ _ _ _ _ _ _ _ _ _ c.put_query-b.ensures.written c.put_found-c.ensures.written c.put_byte-d.ensures.written c.put_awaits-e.ensures.written c.put_bytes.ensures.written }
+unfolding head_text
+returns c = record { wrote = c.put_query.ensures.wrote then c.put_found.ensures.wrote then c.put.ensures.wrote then c.put_awaits.ensures.wrote then c.put_bytes.ensures.wrote }

@@ -1,11 +1,8 @@
 -- `put_names` meets its contract: by the form. Assumes nothing.
-use mathlib.Core.Path.{sym, ap, ◌∙◌}
-use Rattle.text_field.specs.Buffer.{puts}
-use Rattle.follow.specs.Text.{head_line}
 use Rattle.resolution.proofs.text.put_names.Goals as goal
 
 pub returns-in-Old : goal.returns-in-Old
-returns-in-Old c = record { written = c.put_bytes.ensures.written ∙ ap (puts _) (sym (ap head_line c.in-Old.is)) }
+returns-in-Old c = record { wrote = rw c.in-Old.is c.put_bytes.ensures.wrote }
 
 pub returns-in-Kinds : goal.returns-in-Kinds
-returns-in-Kinds c = record { written = c.put_bytes-in-Kinds.ensures.written ∙ ap (puts _) (sym (ap head_line c.in-Kinds.is)) }
+returns-in-Kinds c = record { wrote = rw c.in-Kinds.is c.put_bytes-in-Kinds.ensures.wrote }

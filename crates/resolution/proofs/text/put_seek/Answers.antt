@@ -1,14 +1,9 @@
 -- `put_seek` meets its contract: by the form. Assumes nothing.
-use mathlib.Core.Path.{refl, sym, ap, ◌∙◌}
-use Rattle.text_field.specs.Buffer.{puts}
-use Rattle.graph_table.specs.declared.sections.Form.{Form}
-use Rattle.graph_table.specs.Values.{packed}
-use Rattle.follow.specs.Text.{seek_columns}
-use Rattle.resolution.proofs.Texts.{kind_puts}
+use Rattle.text_field.proofs.WritingLaws.{◌then◌}
 use Rattle.resolution.proofs.text.put_seek.Goals as goal
 
 pub returns-in-Old : goal.returns-in-Old
-returns-in-Old c = record { written = c.put_name.ensures.written ∙ ap (puts _) (sym (ap (λ (f : Form). seek_columns f (packed c.args.name)) c.in-Old.is)) }
+returns-in-Old c = record { wrote = rw c.in-Old.is c.put_name.ensures.wrote }
 
 pub returns-in-Kinds : goal.returns-in-Kinds
-returns-in-Kinds c = record { written = kind_puts c.args.name _ _ _ _ _ c.requires.kind refl c.put_byte-b.ensures.written c.put_byte-c.ensures.written c.put_name-in-Kinds.ensures.written ∙ ap (puts _) (sym (ap (λ (f : Form). seek_columns f (packed c.args.name)) c.in-Kinds.is)) }
+returns-in-Kinds c = record { wrote = rw c.in-Kinds.is (c.put.ensures.wrote then c.put-in-Kinds.ensures.wrote then c.put_name-in-Kinds.ensures.wrote) }

@@ -1,6 +1,11 @@
 -- `fill` meets its contract: the parts are put one after the other. Assumes nothing.
 use mathlib.Core.Path.{sym}
+use mathlib.Core.Bool.{false}
+use lib.ListN.{get_or}
+use borrow.Author.Rules.{rules}
+use borrow.Author.Tests.{tests}
 use native.Mathlib.Omega.{arith}
+use Rattle.ruled.specs.Ruled.{transition_at, accept_at, transition_rows, accept_rows, transitions_to, accepts_to}
 use Rattle.ruled.proofs.Places.{read_some}
 use Rattle.ruled.proofs.FillLaws.{first_within, where_at, filled}
 use Rattle.ruled.proofs.fill.fill.Goals as goal
@@ -17,15 +22,6 @@ rows_from-behind-requires c = record { column = omega arith; within = first_with
 pub slice_bounds-put_cells-end : goal.slice_bounds-put_cells-end
 slice_bounds-put_cells-end c = let w = where_at c.args.table.now c.requires.read c.rows_from-before.result c.rows_from-behind.result c.rows_from-before.ensures.answer c.rows_from-behind.ensures.answer in let in-it = w.within in sym w.front
 
-pub put_cells-above-requires : goal.put_cells-above-requires
-put_cells-above-requires c = record { room = let w = where_at c.args.table.now c.requires.read c.rows_from-before.result c.rows_from-behind.result c.rows_from-before.ensures.answer c.rows_from-behind.ensures.answer in let in-it = w.within in omega arith }
-
-pub put_transitions-middle-requires : goal.put_transitions-middle-requires
-put_transitions-middle-requires c = record { room = let w = where_at c.args.table.now c.requires.read c.rows_from-before.result c.rows_from-behind.result c.rows_from-before.ensures.answer c.rows_from-behind.ensures.answer in let in-it = w.within in omega arith }
-
-pub put_accepts-below-requires : goal.put_accepts-below-requires
-put_accepts-below-requires c = record { room = let w = where_at c.args.table.now c.requires.read c.rows_from-before.result c.rows_from-behind.result c.rows_from-before.ensures.answer c.rows_from-behind.ensures.answer in let in-it = w.within in omega arith }
-
 pub offset_bounds-table-behind : goal.offset_bounds-table-behind
 offset_bounds-table-behind c = let w = where_at c.args.table.now c.requires.read c.rows_from-before.result c.rows_from-behind.result c.rows_from-before.ensures.answer c.rows_from-behind.ensures.answer in let in-it = w.within in omega arith
 
@@ -35,8 +31,17 @@ slice_bounds-put_cells-count c = let w = where_at c.args.table.now c.requires.re
 pub slice_bounds-put_cells-start : goal.slice_bounds-put_cells-start
 slice_bounds-put_cells-start c = let w = where_at c.args.table.now c.requires.read c.rows_from-before.result c.rows_from-behind.result c.rows_from-before.ensures.answer c.rows_from-behind.ensures.answer in let in-it = w.within in in-it
 
-pub put_cells-requires : goal.put_cells-requires
-put_cells-requires c = record { room = let w = where_at c.args.table.now c.requires.read c.rows_from-before.result c.rows_from-behind.result c.rows_from-before.ensures.answer c.rows_from-behind.ensures.answer in let in-it = w.within in omega arith }
-
 pub returns : goal.returns
-returns c = record { written = let w = where_at c.args.table.now c.requires.read c.rows_from-before.result c.rows_from-behind.result c.rows_from-before.ensures.answer c.rows_from-behind.ensures.answer in let in-it = w.within in filled c.args.table.now c.requires.read c.args.r c.rows_from-before.result c.rows_from-behind.result c.label_count-labels.result (c.args.own.now, 0) _ _ _ _ w.at w.to c.label_count-labels.ensures.answer c.put_cells-above.ensures.written c.put_transitions-middle.ensures.written c.put_accepts-below.ensures.written c.put_cells.ensures.written }
+unfolding transition_rows accept_rows transitions_to accepts_to
+returns c =
+    let w = where_at c.args.table.now c.requires.read c.rows_from-before.result c.rows_from-behind.result c.rows_from-before.ensures.answer c.rows_from-behind.ensures.answer in
+    let r = c.args.r.now in
+    let labels = c.label_count-labels.result in
+    record {
+      written =
+          filled c.args.table.now c.requires.read r c.rows_from-before.result c.rows_from-behind.result labels (c.args.own.now, 0) _ _ _ _ w.at w.to c.label_count-labels.ensures.answer
+          c.put_cells-above.ensures.written
+          (c.put_rows-middle.ensures.written (λ k. transition_at r.states labels k (get_or r.next k 0)) (λ k o b h. search (rules, tests)))
+          (c.put_rows-below.ensures.written (λ q. accept_at r.states q (get_or r.accepts q false)) (λ q o b h. search (rules, tests)))
+          c.put_cells.ensures.written;
+    }

@@ -9,8 +9,5 @@ use Rattle.search.proofs.closure.barred.Goals as goal
 pub returns-then-pair : goal.returns-then-pair
 returns-then-pair c = record { cut = λ q t is h. way_cut _ _ _ q t (sym c.has.ensures.answer ∙ c.if-has.true) (rw is (sym c.pair.ensures.answer ∙ c.if-pair.true)) (rw c.accept_set.ensures.answer at h) }
 
-pub returns-else-pair : goal.returns-else-pair
-returns-else-pair c = record { cut = λ q t is h. absurd (false≢true (sym (states_none q) ∙ h)) }
-
 pub returns-else-has : goal.returns-else-has
 returns-else-has c = record { cut = λ q t is h. absurd (false≢true (sym (states_none q) ∙ h)) }

@@ -4,7 +4,6 @@ use Prim.Native.Nat.{ℕ}
 use mathlib.Core.Bool.{false≢true}
 use mathlib.Core.Path.{subst}
 use native.Mathlib.Omega.{arith}
-use borrow.Author.Tests.{not-false}
 use Rattle.block.specs.Sets.{has_scope}
 use Rattle.search.specs.Tables.{place_flag}
 use Rattle.search.specs.Conditions.{way_of}
@@ -28,7 +27,7 @@ pub loop-left-smaller : goal.loop-left-smaller
 loop-left-smaller c = c.rest_of-left.ensures.less
 
 pub loop-left-preserved : goal.loop-left-preserved
-loop-left-preserved c = passed_more _ _ _ _ _ c.rest_of-left.ensures.rest (subst (λ (s : ℕ). ScopeClosed c.args.block.now (way_of c.args.block.now c.args.cutting) (has_scope c.args.free) (place_flag c.args.table.now) s) c.least_of.ensures.least (c.scope_closed.ensures.closed (not-false _ c.if-not-scope_closed.false-raw))) c.loop-left.invariant
+loop-left-preserved c = passed_more _ _ _ _ _ c.rest_of-left.ensures.rest (subst (λ (s : ℕ). ScopeClosed c.args.block.now (way_of c.args.block.now c.args.cutting) (has_scope c.args.free) (place_flag c.args.table.now) s) c.least_of.ensures.least (c.scope_closed.ensures.closed (c.if-not-scope_closed.false))) c.loop-left.invariant
 
 pub returns : goal.returns
 returns c = record { closed = λ e. passed_all _ _ c.loop-left.left (omega arith) c.loop-left.invariant }

@@ -27,12 +27,6 @@ loop-p-init c = λ on. on_closed_all _ _ _ _ _ c.requires.scope (subst (λ (x : 
 pub returns-then-edge_lacks : goal.returns-then-edge_lacks
 returns-then-edge_lacks c = record { closed = λ e. absurd (false≢true e) }
 
-pub overflow_add-p : goal.overflow_add-p
-overflow_add-p c = omega arith
-
-pub loop-p-smaller : goal.loop-p-smaller
-loop-p-smaller c = omega arith
-
 pub loop-p-preserved : goal.loop-p-preserved
 loop-p-preserved c = λ rest. c.loop-p.invariant (on_closed_more _ _ _ _ _ c.loop-p.p (omega (arith, c.edges_end-end.ensures.answer)) (subst (λ (x : ℕ). HopClosed c.args.block.now (way_of c.args.block.now c.args.cutting) (has_scope c.args.free) (place_flag c.args.table.now) c.args.s (hop_of x)) c.edge_at.ensures.answer (c.edge_lacks.ensures.closed c.if-edge_lacks.false)) rest)
 

@@ -1,4 +1,3 @@
-use Prim.Native.Nat.{◌-◌}
 use Rattle.block.specs.Sets.{has_scope}
 use Rattle.search.specs.Steps.{ScopeClosed}
 use Rattle.search.specs.Tables.{place_flag}
@@ -8,6 +7,3 @@ use Rattle.search.proofs.closure.scope_closed.Given as goal
 
 abbrev pub invariant-loop-p : goal.invariant-loop-p
 invariant-loop-p l = OnClosed l.block (way_of l.block l.cutting) (has_scope l.free) (place_flag l.table) l.s l.p → ScopeClosed l.block (way_of l.block l.cutting) (has_scope l.free) (place_flag l.table) l.s
-
-abbrev pub decreases-loop-p : goal.decreases-loop-p
-decreases-loop-p l = l.end - l.p

@@ -12,7 +12,7 @@ pub returns-then-straight : goal.returns-then-straight
 returns-then-straight c = record { answer = sym (behind_by _ _ _ _ _ c.if-a-eq0.false c.requires.end c.single-labels.ensures.answer ∙ c.straight.ensures.leads c.if-straight.true) }
 
 pub exists_from-requires : goal.exists_from-requires
-exists_from-requires c = record { block = c.requires.block; bounds = c.requires.bounds; table = c.requires.table; inside = c.requires.inside; live = c.requires.live }
+exists_from-requires c = record { bounds = c.requires.bounds; table = c.requires.table; inside = c.requires.inside; live = c.requires.live }
 
 pub returns : goal.returns
 returns c = record {

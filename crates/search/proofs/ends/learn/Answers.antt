@@ -5,7 +5,6 @@ use mathlib.Core.Path.{◌≡◌, refl, sym, ◌∙◌}
 use mathlib.Core.Bool.{true, false}
 use native.Mathlib.Omega.{arith}
 use borrow.Author.Count.{below_more}
-use borrow.Author.Tests.{not-true, not-false}
 use Rattle.block.specs.Block.{pair_flag}
 use Rattle.block.specs.Sets.{has_scope}
 use Rattle.block.proofs.SetLaws.{scope_in}
@@ -25,39 +24,24 @@ returns-then-ask-eq0 c = record { known = c.requires.known; cut = sym (left_none
 pub loop-a-init : goal.loop-a-init
 loop-a-init c = (c.requires.known, λ k h. absurd (omega arith))
 
-pub overflow_add-a : goal.overflow_add-a
-overflow_add-a c = omega arith
-
-pub loop-a-smaller-then-not-has : goal.loop-a-smaller-then-not-has
-loop-a-smaller-then-not-has c = omega arith
-
 pub loop-a-preserved-then-not-has : goal.loop-a-preserved-then-not-has
 loop-a-preserved-then-not-has c = (
   c.loop-a.invariant.0,
   below_more (λ (k : ℕ). pair_flag c.args.block.now k c.args.c ≡ true → behind c.args.block.now c.args.goal c.args.n k ≡ false) c.loop-a.a c.loop-a.invariant.1
       (λ e. left_not c.args.block.now c.args.goal c.args.n c.args.known c.args.c c.better-first.result c.requires.known c.better-first.ensures.answer c.loop-a.a (omega arith)
-      (sym (scope_in _ c.loop-a.a (omega arith)) ∙ sym c.has.ensures.answer ∙ not-true _ c.if-not-has.true-raw) e),
+      (sym (scope_in _ c.loop-a.a (omega arith)) ∙ sym c.has.ensures.answer ∙ c.if-not-has.true) e),
 )
 
 pub end_leads-requires : goal.end_leads-requires
-end_leads-requires c = record { block = c.requires.block; bounds = c.requires.bounds; table = c.requires.table; inside = c.requires.inside; live = c.requires.live; end = omega arith }
+end_leads-requires c = record { bounds = c.requires.bounds; table = c.requires.table; inside = c.requires.inside; live = c.requires.live; end = omega arith }
 
 pub returns-then-end_leads : goal.returns-then-end_leads
 returns-then-end_leads c = let leads : behind c.args.block.now c.args.goal c.args.n c.loop-a.a ≡ true = sym c.end_leads.ensures.answer ∙ c.if-end_leads.true in record {
   known = known_yes c.args.block.now c.args.goal c.args.n c.loop-a.out c.loop-a.a c.single.result c.loop-a.a c.loop-a.invariant.0 (omega arith) c.single.ensures.answer refl leads;
   cut = sym (cut_yes (table_board c.args.block.now c.args.goal) c.args.block.now c.args.n.left (has_scope c.args.n.free) c.args.n.scope c.args.n.state c.args.c c.loop-a.a (omega arith)
       (left_preferred c.args.block.now c.args.goal c.args.n c.args.known c.args.c c.better-first.result c.requires.known c.better-first.ensures.answer c.loop-a.a
-      (sym (scope_in _ c.loop-a.a (omega arith)) ∙ sym c.has.ensures.answer ∙ not-false _ c.if-not-has.false-raw)) leads);
+      (sym (scope_in _ c.loop-a.a (omega arith)) ∙ sym c.has.ensures.answer ∙ c.if-not-has.false)) leads);
 }
-
-pub overflow_add-a-in-loop-a : goal.overflow_add-a-in-loop-a
-overflow_add-a-in-loop-a c = omega arith
-
-pub overflow_add-a-in-loop-a-2 : goal.overflow_add-a-in-loop-a-2
-overflow_add-a-in-loop-a-2 c = omega arith
-
-pub loop-a-smaller : goal.loop-a-smaller
-loop-a-smaller c = omega arith
 
 pub loop-a-preserved : goal.loop-a-preserved
 loop-a-preserved c = let leads_not : behind c.args.block.now c.args.goal c.args.n c.loop-a.a ≡ false = sym c.end_leads.ensures.answer ∙ c.if-end_leads.false in (

@@ -23,7 +23,7 @@ pub exists_at-returns-then-is_goal : goal.exists_at-returns-then-is_goal
 exists_at-returns-then-is_goal t c = record { answer = sym (exists_here _ _ _ _ _ _ (sym c.is_goal.ensures.answer ∙ c.if-is_goal.true)) }
 
 pub exists_at-exists_from-requires : goal.exists_at-exists_from-requires
-exists_at-exists_from-requires t c = (lex_by_fst (over c.args.block.now) (suc c.args.n.left) 0 c.decreases c.args.n.left (first_edge c.args.block.now (suc c.args.n.scope) - c.edges_from.result) (omega arith) (over_edges c.args.block.now (suc c.args.n.scope) c.edges_from.result), (c.requires.block, (c.requires.bounds, (c.requires.table, (c.requires.inside, c.requires.live)))))
+exists_at-exists_from-requires t c = (lex_by_fst (over c.args.block.now) (suc c.args.n.left) 0 c.decreases c.args.n.left (first_edge c.args.block.now (suc c.args.n.scope) - c.edges_from.result) (omega arith) (over_edges c.args.block.now (suc c.args.n.scope) c.edges_from.result), (c.requires.bounds, (c.requires.table, (c.requires.inside, c.requires.live))))
 
 pub exists_at-returns : goal.exists_at-returns
 exists_at-returns t c = record {
@@ -38,7 +38,7 @@ pub exists_from-returns-then-end-i : goal.exists_from-returns-then-end-i
 exists_from-returns-then-end-i t c = record { answer = sym (next_none c.args.block.now c.args.goal c.args.n c.args.labels c.args.live.now c.requires.live c.args.p c.next_hop-i.result ((next_told _ _ _ _ _ _ c.next_hop-i.ensures.answer)) (omega (arith, c.edges_end-end.ensures.answer))) }
 
 pub exists_from-exists_at-requires : goal.exists_from-exists_at-requires
-exists_from-exists_at-requires t c = (rw c.entered.ensures.answer.left (lex_by_snd (over c.args.block.now) c.args.n.left (first_edge c.args.block.now (suc c.args.n.scope) - c.args.p) c.decreases 0 (omega (arith, (next_told _ _ _ _ _ _ c.next_hop-i.ensures.answer).on, c.edges_end-end.ensures.answer, c.if-end-i.false))), (c.requires.block, (c.requires.bounds, (c.requires.table, (enter_inside c.args.block.now c.args.goal c.args.n c.args.labels c.args.live.now c.next_hop-i.result c.entered.result (behind c.args.p c.next_hop-i.ensures.answer (omega (arith, c.edges_end-end.ensures.answer, c.if-end-i.false)) c.edge_at-x.ensures.answer c.worth-r.ensures.answer c.entered.ensures.answer), enter_live c.args.block.now c.args.goal c.args.n c.args.labels c.args.live.now c.next_hop-i.result c.entered.result (behind c.args.p c.next_hop-i.ensures.answer (omega (arith, c.edges_end-end.ensures.answer, c.if-end-i.false)) c.edge_at-x.ensures.answer c.worth-r.ensures.answer c.entered.ensures.answer) c.requires.live)))))
+exists_from-exists_at-requires t c = (rw c.entered.ensures.answer.left (lex_by_snd (over c.args.block.now) c.args.n.left (first_edge c.args.block.now (suc c.args.n.scope) - c.args.p) c.decreases 0 (omega (arith, (next_told _ _ _ _ _ _ c.next_hop-i.ensures.answer).on, c.edges_end-end.ensures.answer, c.if-end-i.false))), (c.requires.bounds, (c.requires.table, (enter_inside c.args.block.now c.args.goal c.args.n c.args.labels c.args.live.now c.next_hop-i.result c.entered.result (behind c.args.p c.next_hop-i.ensures.answer (omega (arith, c.edges_end-end.ensures.answer, c.if-end-i.false)) c.edge_at-x.ensures.answer c.worth-r.ensures.answer c.entered.ensures.answer), enter_live c.args.block.now c.args.goal c.args.n c.args.labels c.args.live.now c.next_hop-i.result c.entered.result (behind c.args.p c.next_hop-i.ensures.answer (omega (arith, c.edges_end-end.ensures.answer, c.if-end-i.false)) c.edge_at-x.ensures.answer c.worth-r.ensures.answer c.entered.ensures.answer) c.requires.live))))
 
 pub exists_from-returns-then-exists_at : goal.exists_from-returns-then-exists_at
 exists_from-returns-then-exists_at t c = record { answer = sym (next_found c.args.block.now c.args.goal c.args.n c.args.labels c.args.live.now c.requires.live c.args.p c.next_hop-i.result ((next_told _ _ _ _ _ _ c.next_hop-i.ensures.answer)) (omega (arith, c.edges_end-end.ensures.answer, c.if-end-i.false)) c.entered.result (behind c.args.p c.next_hop-i.ensures.answer (omega (arith, c.edges_end-end.ensures.answer, c.if-end-i.false)) c.edge_at-x.ensures.answer c.worth-r.ensures.answer c.entered.ensures.answer) (sym c.exists_at.ensures.answer ∙ c.if-exists_at.true)) }
@@ -50,7 +50,7 @@ pub exists_from-exists_from-requires : goal.exists_from-exists_from-requires
 exists_from-exists_from-requires t c = (
   lex_by_snd (over c.args.block.now) c.args.n.left (first_edge c.args.block.now (suc c.args.n.scope) - c.args.p) c.decreases (first_edge c.args.block.now (suc c.args.n.scope) - (c.next_hop-i.result + 1))
       (omega (arith, (next_told _ _ _ _ _ _ c.next_hop-i.ensures.answer).on, c.edges_end-end.ensures.answer, c.if-end-i.false)),
-  (c.requires.block, (c.requires.bounds, (c.requires.table, (c.requires.inside, c.requires.live)))),
+  (c.requires.bounds, (c.requires.table, (c.requires.inside, c.requires.live))),
 )
 
 pub exists_from-returns-in-Anew : goal.exists_from-returns-in-Anew
@@ -60,7 +60,7 @@ pub exists_from-overflow_add-i-2 : goal.exists_from-overflow_add-i-2
 exists_from-overflow_add-i-2 t c = omega arith
 
 pub exists_from-next_hop-j-requires : goal.exists_from-next_hop-j-requires
-exists_from-next_hop-j-requires t c = record { block = c.requires.block; table = c.requires.table; inside = c.requires.inside }
+exists_from-next_hop-j-requires t c = record { table = c.requires.table; inside = c.requires.inside }
 
 pub exists_from-returns-then-end-j : goal.exists_from-returns-then-end-j
 exists_from-returns-then-end-j t c = record {
@@ -68,17 +68,14 @@ exists_from-returns-then-end-j t c = record {
       ∙ next_none c.args.block.now c.args.goal c.args.n c.args.labels c.args.live.now c.requires.live (c.next_hop-i.result + 1) c.next_hop-j.result ((next_told _ _ _ _ _ _ c.next_hop-j.ensures.answer)) (omega (arith, c.edges_end-end.ensures.answer)));
 }
 
-pub exists_from-accept_set-requires : goal.exists_from-accept_set-requires
-exists_from-accept_set-requires t c = record { block = c.requires.block }
-
 pub exists_from-live_table-new-requires : goal.exists_from-live_table-new-requires
-exists_from-live_table-new-requires t c = record { block = c.requires.block; bounds = c.requires.bounds }
+exists_from-live_table-new-requires t c = record { bounds = c.requires.bounds }
 
 pub exists_from-exists_from-requires-2 : goal.exists_from-exists_from-requires-2
 exists_from-exists_from-requires-2 t c = (
   lex_by_snd (over c.args.block.now) c.args.n.left (first_edge c.args.block.now (suc c.args.n.scope) - c.args.p) c.decreases (first_edge c.args.block.now (suc c.args.n.scope) - c.next_hop-j.result)
       (omega (arith, (next_told _ _ _ _ _ _ c.next_hop-i.ensures.answer).on, c.edges_end-end.ensures.answer, c.if-end-i.false, (next_told _ _ _ _ _ _ c.next_hop-j.ensures.answer).on, c.if-end-j.false)),
-  (c.requires.block, (c.requires.bounds, (omega arith, (c.requires.inside, rw (c.accept_set.ensures.answer, way_none c.args.block.now c.args.goal) at (c.live_table-new.ensures.closed c.args.goal))))),
+  (c.requires.bounds, (omega arith, (c.requires.inside, rw (c.accept_set.ensures.answer, way_none c.args.block.now c.args.goal) at (c.live_table-new.ensures.closed c.args.goal)))),
 )
 
 pub exists_from-returns : goal.exists_from-returns

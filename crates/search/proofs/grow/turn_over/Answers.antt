@@ -19,12 +19,6 @@ offset_bounds-table-s-in-loop-s c = omega arith
 pub bounds-table-s-in-loop-s : goal.bounds-table-s-in-loop-s
 bounds-table-s-in-loop-s c = omega arith
 
-pub overflow_add-s : goal.overflow_add-s
-overflow_add-s c = omega arith
-
-pub loop-s-smaller : goal.loop-s-smaller
-loop-s-smaller c = omega arith
-
 pub loop-s-preserved : goal.loop-s-preserved
 loop-s-preserved c = simp length-set c.loop-s.invariant
 

@@ -12,7 +12,7 @@ pub returns-then-most_turn-edge_turn : goal.returns-then-most_turn-edge_turn
 returns-then-most_turn-edge_turn c = let told = rw c.edge_label.ensures.answer at c.learn-told.ensures in record { known = told.known; cut = c.if-told.false ∙ sym (step_highest c.args.block.now c.args.goal c.args.n c.args.x c.requires.bounds (omega (arith, c.most_turn.ensures.answer, c.edge_turn.ensures.answer, c.if-most_turn-edge_turn.true)) (sym told.cut ∙ c.if-told.false)) }
 
 pub later_leads-cut-requires : goal.later_leads-cut-requires
-later_leads-cut-requires c = record { block = c.requires.block; bounds = c.requires.bounds; table = c.requires.table; inside = c.requires.inside; live = c.requires.live }
+later_leads-cut-requires c = record { bounds = c.requires.bounds; table = c.requires.table; inside = c.requires.inside; live = c.requires.live }
 
 pub returns : goal.returns
 returns c = let told = rw c.edge_label.ensures.answer at c.learn-told.ensures in record { known = told.known; cut = c.later_leads-cut.ensures.answer ∙ sym (step_later c.args.block.now c.args.goal c.args.n c.args.x (sym told.cut ∙ c.if-told.false)) }

@@ -21,7 +21,6 @@ exists_at-requires c =
     let small : c.worth-r.result < 16 = omega arith in
     let behind : Behind c.args.block.now c.args.live.now c.args.n ALL_LABELS c.args.p c.entered.result = behind_node (rw (c.worth-r.ensures.answer, c.edge_at-y.ensures.answer) at small) c.edge_at-y.ensures.answer c.worth-r.ensures.answer c.entered.ensures.answer in
     record {
-      block = c.requires.block;
       bounds = c.requires.bounds;
       table = c.requires.table;
       inside = enter_inside c.args.block.now c.args.goal c.args.n ALL_LABELS c.args.live.now c.args.p c.entered.result behind;

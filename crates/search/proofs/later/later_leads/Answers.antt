@@ -15,12 +15,6 @@ later_edge-requires c = c.requires
 pub returns-then-later_edge : goal.returns-then-later_edge
 returns-then-later_edge c = record { answer = sym (c.loop-p.invariant ∙ from_found c.args.block.now c.args.goal c.args.n c.args.x c.loop-p.p (omega (arith, c.edges_end-end.ensures.answer)) (sym c.later_edge.ensures.answer ∙ c.if-later_edge.true)) }
 
-pub overflow_add-p : goal.overflow_add-p
-overflow_add-p c = omega arith
-
-pub loop-p-smaller : goal.loop-p-smaller
-loop-p-smaller c = omega arith
-
 pub loop-p-preserved : goal.loop-p-preserved
 loop-p-preserved c = c.loop-p.invariant ∙ from_more c.args.block.now c.args.goal c.args.n c.args.x c.loop-p.p (omega (arith, c.edges_end-end.ensures.answer)) (sym c.later_edge.ensures.answer ∙ c.if-later_edge.false)
 

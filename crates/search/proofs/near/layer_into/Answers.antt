@@ -9,12 +9,6 @@ overflow_add-t c = omega arith
 pub loop-p-init : goal.loop-p-init
 loop-p-init c = (refl, refl)
 
-pub overflow_add-p : goal.overflow_add-p
-overflow_add-p c = omega arith
-
-pub loop-p-smaller : goal.loop-p-smaller
-loop-p-smaller c = omega arith
-
 pub loop-p-preserved : goal.loop-p-preserved
 loop-p-preserved c = (omega arith, omega arith)
 

@@ -27,12 +27,6 @@ shape_of-out-then-hot-eq0 c = omega arith
 pub returns-then-hot-eq0 : goal.returns-then-hot-eq0
 returns-then-hot-eq0 c = tt
 
-pub overflow_add-d : goal.overflow_add-d
-overflow_add-d c = omega arith
-
-pub loop-d-smaller : goal.loop-d-smaller
-loop-d-smaller c = omega arith
-
 pub loop-d-preserved : goal.loop-d-preserved
 loop-d-preserved c = (omega arith, omega arith, omega arith)
 

@@ -1,10 +1,6 @@
-use Prim.Native.Nat.{◌-◌}
 use mathlib.Core.Path.{◌≡◌}
 use lib.ListN.{length}
 use Rattle.search.proofs.near.put_distances.Given as goal
 
 abbrev pub invariant-loop-d : goal.invariant-loop-d
 invariant-loop-d l = (length l.out ≡ length l.initial.out) × (length l.held ≡ 64) × (length l.layer ≡ 64)
-
-abbrev pub decreases-loop-d : goal.decreases-loop-d
-decreases-loop-d l = 256 - l.d

@@ -7,17 +7,8 @@ use Rattle.search.proofs.straight.nearest.Goals as goal
 pub loop-p-init : goal.loop-p-init
 loop-p-init c = (omega (arith, c.edges_from-p.ensures.answer), λ h. absurd (omega arith), omega arith)
 
-pub overflow_add-p : goal.overflow_add-p
-overflow_add-p c = omega arith
-
-pub loop-p-smaller-then-least-d : goal.loop-p-smaller-then-least-d
-loop-p-smaller-then-least-d c = omega arith
-
 pub loop-p-preserved-then-least-d : goal.loop-p-preserved-then-least-d
 loop-p-preserved-then-least-d c = (omega (arith, c.loop-p.invariant.0), c.loop-p.invariant.1, c.loop-p.invariant.2)
-
-pub loop-p-smaller : goal.loop-p-smaller
-loop-p-smaller c = omega arith
 
 pub loop-p-preserved : goal.loop-p-preserved
 loop-p-preserved c = (

@@ -31,7 +31,7 @@ pub returns-then-edges_end-p : goal.returns-then-edges_end-p
 returns-then-edges_end-p c = record { leads = λ e. absurd (false≢true e) }
 
 pub is_goal-requires : goal.is_goal-requires
-is_goal-requires c = record { block = c.requires.block; scope = (enter_inside c.args.block.now c.args.goal c.loop-m.m c.loop-m.by c.args.live.now c.nearest-p.result c.entered-m.result (behind (c.nearest-p.ensures.hop (omega (arith, c.edges_end.ensures.answer, c.if-edges_end-p.false))) c.edge_at-x.ensures.answer c.worth-r.ensures.answer c.entered-m.ensures.answer)).scope }
+is_goal-requires c = record { scope = (enter_inside c.args.block.now c.args.goal c.loop-m.m c.loop-m.by c.args.live.now c.nearest-p.result c.entered-m.result (behind (c.nearest-p.ensures.hop (omega (arith, c.edges_end.ensures.answer, c.if-edges_end-p.false))) c.edge_at-x.ensures.answer c.worth-r.ensures.answer c.entered-m.ensures.answer)).scope }
 
 pub returns-then-is_goal : goal.returns-then-is_goal
 returns-then-is_goal c = record { leads = λ e. c.loop-m.invariant.1 (hop_here c.args.block.now c.args.goal c.loop-m.m c.loop-m.by c.args.live.now c.nearest-p.result (c.nearest-p.ensures.hop (omega (arith, c.edges_end.ensures.answer, c.if-edges_end-p.false))).leaves c.entered-m.result (behind (c.nearest-p.ensures.hop (omega (arith, c.edges_end.ensures.answer, c.if-edges_end-p.false))) c.edge_at-x.ensures.answer c.worth-r.ensures.answer c.entered-m.ensures.answer) (sym c.is_goal.ensures.answer ∙ c.if-is_goal.true)) }

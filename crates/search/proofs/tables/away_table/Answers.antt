@@ -8,7 +8,7 @@ use Rattle.search.proofs.Closing.{hops_closed, all_closed, closed_all_free}
 use Rattle.search.proofs.tables.away_table.Goals as goal
 
 pub is_closed-requires : goal.is_closed-requires
-is_closed-requires c = record { block = c.requires.block; leading = c.leading-full.ensures.leading; table = omega arith }
+is_closed-requires c = record { leading = c.leading-full.ensures.leading; table = omega arith }
 
 pub returns-then-is_closed : goal.returns-then-is_closed
 returns-then-is_closed c = record { away = closed_all_free _ _ _ _ _ (hops_closed _ _ _ _ _ _ (λ s q h. absurd (false≢true (sym (places_none 0 s q) ∙ h))) (c.is_closed.ensures.closed c.if-is_closed.true)) }

@@ -7,10 +7,10 @@ use Rattle.told.proofs.WordLaws.{else_later, else_first}
 use Rattle.told.proofs.PairLaws.{dash_none, dash_some}
 use Rattle.told.proofs.pairs.read_awaits.Goals as goal
 
-pub returns-in_default : goal.returns-in_default
+pub returns-in-None : goal.returns-in-None
 unfolding awaits_here
-returns-in_default c = record { answer = else_later _ _ 10 (dash_none (drop c.args.at c.args.s.now) (place_none c.args.s.now _ _ _ c.past.ensures.answer c.in_default.is)) _ c.read_pair.ensures.answer }
+returns-in-None c = record { answer = else_later _ _ 10 (dash_none (drop c.args.at c.args.s.now) (place_none c.args.s.now _ _ _ c.past.ensures.answer c.in-None.is)) _ c.read_pair.ensures.answer }
 
-pub returns : goal.returns
+pub returns-in-Some : goal.returns-in-Some
 unfolding awaits_meaning named_meaning awaits_here
-returns c = record { answer = else_first _ _ _ (dash_some (drop c.args.at c.args.s.now) _ (place_at c.args.s.now _ _ _ c.past.ensures.answer _ c.in-At.is)) }
+returns-in-Some c = record { answer = else_first _ _ _ (dash_some (drop c.args.at c.args.s.now) _ (place_at c.args.s.now _ _ _ c.past.ensures.answer _ c.in-Some.is)) }

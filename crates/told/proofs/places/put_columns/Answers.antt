@@ -1,7 +1,12 @@
 -- `put_columns` meets its contract: one write after another. Assumes nothing.
-use Rattle.graph_table.specs.Values.{packed}
-use Rattle.told.proofs.ColumnLaws.{columns_put}
+use borrow.Author.Rules.{rules}
+use Rattle.text_field.proofs.WritingLaws.{◌then◌, written}
+use Rattle.told.specs.Apart.{query_columns}
 use Rattle.told.proofs.places.put_columns.Goals as goal
 
 pub returns : goal.returns
-returns c = record { written = columns_put c.args.form c.args.q.start (packed c.args.q.name) _ _ _ _ _ c.put_number-b.ensures.written c.put_byte-c.ensures.written c.put_seek-d.ensures.written c.put_byte.ensures.written }
+unfolding query_columns
+returns c =
+    let w = c.put_number.ensures.wrote then c.put.ensures.wrote then c.put_seek.ensures.wrote then c.put-2.ensures.wrote
+    in let m = written _ _ _ _ c.new-to.ensures.starts w
+    in record { written = search (rules, w.same, m) }

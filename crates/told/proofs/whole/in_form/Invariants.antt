@@ -1,4 +1,3 @@
-use Prim.Native.Nat.{◌-◌, ◌≤◌}
 use mathlib.Core.Path.{◌≡◌}
 use lib.ListN.{drop}
 use Rattle.graph_rows.specs.Decode.{queries_of}
@@ -8,7 +7,4 @@ use Rattle.told.proofs.whole.in_form.Given as goal
 
 abbrev pub invariant-loop-i : goal.invariant-loop-i
 invariant-loop-i l =
-    (is_done (told_from l.table (drop l.i (queries_of l.table)) (drop l.at l.lists)) ≡ is_done (told_of l.table l.lists)) × (l.i ≤ l.count)
-
-abbrev pub decreases-loop-i : goal.decreases-loop-i
-decreases-loop-i l = l.count - l.i
+    is_done (told_from l.table (drop l.i (queries_of l.table)) (drop l.at l.lists)) ≡ is_done (told_of l.table l.lists)

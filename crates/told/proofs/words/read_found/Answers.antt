@@ -1,18 +1,31 @@
 -- `read_found` meets its contract. Assumes nothing.
+use mathlib.Core.Path.{◌∙◌}
+use mathlib.Core.List.{List}
+use Prim.Native.Nat.{ℕ}
 use lib.ListN.{drop}
-use Rattle.scope_graph.specs.Computed.{found_none}
+use borrow.Author.Rules.{rules}
+use Rattle.scope_graph.specs.Computed.{found_one, found_several}
+use Rattle.told.specs.Apart.{word_here, found_here}
+use Rattle.told.proofs.WordLaws.{else_meant, else_assoc}
 use Rattle.follow.specs.Text.{found_text}
 use Rattle.resolution.specs.Asked.{found_meaning}
-use Rattle.told.specs.Apart.{found_here}
-use Rattle.told.specs.Steps.{word_meaning}
-use Rattle.told.proofs.FixedBytes.{place_at, place_none}
-use Rattle.told.proofs.WordLaws.{else_later, else_first, word_none, word_some}
 use Rattle.told.proofs.words.read_found.Goals as goal
 
-pub returns-in_default : goal.returns-in_default
-unfolding found_text found_here
-returns-in_default c = record { answer = else_later _ _ 10 (word_none found_none (drop c.args.at c.args.s.now) (place_none c.args.s.now _ _ _ c.past.ensures.answer c.in_default.is)) _ c.read_one.ensures.answer }
+pub read_word-requires : goal.read_word-requires
+unfolding found_text found_meaning
+read_word-requires c = search rules
+
+pub or_else-requires : goal.or_else-requires
+unfolding found_text found_meaning
+or_else-requires c = search rules
+
+pub or_else-requires-2 : goal.or_else-requires-2
+unfolding found_text found_meaning
+or_else-requires-2 c = search rules
 
 pub returns : goal.returns
-unfolding word_meaning found_meaning found_text found_here
-returns c = record { answer = else_first _ _ _ (word_some found_none (drop c.args.at c.args.s.now) _ (place_at c.args.s.now _ _ _ c.past.ensures.answer _ c.in-At.is)) }
+unfolding found_here found_meaning
+returns c =
+    let t : List ℕ = drop c.args.at c.args.s.now
+    in let e = else_meant c.args.s.now _ (word_here found_one t) _ c.or_else.result c.read_word.ensures.answer (λ h. search (rules, h)) c.or_else.ensures
+    in record { answer = else_meant c.args.s.now _ (word_here found_several t) _ c.or_else-2.result e (λ h. search (rules, h)) c.or_else-2.ensures ∙ else_assoc _ _ _ }

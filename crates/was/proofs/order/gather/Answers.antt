@@ -1,7 +1,7 @@
 -- `gather` meets its contract. The loop's invariant is `Gathering`: the row at p is the next of the
 -- scope, and what is gathered so far, with what is left, is what is due. Assumes nothing.
 use Prim.Native.Nat.{◌+◌}
-use mathlib.Core.Path.{sym, ap, ◌∙◌}
+use mathlib.Core.Path.{ap}
 use native.Mathlib.Omega.{arith}
 use Rattle.graph_table.specs.declared.rows.EdgeRow.{EdgeRow}
 use Rattle.was.proofs.RowLaws.{next_past}
@@ -9,25 +9,19 @@ use Rattle.was.proofs.Walking.{gathering_start, gathering_end, gathering_below, 
 use Rattle.was.proofs.order.gather.Goals as goal
 
 pub loop-p-init : goal.loop-p-init
-loop-p-init c = gathering_start c.args.edges.now c.args.s c.args.list.now c.args.n _ c.requires.listed c.requires.scopes c.next_row-p.ensures.answer
+loop-p-init c = gathering_start c.args.edges.now c.args.s c.args.to.now.list c.args.to.now.count _ c.requires.listed c.requires.scopes c.next_row-p.ensures.answer
 
-pub edge_row-row-requires : goal.edge_row-row-requires
-edge_row-row-requires c = record { whole = (c.loop-p.invariant.row c.loop-p-test.true).0 }
+pub edge_row-requires : goal.edge_row-requires
+edge_row-requires c = record { whole = (c.loop-p.invariant.row c.loop-p-test.true).0 }
 
-pub with_scope-k-requires : goal.with_scope-k-requires
-with_scope-k-requires c = let t = ap (λ (r : EdgeRow). r.to) c.edge_row-row.ensures.answer in let b = gathering_below c.args.edges.now c.args.s c.args.list.now c.args.n c.loop-p.list c.loop-p.k c.loop-p.p c.loop-p.invariant c.loop-p-test.true in record { scope = rw t b; listed = c.loop-p.invariant.held.begins }
-
-pub overflow_add-p : goal.overflow_add-p
-overflow_add-p c = omega arith
+pub add-requires : goal.add-requires
+add-requires c = let t = ap (λ (r : EdgeRow). r.to) c.edge_row.ensures.answer in let b = gathering_below c.args.edges.now c.args.s c.args.to.now.list c.args.to.now.count c.loop-p.to.list c.loop-p.to.count c.loop-p.p c.loop-p.invariant c.loop-p-test.true in record { scope = rw t b; listed = c.loop-p.invariant.held.begins }
 
 pub loop-p-smaller : goal.loop-p-smaller
 loop-p-smaller c = let m = next_past c.args.edges.now c.args.s (c.loop-p.p + 6) _ c.next_row-p-in-loop-p.ensures.answer c.loop-p.p c.loop-p-test.true (omega arith) in omega arith
 
 pub loop-p-preserved : goal.loop-p-preserved
-loop-p-preserved c = gathering_next c.args.edges.now c.args.s c.args.list.now c.args.n c.loop-p.list c.loop-p.k c.loop-p.p c.loop-p.invariant c.loop-p-test.true _ (ap (λ (r : EdgeRow). r.to) c.edge_row-row.ensures.answer) _ _ _ c.with_scope-k.ensures.count c.with_scope-k.ensures.memory c.next_row-p-in-loop-p.ensures.answer
-
-pub shape_of-list : goal.shape_of-list
-shape_of-list c = c.loop-p.invariant.held.begins.size ∙ sym c.requires.listed.size
+loop-p-preserved c = gathering_next c.args.edges.now c.args.s c.args.to.now.list c.args.to.now.count c.loop-p.to.list c.loop-p.to.count c.loop-p.p c.loop-p.invariant c.loop-p-test.true _ (ap (λ (r : EdgeRow). r.to) c.edge_row.ensures.answer) _ _ _ c.add.ensures.count c.add.ensures.memory c.next_row-p-in-loop-p.ensures.answer
 
 pub returns : goal.returns
-returns c = let told = gathering_end c.args.edges.now c.args.s c.args.list.now c.args.n c.loop-p.list c.loop-p.k c.loop-p.p c.loop-p.invariant c.loop-p-test.false in record { count = told.0; memory = told.1 }
+returns c = let told = gathering_end c.args.edges.now c.args.s c.args.to.now.list c.args.to.now.count c.loop-p.to.list c.loop-p.to.count c.loop-p.p c.loop-p.invariant c.loop-p-test.false in record { count = told.0; memory = told.1 }

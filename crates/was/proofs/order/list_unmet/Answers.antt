@@ -1,31 +1,18 @@
--- `list_unmet` meets its contract. The loop's invariant is `Missing`: of the `count` scopes all but
--- the last `left` are gathered. Assumes nothing.
-use Prim.Native.Nat.{◌-◌}
-use mathlib.Core.Path.{sym, ◌∙◌}
+-- `list_unmet` meets its contract. The loop's invariant is `Missing`: of the `count` scopes those
+-- below s are gathered. Assumes nothing.
+use mathlib.Core.Path.{refl}
 use native.Mathlib.Omega.{arith}
 use Rattle.was.proofs.Walking.{missing_start, missing_next, missing_end}
 use Rattle.was.proofs.order.list_unmet.Goals as goal
 
-pub loop-left-init : goal.loop-left-init
-loop-left-init c = (missing_start c.args.list.now c.args.n (c.args.count - c.args.count) (omega arith) c.requires.listed, omega arith)
+pub loop-s-init : goal.loop-s-init
+loop-s-init c = missing_start c.args.to.now.list c.args.to.now.count 0 refl c.requires.listed
 
-pub overflow_sub-count : goal.overflow_sub-count
-overflow_sub-count c = omega arith
+pub add-requires : goal.add-requires
+add-requires c = record { scope = omega arith; listed = c.loop-s.invariant.held.begins }
 
-pub with_scope-k-requires : goal.with_scope-k-requires
-with_scope-k-requires c = record { scope = omega arith; listed = c.loop-left.invariant.0.held.begins }
-
-pub overflow_sub-left : goal.overflow_sub-left
-overflow_sub-left c = omega arith
-
-pub loop-left-smaller : goal.loop-left-smaller
-loop-left-smaller c = omega arith
-
-pub loop-left-preserved : goal.loop-left-preserved
-loop-left-preserved c = (missing_next c.args.list.now c.args.n c.loop-left.list c.loop-left.k (c.args.count - c.loop-left.left) _ _ _ c.loop-left.invariant.0 (omega arith) (omega arith) c.with_scope-k.ensures.count c.with_scope-k.ensures.memory, omega arith)
-
-pub shape_of-list : goal.shape_of-list
-shape_of-list c = c.loop-left.invariant.0.held.begins.size ∙ sym c.requires.listed.size
+pub loop-s-preserved : goal.loop-s-preserved
+loop-s-preserved c = missing_next c.args.to.now.list c.args.to.now.count c.loop-s.to.list c.loop-s.to.count c.loop-s.s _ _ _ c.loop-s.invariant (omega arith) refl c.add.ensures.count c.add.ensures.memory
 
 pub returns : goal.returns
-returns c = let told = missing_end c.args.list.now c.args.n c.loop-left.list c.loop-left.k (c.args.count - c.loop-left.left) c.args.count c.loop-left.invariant.0 (omega arith) in record { count = told.0; memory = told.1 }
+returns c = let told = missing_end c.args.to.now.list c.args.to.now.count c.loop-s.to.list c.loop-s.to.count c.loop-s.s c.args.count c.loop-s.invariant (omega arith) in record { count = told.0; memory = told.1 }

@@ -1,6 +1,8 @@
 -- `put_line` meets its contract. Assumes nothing.
-use Rattle.was.proofs.WritingLaws.{line_puts}
+use Rattle.text_field.proofs.WritingLaws.{◌then◌}
+use Rattle.was.specs.WasText.{number_line}
 use Rattle.was.proofs.text.put_line.Goals as goal
 
 pub returns : goal.returns
-returns c = record { written = line_puts _ _ _ _ c.put_number-k.ensures.written c.put_byte.ensures.written }
+unfolding number_line
+returns c = record { wrote = c.put_number.ensures.wrote then c.put.ensures.wrote }

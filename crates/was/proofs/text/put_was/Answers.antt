@@ -1,27 +1,22 @@
--- `put_was` meets its contract. The loop's invariant: the lines of the first i numbers are written.
+-- `put_was` meets its contract. The loop's invariant: the lines of the numbers so far are written.
 -- Assumes nothing.
-use mathlib.Core.Path.{refl, ◌∙◌}
-use native.Mathlib.Omega.{arith}
-use Rattle.was.proofs.WritingLaws.{lines_none, lines_next, lines_all}
+use mathlib.Core.Path.{ap, ◌∙◌}
+use mathlib.Core.List.{flat_map}
+use Rattle.std.proofs.Common.{rules}
+use Rattle.text_field.specs.Buffer.{puts}
+use Rattle.text_field.proofs.WritingLaws.{wrote_none, ◌then◌, written}
+use Rattle.was.proofs.WritingLaws.{lines_next, lines_all}
 use Rattle.was.proofs.text.put_was.Goals as goal
 
-pub loop-i-init : goal.loop-i-init
-loop-i-init c = (refl, lines_none c.args.list.now _, omega arith)
+pub loop-v-init : goal.loop-v-init
+unfolding flat_map
+loop-v-init c = wrote_none _
 
-pub offset_bounds-list-i : goal.offset_bounds-list-i
-offset_bounds-list-i c = omega arith
-
-pub bounds-list-i : goal.bounds-list-i
-bounds-list-i c = omega arith
-
-pub overflow_add-i : goal.overflow_add-i
-overflow_add-i c = omega arith
-
-pub loop-i-smaller : goal.loop-i-smaller
-loop-i-smaller c = omega arith
-
-pub loop-i-preserved : goal.loop-i-preserved
-loop-i-preserved c = (c.put_line-n.auto.out ∙ c.loop-i.invariant.0, lines_next c.args.list.now c.loop-i.i _ _ _ c.loop-i-test.true c.loop-i.invariant.1 c.put_line-n.ensures.written, omega arith)
+pub loop-v-preserved : goal.loop-v-preserved
+loop-v-preserved c = rw (lines_next c.args.list.now c.loop-v.v-index c.loop-v-test.true) (c.loop-v.invariant then c.put_line.ensures.wrote)
 
 pub returns : goal.returns
-returns c = record { written = lines_all c.args.list.now c.loop-i.i _ _ _ c.loop-i-test.false c.put_bytes-n.ensures.written c.loop-i.invariant.1 }
+returns c =
+    let w = c.put_bytes.ensures.wrote then c.loop-v.invariant in
+    let m = written _ _ _ _ c.new-to.ensures.starts w ∙ ap (puts _) (lines_all c.args.list.now c.loop-v.v-index c.loop-v-test.false) in
+    record { written = search (rules, w.same, m) }

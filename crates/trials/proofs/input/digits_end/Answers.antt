@@ -1,6 +1,0 @@
--- `trials::input::digits_end` is safe and ends. The measure is what is left of the bytes.
--- Assumes nothing.
-use Rattle.trials.proofs.input.digits_end.Goals as goal
-
-pub loop-i-init : goal.loop-i-init
-loop-i-init c = tt

@@ -1,6 +1,0 @@
--- `trials::input::number` is safe and ends. The measure is what is left of the bytes.
--- Assumes nothing.
-use Rattle.trials.proofs.input.number.Goals as goal
-
-pub loop-i-init : goal.loop-i-init
-loop-i-init c = tt
