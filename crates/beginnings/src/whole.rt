@@ -15,7 +15,7 @@ use crate::near::near_table;
 use crate::nodes::count_at;
 use crate::plain::{ENOUGH, counted_few};
 use crate::uncut::is_uncut;
-use block::{ASKSIZE, SIZE, ask_goal, ask_start, scope_count, taken};
+use block::{ASKSIZE, BETTER, SIZE, accept_set, ask_goal, ask_start, scope_count, taken};
 use board::hopeful;
 use search::{ALL, Node, live_table};
 
@@ -28,11 +28,12 @@ fn first_scopes(n: u64) -> u64
     ALL >> (64 - n)
 }
 
-// The states from which transitions alone lead to acceptance.
+// The states from which transitions alone lead to acceptance. The next states are the block's first
+// cells, up to those of the order.
 fn hopes_of(block: &[u64; SIZE]) -> u64
     ensures answer { result ≡ hopes_in block.now }
 {
-    hopeful(block)
+    hopeful(&block[..BETTER], accept_set(block))
 }
 
 // The places from a node on, with an empty memo.

@@ -1,13 +1,14 @@
 -- Single cells of the automaton's tables: what a test says of them. Assumes nothing.
 use Prim.Native.Nat.{ℕ, zero, suc, ◌+◌, ◌-◌, ◌*◌, ◌≤◌, ◌<◌}
-use mathlib.Core.Path.{◌≡◌, refl, sym, ap, ◌∙◌}
+use mathlib.Core.Path.{◌≡◌, refl, sym, ap, ◌∙◌, fun_ext}
 use mathlib.Core.Bool.{Bool, true, false}
 use mathlib.Core.List.{List}
-use mathlib.Core.Logic.{⊎_elim}
+use mathlib.Core.Logic.{⊎_elim, ◌⊎◌, inl, inr}
 use native.Mathlib.Omega.{arith}
 use lib.Dec.{eqb, ltb}
-use lib.ListN.{length, get_or}
-use borrow.Author.Tests.{eqb-true, eqb-false}
+use lib.ListN.{length, get_or, take}
+use lib.Seq.{get_or-take}
+use borrow.Author.Tests.{eqb-true, eqb-false, ltb-true, ltb-false}
 use Rattle.scope_graph.specs.Computed.{any_below}
 use Rattle.scope_graph.proofs.Lists.{Two}
 use Rattle.block.specs.Sets.{has_bit, has_state}
@@ -23,6 +24,19 @@ pub next_at_lem : (delta : List ℕ) (q l : ℕ) → length delta ≡ 128 → q 
 next_at_lem delta q l e h k =
     let here : DELTA + (q * 8 + l) ≡ q * 8 + l = omega arith in
     get_d_any delta (q * 8 + l) 0 16 (omega arith) ∙ sym (next_in_lem delta q l h k ∙ ap (λ i. get_or delta i 16) here)
+
+-- the next states are the first 128 cells of a block
+pub next_first : (block : List ℕ) → next_cell (take 128 block) ≡ next_cell block
+next_first block = fun_ext (λ q. fun_ext (λ l. at q l (Two (ltb q 16)) (Two (ltb l 8))))
+  where
+    at : (q l : ℕ) → (ltb q 16 ≡ true) ⊎ (ltb q 16 ≡ false) → (ltb l 8 ≡ true) ⊎ (ltb l 8 ≡ false)
+        → next_cell (take 128 block) q l ≡ next_cell block q l
+    at q l (inl e) (inl f) =
+        let h : q < 16 = ltb-true q 16 e in
+        let k : l < 8 = ltb-true l 8 f in
+        next_in_lem (take 128 block) q l h k ∙ get_or-take 128 block (DELTA + (q * 8 + l)) 16 (omega arith) ∙ sym (next_in_lem block q l h k)
+    at q l (inr e) f = let h : 16 ≤ q = ltb-false q 16 e in next_no_state (take 128 block) q l h ∙ sym (next_no_state block q l h)
+    at q l (inl e) (inr f) = let h : 8 ≤ l = ltb-false l 8 f in next_no_label (take 128 block) q l h ∙ sym (next_no_label block q l h)
 
 -- is the test met by a number below n: the greatest of them first
 above_hit : (f : ℕ → Bool) (n : ℕ) → f n ≡ true → any_below f (suc n) ≡ true

@@ -1,14 +1,14 @@
 // The automaton's tables: the next states and the states that accept, made of its rows; and of the
 // block that these were put into, the states from which transitions lead on, and those in which an
 // end is usable.
-ghost use Rattle.std.specs.Prelude.{◌≡◌, Bool, ℕ, ◌≤◌, ◌<◌};
+ghost use Rattle.std.specs.Prelude.{◌≡◌, Bool, ℕ, ◌≤◌, ◌<◌, length};
 ghost use Rattle.block.specs.Sets.{has_state};
 ghost use Rattle.block.specs.Block.{next_cell, accept_set};
 ghost use Rattle.graph_table.specs.Sections.{rows_of};
 ghost use Rattle.board.specs.Tables.{tabulate, transition_cells, accepted, leads_into, round_flag, round_set, states_below, hopeful_set, usable_flag, usable_states};
 ghost use Rattle.board.specs.Places.{transition_place};
 
-use block::{DELTA, SIZE, accept_set, has_state, next_state};
+use block::{BETTER, DELTA, SIZE, accept_set, has_state, next_state};
 use graph_table::{ROW, TransitionRow, first_value, transition_row};
 
 // The first round gives the states that accept; 16 transitions are enough, as there are 16 states.
@@ -68,17 +68,28 @@ fn states_where<F: Fn(u64) -> bool>(test: F) -> u64
     out
 }
 
+// The next state's cell, of the 128 cells of next states.
+fn next_of(delta: &[u64], q: u64, l: u64) -> u64
+    requires table { length delta.now ≡ 128 }
+    requires state { q < 16 }
+    requires label { l < 8 }
+    ensures answer { result ≡ next_cell delta.now q l }
+{
+    delta[(q * 8 + l) as usize]
+}
+
 // Does a transition lead from the state into the set? None leads into the empty one, which every
 // file's first round asks for.
-fn leads(block: &[u64; SIZE], set: u64, q: u64) -> bool
+fn leads(delta: &[u64], set: u64, q: u64) -> bool
+    requires table { length delta.now ≡ 128 }
     requires state { q < 16 }
-    ensures answer { result ≡ leads_into (next_cell block.now) set q }
+    ensures answer { result ≡ leads_into (next_cell delta.now) set q }
 {
     if set == 0 {
         return false;
     }
     for l in (0..8).rev() {
-        if has_state(set, next_state(block, q, l)) {
+        if has_state(set, next_of(delta, q, l)) {
             return true;
         }
     }
@@ -86,28 +97,31 @@ fn leads(block: &[u64; SIZE], set: u64, q: u64) -> bool
 }
 
 // Does the state accept, or a transition lead from it into the set?
-fn hopes(block: &[u64; SIZE], set: u64, q: u64) -> bool
+fn hopes(delta: &[u64], accept: u64, set: u64, q: u64) -> bool
+    requires table { length delta.now ≡ 128 }
     requires state { q < 16 }
-    ensures answer { result ≡ round_flag (next_cell block.now) (accept_set block.now) set q }
+    ensures answer { result ≡ round_flag (next_cell delta.now) accept set q }
 {
-    has_state(accept_set(block), q) || leads(block, set, q)
+    has_state(accept, q) || leads(delta, set, q)
 }
 
 // One round: the states that accept, and those from which a transition leads into the set.
-fn round(block: &[u64; SIZE], set: u64) -> u64
-    ensures answer { result ≡ round_set (next_cell block.now) (accept_set block.now) set }
+fn round(delta: &[u64], accept: u64, set: u64) -> u64
+    requires table { length delta.now ≡ 128 }
+    ensures answer { result ≡ round_set (next_cell delta.now) accept set }
 {
-    states_where(|q| hopes(block, set, q))
+    states_where(|q| hopes(delta, accept, set, q))
 }
 
-// The states from which transitions alone lead to one that accepts. A round that adds nothing is
-// the last.
-pub fn hopeful(block: &[u64; SIZE]) -> u64
-    ensures answer { result ≡ hopeful_set (next_cell block.now) (accept_set block.now) }
+// The states from which transitions alone lead to one that accepts, by 128 cells of next states and
+// the set of those that accept. A round that adds nothing is the last.
+pub fn hopeful(delta: &[u64], accept: u64) -> u64
+    requires table { length delta.now ≡ 128 }
+    ensures answer { result ≡ hopeful_set (next_cell delta.now) accept }
 {
     let mut set = 0;
     for _ in 0..ROUNDS {
-        let next = round(block, set);
+        let next = round(delta, accept, set);
         if next == set {
             break;
         }
@@ -132,7 +146,7 @@ fn usable(block: &[u64; SIZE], hopes: u64, q: u64, end: u64) -> bool
 pub fn usable_table(block: &[u64; SIZE]) -> [u64; 9]
     ensures answer { result ≡ tabulate (usable_states (next_cell block.now) (accept_set block.now) (hopeful_set (next_cell block.now) (accept_set block.now))) 9 }
 {
-    let hopes = hopeful(block);
+    let hopes = hopeful(&block[..BETTER], accept_set(block));
     let mut t = [0; 9];
     for (end, set) in t.iter_mut().enumerate() {
         *set = states_where(|q| usable(block, hopes, q, end as u64));

@@ -21,7 +21,7 @@ use Rattle.text_field.proofs.OutcomeLaws.{not_done}
 use Rattle.text_field.proofs.NumberLaws.{length_below}
 use Rattle.text_field.proofs.AnswerLaws.{answer_refused}
 use Rattle.printing.specs.Printed.{refused_line, in_place}
-use Rattle.printing.specs.Parts.{answered as answered_in}
+use Rattle.printing.specs.Parts.{answered as answered_in, numbered}
 use Rattle.printing.proofs.Laws.{refused_short, in_place_lem, done_fits, Stands, stands}
 use Rattle.comparison.specs.Compare.{Comparison, first, second, neither, Told, as_told, compare_answer}
 use Rattle.judge.specs.Judge.{judge_answer}
@@ -47,13 +47,16 @@ module _ {A : Type 0} (name : A → List ℕ) (o : Outcome A) (lent left : List 
   unfolding line_of and_then
   line_replied a e h = let f = h.fits in rw (e, done_fits reply_room (name a ++ (10 ∷ [])) f) h
 
-  pub refused_replied : (r : Refusal) → o ≡ refused (number_of r) → ◌≡◌ {A = Buf} (left, size) (puts (lent, 0) (refused_line (number_of r)))
+  pub refused_replied : (n : ℕ) → n < 18446744073709551616 → o ≡ refused n → ◌≡◌ {A = Buf} (left, size) (puts (lent, 0) (refused_line n))
       → Replied lent left size (in_place reply_room (line_of name o))
   unfolding line_of and_then in_place
-  refused_replied r e h =
-      let b = number_below r in
-      let s = refused_short (number_of r) (omega arith) in
+  refused_replied n b e h =
+      let s = refused_short n b in
       rw e (record { written = h; fits = omega arith })
+
+-- an outcome refused by a number that is told of the refusal
+pub refused_by : {A : Type 0} {o : Outcome A} {n m : ℕ} → n ≡ m → o ≡ refused m → o ≡ refused n
+refused_by e f = f ∙ ap refused (sym e)
 
 -- the number of a refusal that was answered is small
 number_small : (a : Result ℕ Refusal) (n : ℕ) → answer_of a ≡ refused n → n < 20
@@ -73,7 +76,7 @@ place_fits (done text) small = by (ltb reply_room (length text)) refl
 
 -- what the library answered and wrote where a reply's room was lent, or the line of its refusal
 module _ (o : Outcome (List ℕ)) (a : Result ℕ Refusal) (lent mid left : List ℕ) (size : ℕ) where
-  pub answer_replied : length lent ≡ reply_room → answer_of a ≡ answer o (length lent) → mid ≡ leaves o lent → ◌≡◌ {A = Buf} (left, size) (answered_in a mid) → Replied lent left size (in_place reply_room o)
+  pub answer_replied : length lent ≡ reply_room → answer_of a ≡ answer o (length lent) → mid ≡ leaves o lent → ◌≡◌ {A = Buf} (left, size) (answered_in (numbered a) mid) → Replied lent left size (in_place reply_room o)
   answer_replied room e l put =
       record {
         written = in_place_lem a lent mid (left, size) put o e l ∙ ap (λ (n : ℕ). puts (lent, 0) (in_place n o)) room;

@@ -18,7 +18,7 @@ use conversion::{to_new, to_old};
 use dot::dot;
 use judge::{Judged, judge_text};
 use path_row::form::MOST_STEPS;
-use printing::{put_answer, put_refused};
+use printing::{numbered, put_answer, put_refused};
 use readers::readers;
 use renumbering::{back, file_answer, list_answer, renumber};
 use ruled::rules;
@@ -64,7 +64,7 @@ fn put_made(made: Result<usize, Refusal>, out: &mut [u8]) -> usize
         → answer_of made ≡ answer o (length lent) → out.old ≡ leaves o lent
         → Replied lent out.new result (in_place reply_room o) }
 {
-    put_answer(out, made)
+    put_answer(out, numbered(made))
 }
 
 // A line of a name, which ends in a space or is empty, and a number.
@@ -107,7 +107,7 @@ fn put_judged(text: &[u8], query: usize, row: &[u8], out: &mut [u8]) -> usize
 {
     match judge_text(text, query, row, MOST_STEPS).answer {
         Ok(j) => put_standing(out, j),
-        Err(r) => put_refused(out, r),
+        Err(r) => put_refused(out, r.number()),
     }
 }
 
@@ -117,7 +117,7 @@ fn put_compared(text: &[u8], a: &[u8], b: &[u8], out: &mut [u8]) -> usize
 {
     match compare_text(text, a, b, MOST_STEPS, MOST_STEPS).answer {
         Ok(c) => put_comparison(out, c),
-        Err(r) => put_refused(out, r),
+        Err(r) => put_refused(out, r.number()),
     }
 }
 
@@ -127,7 +127,7 @@ fn put_count(text: &[u8], query: usize, out: &mut [u8]) -> usize
 {
     match count(text, query) {
         Ok(n) => put_counted(out, b"", n),
-        Err(r) => put_refused(out, r),
+        Err(r) => put_refused(out, r.number()),
     }
 }
 

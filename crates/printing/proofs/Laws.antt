@@ -32,7 +32,7 @@ use Rattle.resolution.specs.Figures.{no_figures, figures_over, figures_text}
 use Rattle.resolution.proofs.Buffers.{head_fits, short_answer, short_leaves, whole_answer, whole_leaves, own_within}
 use Rattle.resolution.proofs.Counts.{queries_few, figures_few, figures_text_lem, summary_short}
 use Rattle.printing.specs.Printed.{refused_line, in_place, lent, table_text, outcome_text, program_text, Due}
-use Rattle.printing.specs.Parts.{answered, part_text}
+use Rattle.printing.specs.Parts.{answered, numbered, part_text}
 
 -- a refusal's line is short
 pub refused_short : (n : ℕ) → n < 18446744073709551616 → length (refused_line n) ≤ 32
@@ -43,22 +43,22 @@ refused_short n h =
     omega arith
 
 -- what stands in the buffer after an answer
-module _ (a : Result ℕ Refusal) (out mid : List ℕ) (b : Buf) (stands : b ≡ answered a mid) where
+module _ (a : Result ℕ Refusal) (out mid : List ℕ) (b : Buf) (stands : b ≡ answered (numbered a) mid) where
   refused_place : (n : ℕ) → answer_of a ≡ refused n → mid ≡ out → b ≡ puts (out, 0) (refused_line n)
-  unfolding answered answer_of
+  unfolding answered numbered answer_of
   refused_place n e l = by a refl
     where
       by : (x : Result ℕ Refusal) → a ≡ x → b ≡ puts (out, 0) (refused_line n)
       by (Err m) f =
           let z : ◌≡◌ {A = Outcome ℕ} (refused (number_of m)) (refused n) = ap answer_of (sym f) ∙ e in
           let k : number_of m ≡ n = cc in
-          stands ∙ ap (λ (y : Result ℕ Refusal). answered y mid) f ∙ ap (λ (y : List ℕ). puts (y, 0) (refused_line (number_of m))) l ∙ ap (λ (y : ℕ). puts (out, 0) (refused_line y)) k
+          stands ∙ ap (λ (y : Result ℕ Refusal). answered (numbered y) mid) f ∙ ap (λ (y : List ℕ). puts (y, 0) (refused_line (number_of m))) l ∙ ap (λ (y : ℕ). puts (out, 0) (refused_line y)) k
       by (Ok m) f =
           let z : ◌≡◌ {A = Outcome ℕ} (done m) (refused n) = ap answer_of (sym f) ∙ e in
           absurd (let y : ◌≡◌ {A = ℕ} 0 1 = cc in omega arith)
 
   done_place : (text : List ℕ) → length text ≤ length out → answer_of a ≡ done (length text) → mid ≡ text ++ drop (length text) out → b ≡ puts (out, 0) text
-  unfolding answered answer_of
+  unfolding answered numbered answer_of
   done_place text h e l = by a refl
     where
       by : (x : Result ℕ Refusal) → a ≡ x → b ≡ puts (out, 0) text
@@ -70,7 +70,7 @@ module _ (a : Result ℕ Refusal) (out mid : List ℕ) (b : Buf) (stands : b ≡
           let k : m ≡ length text = done_is z in
           let i : 0 + length text ≤ length out = omega arith in
           let d : 0 + length text ≡ length text = omega arith in
-          stands ∙ ap (λ (y : Result ℕ Refusal). answered y mid) f ∙ ap (λ (y : List ℕ). (y, m)) l ∙ ap (λ (y : ℕ). (text ++ drop (length text) out, y)) k
+          stands ∙ ap (λ (y : Result ℕ Refusal). answered (numbered y) mid) f ∙ ap (λ (y : List ℕ). (y, m)) l ∙ ap (λ (y : ℕ). (text ++ drop (length text) out, y)) k
           ∙ sym (puts_fits out 0 text i ∙ ap (λ (y : ℕ). (text ++ drop y out, y)) d)
 
   -- the output, or its refusal's line in its place

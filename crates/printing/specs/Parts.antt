@@ -12,9 +12,14 @@ use Rattle.printing.specs.Printed.{refused_line, in_place}
 
 -- a buffer after an answer: the output stays as it was written, a refusal's line is put to the
 -- front
-unfoldable pub answered : Result ℕ Refusal → List ℕ → Buf
-answered (Ok n) out = (out, n)
-answered (Err r) out = puts (out, 0) (refused_line (number_of r))
+unfoldable pub answered : Result ℕ ℕ → List ℕ → Buf
+answered (Ok size) out = (out, size)
+answered (Err n) out = puts (out, 0) (refused_line n)
+
+-- an answer whose refusal is told by its number
+unfoldable pub numbered : Result ℕ Refusal → Result ℕ ℕ
+numbered (Ok size) = Ok size
+numbered (Err r) = Err (number_of r)
 
 -- with so much room lent for each part of a table's output
 module _ (room : ℕ) (cells : List ℕ) where

@@ -26,7 +26,7 @@ ghost use Rattle.printing.specs.Parts.{part_text};
 use block::SIZE;
 use board::put_board;
 use graph_file::with_graph;
-pub use parts::{put_answer, put_refused};
+pub use parts::{numbered, put_answer, put_refused};
 use parts::{put_listing, put_summary};
 use resolution::{Figures, Found, counted, query_count};
 use text_field::Refusal;
@@ -59,7 +59,7 @@ fn print_refused(text: &[u8], sent: usize, r: Refusal) -> usize
     ensures answer { result ≡ sent + length (refused_line (number_of r)) }
 {
     let mut out = [0u8; LINE];
-    let k = put_refused(&mut out, r);
+    let k = put_refused(&mut out, r.number());
     emit(text, sent, &out[..k])
 }
 

@@ -2,7 +2,6 @@
 ghost use Rattle.std.specs.Prelude.{◌≡◌, ◌<◌, length};
 ghost use Rattle.text_field.specs.Buffer.{Buf, puts};
 ghost use Rattle.text_field.specs.Outcome.{done};
-ghost use Rattle.text_field.specs.Refusal.{number_of};
 ghost use Rattle.graph_rows.specs.Decode.{queries_of};
 ghost use Rattle.graph_file.specs.File.{WasRead};
 ghost use Rattle.board.specs.Made.{Made};
@@ -11,7 +10,7 @@ ghost use Rattle.resolution.specs.Listing.{found_for, listing_of};
 ghost use Rattle.resolution.specs.Asked.{found_meaning};
 ghost use Rattle.resolution.specs.Figures.{Few, figures_text};
 ghost use Rattle.printing.specs.Printed.{refused_line, in_place};
-ghost use Rattle.printing.specs.Parts.{answered};
+ghost use Rattle.printing.specs.Parts.{answered, numbered};
 
 use block::SIZE;
 use resolution::{Figures, Found, listing_on, summary_by};
@@ -24,24 +23,34 @@ pub struct Part {
     pub found: Found,
 }
 
-// The line `refused N`, by the refusal's number.
-pub fn put_refused(out: &mut [u8], r: Refusal) -> usize
-    ensures written { ◌≡◌ {A = Buf} (out.new, result) (puts (out.old, 0) (refused_line (number_of r))) }
+// The line `refused N`.
+pub fn put_refused(out: &mut [u8], n: u64) -> usize
+    ensures written { ◌≡◌ {A = Buf} (out.new, result) (puts (out.old, 0) (refused_line n)) }
 {
     let mut to = Writer::new(out);
     to.put_bytes(b"refused ");
-    to.put_number(r.number());
+    to.put_number(n);
     to.put(b'\n');
     to.end()
 }
 
 // What was written stays; for a refusal its line is put in its place.
-pub fn put_answer(out: &mut [u8], a: Result<usize, Refusal>) -> usize
+pub fn put_answer(out: &mut [u8], a: Result<usize, u64>) -> usize
     ensures written { ◌≡◌ {A = Buf} (out.new, result) (answered a out.old) }
 {
     match a {
-        Ok(n) => n,
-        Err(r) => put_refused(out, r),
+        Ok(size) => size,
+        Err(n) => put_refused(out, n),
+    }
+}
+
+// An answer whose refusal is told by its number.
+pub fn numbered(a: Result<usize, Refusal>) -> Result<usize, u64>
+    ensures answer { result ≡ numbered a }
+{
+    match a {
+        Ok(size) => Ok(size),
+        Err(r) => Err(r.number()),
     }
 }
 
@@ -55,7 +64,7 @@ pub fn put_listing(table: &[u64], block: &[u64; SIZE], i: usize, out: &mut [u8])
 {
     let l = listing_on(table, block, i, out);
     Part {
-        size: put_answer(out, l.answer),
+        size: put_answer(out, numbered(l.answer)),
         found: l.found,
     }
 }
@@ -66,5 +75,5 @@ pub fn put_summary(c: Figures, out: &mut [u8]) -> usize
     ensures written { ◌≡◌ {A = Buf} (out.new, result) (puts (out.old, 0) (in_place (length out.old) (done (figures_text c)))) }
 {
     let a = summary_by(c, out);
-    put_answer(out, a)
+    put_answer(out, numbered(a))
 }

@@ -7,7 +7,7 @@ mod refusal;
 mod writer;
 
 ghost use Rattle.std.specs.Prelude.{◌≡◌, ◌≤◌, ◌&&◌, ◌+◌, ◌-◌, ◌*◌, ◌/◌, ◌%◌, length, get_or, drop};
-ghost use Rattle.text_field.specs.Bytes.{is_digit, is_capital, is_lower, is_name_byte};
+ghost use Rattle.text_field.specs.Bytes.{within, is_digit, is_capital, is_lower, is_name_byte};
 ghost use Rattle.text_field.specs.Number.{number_text, growing, digits_from, number_here, number_placed};
 ghost use Rattle.text_field.specs.Name.{pack_high, pack_low, name_text, is_name_cells, name_run, name_here, name_placed};
 ghost use Rattle.text_field.specs.Buffer.{Buf, put, puts};
@@ -33,6 +33,14 @@ pub fn get_or<T: Copy>(items: &[T], i: usize, otherwise: T) -> T
     ensures answer { result ≡ get_or items.now i otherwise }
 {
     items.get(i).copied().unwrap_or(otherwise)
+}
+
+// Does the byte lie between two others, or is it one of them?
+#[tactic(auto, unfolding(crate::specs::Bytes::within))]
+pub fn in_range(low: u8, high: u8, b: u8) -> bool
+    ensures answer { result ≡ within low high b }
+{
+    low <= b && b <= high
 }
 
 #[tactic(auto, unfolding(crate::specs::Bytes::is_digit, crate::specs::Bytes::within))]

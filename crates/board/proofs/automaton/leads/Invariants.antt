@@ -5,4 +5,4 @@ use Rattle.block.specs.Block.{next_cell}
 use Rattle.board.proofs.automaton.leads.Given as goal
 
 abbrev pub invariant-loop-l : goal.invariant-loop-l
-invariant-loop-l l = any_below (λ k. has_state l.set (next_cell l.block l.q k)) l.l ≡ any_below (λ k. has_state l.set (next_cell l.block l.q k)) 8
+invariant-loop-l l = any_below (λ k. has_state l.set (next_cell l.delta l.q k)) l.l ≡ any_below (λ k. has_state l.set (next_cell l.delta l.q k)) 8

@@ -1,8 +1,9 @@
 -- `gym::replies::put_judged` puts the line of what `judge_text` answers. Assumes nothing.
+use native.Mathlib.Omega.{arith}
 use borrow.Author.Rules.{rules}
 use Rattle.judge.specs.Judge.{meaning}
 use Rattle.gym.specs.Said.{standing_name}
-use Rattle.gym.proofs.ReplyLaws.{judge_replied, line_replied, refused_replied}
+use Rattle.gym.proofs.ReplyLaws.{refused_by, judge_replied, line_replied, refused_replied}
 use Rattle.gym.proofs.replies.put_judged.Goals as goal
 
 pub returns-in-Ok : goal.returns-in-Ok
@@ -16,5 +17,5 @@ pub returns-in-Err : goal.returns-in-Err
 unfolding meaning
 returns-in-Err c = record {
   written = judge_replied _ _ _ c.args.text.now c.args.query c.args.row.now _ c.judge_text.ensures.answer.answer
-      (refused_replied standing_name (meaning c.judge_text.result.answer) _ _ _ c.in-Err.r (search rules) c.put_refused.ensures.written);
+      (refused_replied standing_name (meaning c.judge_text.result.answer) _ _ _ c.number.result (omega arith) (refused_by c.number.ensures.answer (search rules)) c.put_refused.ensures.written);
 }

@@ -7,7 +7,7 @@ use lib.ListN.{length, replicate, length-replicate}
 use Rattle.text_field.specs.Outcome.{Outcome}
 use Rattle.renumbering.specs.Renumbering.{Renumbering, renumber_of, room_for, file_of}
 use Rattle.renumbering.specs.Alone.{file_size}
-use Rattle.renumbering.proofs.AloneLaws.{file_answered}
+use Rattle.renumbering.proofs.AloneLaws.{file_answered, size_answered}
 use Rattle.printing.specs.Printed.{in_place}
 use Rattle.gym.specs.Said.{reply_room}
 use Rattle.gym.specs.Handed.{Replied}
@@ -20,6 +20,6 @@ returns c = record {
       subst (λ (o : Outcome Renumbering). Replied c.args.out.now c.put_made.new.out c.put_made.result (in_place reply_room (file_of o)))
       (room_enough c.args.text.now (length c.args.out.now) made (omega (arith, c.requires.room)) (omega (arith, length-replicate {A = ℕ} 256 0)))
       (c.put_made.ensures.written (file_of (room_for (length c.args.out.now) made (renumber_of c.args.text.now))) c.args.out.now c.requires.room
-      (c.file_answer.ensures.answer ∙ ap file_size c.renumber.ensures.answer ∙ file_answered (renumber_of c.args.text.now) (length c.args.out.now) made)
+      (size_answered file_size _ _ c.file_answer.ensures.answer ∙ ap file_size c.renumber.ensures.answer ∙ file_answered (renumber_of c.args.text.now) (length c.args.out.now) made)
       c.renumber.ensures.file);
 }

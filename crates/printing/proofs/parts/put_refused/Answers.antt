@@ -9,4 +9,4 @@ unfolding refused_line
 returns c =
     let w = c.put_bytes.ensures.wrote then c.put_number.ensures.wrote then c.put.ensures.wrote
     in let m = written _ _ _ _ c.new-to.ensures.starts w
-    in record { written = rw (← c.number.ensures.answer) (search (rules, w.same, m)) }
+    in record { written = search (rules, w.same, m) }

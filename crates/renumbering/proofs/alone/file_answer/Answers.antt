@@ -7,4 +7,4 @@ use Rattle.renumbering.proofs.alone.file_answer.Goals as goal
 
 pub returns : goal.returns
 unfolding file_size
-returns c = record { answer = one_alone (λ (s : ℕ × ℕ). s.0) c.args.sizes c.map.result _ (λ s n h. search rules) c.map.ensures.cases }
+returns g c = record { answer = λ number. one_alone number (λ (s : ℕ × ℕ). s.0) c.args.sizes c.map.result _ (λ s n h. search rules) c.map.ensures.cases }
