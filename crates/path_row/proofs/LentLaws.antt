@@ -7,8 +7,10 @@ use lib.ListN.{length, get_or, set, take, drop}
 use lib.Seq.{drop-cons, set_at, take-suc, take_all, append_snoc, length-take-le}
 use Rattle.text_field.specs.Outcome.{Outcome, refused, done}
 use Rattle.path_row.specs.declared.form.Step.{Step}
-use Rattle.path_row.specs.Form.{PathRow, row_here, no_step}
+use Rattle.path_row.specs.declared.taken.Steps.{Steps}
+use Rattle.path_row.specs.Form.{PathRow, row_here, no_step, steps_taken, steps_at_hand}
 use Rattle.path_row.specs.Lent.{row_steps, overlaid, steps_left, steps_lent}
+use Rattle.path_row.proofs.TakenLaws.{taken_length, at_hand_few, at_hand_first}
 
 -- the first n records are the first n of the steps, as `fill` puts them one by one
 abbrev pub filled : List Step → ℕ → List Step → List Step
@@ -27,6 +29,14 @@ filled_part ss lent (suc k) h g =
 pub filled_all : (ss lent : List Step) (n : ℕ) → length ss ≡ n → n ≤ length lent → filled ss n lent ≡ overlaid ss lent
 unfolding overlaid
 filled_all ss lent n e h = filled_part ss lent n (omega (arith, e)) h ∙ rw (← e) (ap (λ (l : List Step). l ++ drop (length ss) lent) (take_all (length ss) ss (omega arith)))
+
+-- the steps at hand are put first, all at once
+pub filled_first : (t : Steps) (lent : List Step) → t.count ≤ length lent → steps_at_hand t ++ drop (length (steps_at_hand t)) lent ≡ filled (steps_taken t) (length (steps_at_hand t)) lent
+filled_first t lent h =
+    let few = at_hand_few t in
+    sym
+    (filled_part (steps_taken t) lent (length (steps_at_hand t)) (omega (arith, taken_length t)) (omega arith)
+    ∙ ap (λ (l : List Step). l ++ drop (length (steps_at_hand t)) lent) (at_hand_first t))
 
 -- the steps that a call hands out leave the table as it should be
 pub left_lent : {A : Type 0} (o : Outcome A) (row : List ℕ) (lent : List Step) → overlaid (steps_lent o row) lent ≡ steps_left o row lent

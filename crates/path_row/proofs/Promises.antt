@@ -21,10 +21,10 @@ use Rattle.scope_graph.proofs.Nodes.{hops_at_elim, hops_at_intro}
 use Rattle.path_row.specs.declared.form.Step.{Step}
 use Rattle.path_row.specs.Form.{behind_front, first_step, letters_in, scopes_in}
 use Rattle.path_row.specs.Numbering.{label_number, hop_of, hop_in, path_of}
-use Rattle.path_row.specs.Promises.{FirstSteps, Numbers, LettersNumbered, TurnsLookedUp, TurnOfRow, HeldAreTaken}
+use Rattle.path_row.specs.Promises.{FirstSteps, Numbers, LettersNumbered, TurnsLookedUp, TurnOfRow, HeldAreTaken, HeldAreAtHand}
 use Rattle.path_row.proofs.FormLaws.{head_found}
 use Rattle.path_row.proofs.RowReads.{steps_first}
-use Rattle.path_row.proofs.TakenLaws.{taken_held}
+use Rattle.path_row.proofs.TakenLaws.{taken_held, at_hand_held}
 use Rattle.path_row.proofs.NumberingLaws.{number_tells, number_beyond, number_within}
 use Rattle.path_row.proofs.TurnLaws.{turn_none, turn_is, turn_found, never_later, never_earlier}
 
@@ -124,3 +124,6 @@ turn_of_row text cells e = of_row cells (read_accepted text cells e)
 
 pub held_are_taken : HeldAreTaken
 held_are_taken = taken_held
+
+pub held_are_at_hand : HeldAreAtHand
+held_are_at_hand = at_hand_held

@@ -99,6 +99,20 @@ module _ (r : PathRow) (t : Bool) (e : t ≡ is_row r) where
   unfolding row_outcome refuse_if
   written_all f = rw (← e, f)
 
+-- a mark past its limit makes no row
+pub mark_written : (mark start count : ℕ) (ls ss : List ℕ) → 65535 < mark → row_written mark start count ls ss ≡ refused 8
+unfolding row_written row_made row_outcome refuse_if is_row
+mark_written mark start count ls ss h = rw (lt-leb mark 65535 h)
+
+-- nor does a start
+pub start_written : (mark start count : ℕ) (ls ss : List ℕ) → 63 < start → row_written mark start count ls ss ≡ refused 8
+unfolding row_written row_made row_outcome refuse_if is_row
+start_written mark start count ls ss h = rw (lt-leb start 63 h) (no_row (leb mark 65535) (leb (length (steps_made count ls ss)) 63))
+  where
+    no_row : (a b : Bool) → refuse_if (not (a && (false && (b && are_steps (steps_made count ls ss))))) 8 (done (row_text (row_of mark start (steps_made count ls ss)))) ≡ refused 8
+    no_row true b = refl
+    no_row false b = refl
+
 -- too many steps make no row
 pub many_written : (mark start count : ℕ) (ls ss : List ℕ) → 63 < count → row_written mark start count ls ss ≡ refused 8
 unfolding row_written row_made row_outcome refuse_if is_row

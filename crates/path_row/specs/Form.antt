@@ -199,10 +199,15 @@ letters_in steps = map (λ (s : Step). s.label) steps
 abbrev pub scopes_in : List Step → List ℕ
 scopes_in steps = map (λ (s : Step). s.scope) steps
 
--- The steps that a value of the code's `Steps` holds: as many as it counts. A row is judged and
--- compared by such a value, and the lent table gets its steps from the same one (01, "Paths").
+-- The steps that a value of the code's `Steps` holds: as many as it counts, and past those that
+-- stand in it steps of zeros. A row is judged and compared by such a value, and the lent table gets
+-- its steps from the same one (01, "Paths").
 unfoldable pub steps_taken : Steps → List Step
-steps_taken t = take t.count t.steps
+steps_taken t = take t.count (t.steps ++ replicate t.count no_step)
+
+-- Those of them that stand in it: as many as it counts, or all where it counts more.
+unfoldable pub steps_at_hand : Steps → List Step
+steps_at_hand t = take t.count t.steps
 
 -- The one value that is made of steps, 63 at most: the steps, steps of zeros behind them, and their
 -- number.

@@ -10,7 +10,7 @@ use Rattle.graph_rows.specs.Decode.{letters_of, rules_of, graph_of}
 use Rattle.scope_graph.specs.Language.{◌∈◌, End, by}
 use Rattle.scope_graph.specs.Turns.{Turned}
 use Rattle.scope_graph.specs.Rows.{language}
-use Rattle.path_row.specs.Form.{PathRow, Front, most_steps, steps_of, head_here, first_step, steps_in, letters_in, scopes_in, steps_taken, steps_held}
+use Rattle.path_row.specs.Form.{PathRow, Front, most_steps, steps_of, head_here, first_step, steps_in, letters_in, scopes_in, steps_taken, steps_at_hand, steps_held}
 use Rattle.path_row.specs.Numbering.{label_number, hop_in, path_in}
 use Rattle.path_row.specs.declared.form.Step.{Step}
 
@@ -59,3 +59,7 @@ TurnOfRow = (text cells : List ℕ) → read_cells text ≡ done cells → (s : 
 -- what is held of steps is those steps again
 abbrev pub HeldAreTaken : Type 0
 HeldAreTaken = (steps : List Step) → steps_taken (steps_held steps) ≡ steps
+
+-- and all of them are at hand: those that a row is judged and compared by
+abbrev pub HeldAreAtHand : Type 0
+HeldAreAtHand = (steps : List Step) → steps_at_hand (steps_held steps) ≡ steps

@@ -1,7 +1,7 @@
 // A path row's steps as one value. A call takes them from the row's text once; by that value the
 // row is judged or compared, and the same value fills the lent table.
 ghost use Rattle.std.specs.Prelude.{◌≡◌, get_or, []};
-ghost use Rattle.path_row.specs.Form.{steps_in, no_step, steps_taken, steps_held};
+ghost use Rattle.path_row.specs.Form.{steps_in, no_step, steps_taken, steps_at_hand, steps_held};
 
 use crate::form::{MOST_STEPS, Step, first_step, next_step};
 use text_field::get_or;
@@ -14,9 +14,9 @@ pub struct Steps {
 }
 
 impl Steps {
-    // The steps, as many as are counted.
+    // The steps that stand here: as many as are counted, 63 at most.
     pub fn as_slice(&self) -> &[Step]
-        ensures answer { result.now ≡ steps_taken self.now }
+        ensures answer { result.now ≡ steps_at_hand self.now }
     {
         &self.steps[..self.count.min(MOST_STEPS)]
     }

@@ -73,7 +73,7 @@ fn write_steps(mark: u64, start: u64, steps: &[Step], out: &mut [u8]) -> Result<
     if out.len() < n {
         return Err(Refusal::NoRoom);
     }
-    put_row(&mut Writer::new(out), mark, start, steps);
+    put_row(&mut Writer::at(out, 0), mark, start, steps);
     Ok(n)
 }
 
@@ -107,7 +107,7 @@ pub fn write_row(
     ensures memory { out.new
         ≡ leaves (row_written mark start count letters.now scopes.now) out.old }
 {
-    if MOST_STEPS < count {
+    if MOST_MARK < mark || MOST_SCOPE < start || MOST_STEPS < count {
         return Err(Refusal::NoPathRow);
     }
     let steps = steps_made(count, letters, scopes);

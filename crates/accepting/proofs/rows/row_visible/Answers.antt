@@ -1,5 +1,7 @@
 -- `row_visible` meets its contract: the row is taken apart and judged. Assumes nothing.
+use mathlib.Core.Path.{◌∙◌}
 use Rattle.path_row.proofs.RowReads.{row_is_refused}
+use Rattle.path_row.proofs.TakenLaws.{at_hand_all}
 use Rattle.judge.proofs.Calls.{row_read}
 use Rattle.accepting.proofs.RowTests.{text_none, text_judged}
 use Rattle.accepting.proofs.rows.row_visible.Goals as goal
@@ -11,4 +13,4 @@ pub standing-requires : goal.standing-requires
 standing-requires c = record { asked = c.requires.asked; made = c.requires.made }
 
 pub returns : goal.returns
-returns c = record { answer = text_judged c.args.table.now c.args.q c.args.row.now _ _ _ (row_read c.args.row.now _ c.read_row.ensures.answer _ _ _ c.in-Some.is) _ c.steps_of.ensures.answer _ c.as_slice.ensures.answer _ c.standing.ensures.answer _ c.is_visible.ensures.answer }
+returns c = record { answer = text_judged c.args.table.now c.args.q c.args.row.now _ _ _ (row_read c.args.row.now _ c.read_row.ensures.answer _ _ _ c.in-Some.is) _ c.steps_of.ensures.answer _ (c.as_slice.ensures.answer ∙ at_hand_all _ _ c.steps_of.ensures.answer) _ c.standing.ensures.answer _ c.is_visible.ensures.answer }

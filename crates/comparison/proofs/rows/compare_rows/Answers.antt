@@ -1,6 +1,7 @@
 -- `compare_rows` meets its contract, test by test. Assumes nothing.
 use Rattle.text_field.specs.Refusal.{number_of}
 use Rattle.path_row.proofs.RowReads.{row_is_refused, row_is}
+use Rattle.path_row.proofs.TakenLaws.{at_hand_all}
 use Rattle.comparison.specs.Compare.{compare_rows}
 use Rattle.comparison.proofs.RowLaws.{first_bad, second_bad, first_over, second_over, fits}
 use Rattle.comparison.proofs.LentLaws.{hands_none, hands_all}
@@ -32,4 +33,4 @@ pub returns : goal.returns
 returns c =
     let p = row_is c.args.a.now c.read_row.result c.read_row.ensures.answer _ _ _ c.in-Some.is in
     let q = row_is c.args.b.now c.read_row-2.result c.read_row-2.ensures.answer _ _ _ c.in-Some-read_row.is in
-    record { answer = hands_all c.args.cells.now c.args.a.now c.args.b.now (compare_rows c.args.cells.now c.args.a.now c.args.b.now c.args.n c.args.m) _ _ _ p _ _ _ q (fits c.args.cells.now c.args.a.now c.args.b.now c.args.n c.args.m _ _ _ p _ _ _ q c.if-n-count.false c.if-m-more.false) _ _ c.steps_of-first.ensures.answer c.steps_of-second.ensures.answer _ (rw (c.as_slice.ensures.answer, c.as_slice-2.ensures.answer) at c.compare_steps-compared.ensures.answer) }
+    record { answer = hands_all c.args.cells.now c.args.a.now c.args.b.now (compare_rows c.args.cells.now c.args.a.now c.args.b.now c.args.n c.args.m) _ _ _ p _ _ _ q (fits c.args.cells.now c.args.a.now c.args.b.now c.args.n c.args.m _ _ _ p _ _ _ q c.if-n-count.false c.if-m-more.false) _ _ c.steps_of-first.ensures.answer c.steps_of-second.ensures.answer _ (rw (c.as_slice.ensures.answer, at_hand_all _ _ c.steps_of-first.ensures.answer, c.as_slice-2.ensures.answer, at_hand_all _ _ c.steps_of-second.ensures.answer) at c.compare_steps-compared.ensures.answer) }

@@ -3,6 +3,7 @@ use mathlib.Core.Path.{refl}
 use native.Mathlib.Omega.{arith}
 use Rattle.text_field.specs.Refusal.{number_of}
 use Rattle.path_row.proofs.RowReads.{row_is_refused}
+use Rattle.path_row.proofs.TakenLaws.{at_hand_all}
 use Rattle.board.proofs.Queries.{query_whole, query_asked_lem}
 use Rattle.judge.specs.Judge.{judge_of}
 use Rattle.judge.proofs.LentLaws.{hands_none}
@@ -34,4 +35,4 @@ pub standing-judged-requires : goal.standing-judged-requires
 standing-judged-requires c = record { asked = query_asked_lem c.args.table.now c.requires.read _ c.part-queries.ensures.answer c.args.query _ c.row_count.ensures.answer c.if-row_count-query.false _ _ refl c.query_row-sought.ensures.answer; made = c.requires.made }
 
 pub returns : goal.returns
-returns c = record { answer = judges c.args.table.now c.requires.read _ c.args.query _ c.part-queries.ensures.answer c.row_count.ensures.answer c.args.row.now c.args.room c.if-row_count-query.false c.in-Some.mark c.in-Some.from c.in-Some.count (row_read c.args.row.now _ c.read_row.ensures.answer _ _ _ c.in-Some.is) c.if-room-count.false _ _ refl c.query_row-sought.ensures.answer _ c.steps_of-steps.ensures.answer _ (rw c.as_slice.ensures.answer at c.standing-judged.ensures.answer) }
+returns c = record { answer = judges c.args.table.now c.requires.read _ c.args.query _ c.part-queries.ensures.answer c.row_count.ensures.answer c.args.row.now c.args.room c.if-row_count-query.false c.in-Some.mark c.in-Some.from c.in-Some.count (row_read c.args.row.now _ c.read_row.ensures.answer _ _ _ c.in-Some.is) c.if-room-count.false _ _ refl c.query_row-sought.ensures.answer _ c.steps_of-steps.ensures.answer _ (rw (c.as_slice.ensures.answer, at_hand_all _ _ c.steps_of-steps.ensures.answer) at c.standing-judged.ensures.answer) }

@@ -1,10 +1,11 @@
 -- `path_row::writer::steps_made` meets its contract. The loop's invariant: the steps made, and those
 -- that are left, make the whole. Assumes nothing.
-use mathlib.Core.Path.{◌≡◌, ◌∙◌, ap}
+use mathlib.Core.Path.{◌≡◌, sym, ◌∙◌, ap}
 use native.Mathlib.Omega.{arith}
 use lib.ListN.{length, length-set}
 use Rattle.path_row.specs.declared.taken.Steps.{Steps}
-use Rattle.path_row.specs.Form.{steps_taken, padded}
+use Rattle.path_row.specs.Form.{steps_at_hand, padded}
+use Rattle.path_row.proofs.TakenLaws.{at_hand_taken}
 use Rattle.path_row.proofs.WriterLaws.{steps_first, made_more, made_all}
 use Rattle.path_row.proofs.writer.steps_made.Goals as goal
 
@@ -22,7 +23,7 @@ loop-i-preserved c = record {
 }
 
 pub returns : goal.returns
-unfolding steps_taken
+unfolding steps_at_hand
 returns c =
     let all : c.loop-i.i ≡ c.args.count = omega arith in
-    record { answer = made_all c.args.letters.now c.args.scopes.now c.args.count c.loop-i.steps _ (rw all at c.loop-i.invariant.makes) }
+    record { answer = sym (at_hand_taken (record { steps = c.loop-i.steps; count = c.args.count }) (omega (arith, c.loop-i.invariant.room))) ∙ made_all c.args.letters.now c.args.scopes.now c.args.count c.loop-i.steps _ (rw all at c.loop-i.invariant.makes) }

@@ -23,13 +23,15 @@ returns-then-out-n c =
     let e = written_all _ _ c.is_row.ensures.answer c.if-not-is_row.false in
     record { answer = answer_short _ _ e (length c.args.out.now) (omega (arith, c.row_len-n.ensures.answer)); memory = leaves_short _ _ e c.args.out.now (omega (arith, c.row_len-n.ensures.answer)) }
 
-pub returns : goal.returns
+pub returns-clause-answer : goal.returns-clause-answer
 unfolding answer_of
-returns c =
+returns-clause-answer c =
     let e = written_all _ _ c.is_row.ensures.answer c.if-not-is_row.false in
-    let m = written _ _ _ _ c.new.ensures.starts c.put_row.ensures.wrote in
+    answer_fits _ _ e (length c.args.out.now) c.row_len-n.result (sym c.row_len-n.ensures.answer) c.if-out-n.false
+
+pub returns-clause-memory : goal.returns-clause-memory
+returns-clause-memory c =
+    let e = written_all _ _ c.is_row.ensures.answer c.if-not-is_row.false in
+    let m = written _ _ _ _ c.at.ensures.starts c.put_row.ensures.wrote in
     let k = leaves_fits _ _ e c.args.out.now c.put_row.new.to.out.now c.put_row.new.to.end (omega (arith, c.row_len-n.ensures.answer)) m in
-    record {
-      answer = answer_fits _ _ e (length c.args.out.now) c.row_len-n.result (sym c.row_len-n.ensures.answer) c.if-out-n.false;
-      memory = search (rules, c.put_row.ensures.wrote.same, k);
-    }
+    search (rules, c.put_row.ensures.wrote.same, k)
