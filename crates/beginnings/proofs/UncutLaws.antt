@@ -7,7 +7,7 @@ use mathlib.Core.Bool.{Bool, true, false, ◌&&◌, and-false, false≢true}
 use mathlib.Core.Option.{Option, some, none}
 use mathlib.Core.List.{List}
 use native.Mathlib.Omega.{arith}
-use borrow.Author.Tests.{ltb-true, ltb-false}
+use borrow.Author.Tests.{ltb-true, ltb-false, eqb-true, eqb-false}
 use lib.Dec.{eqb, ltb}
 use lib.ListN.{get_or, take, drop, length, length-drop}
 use lib.Seq.{length-take-le}
@@ -37,6 +37,11 @@ unordered_at block c h e a = sym (better_is block c h a) ∙ ap (λ (x : ℕ). h
 
 abbrev pub UnorderedTo : List ℕ → ℕ → Type 0
 UnorderedTo block k = (a c : ℕ) → c < k → pair_flag block a c ≡ false
+
+pub unordered_more : (block : List ℕ) (k : ℕ) → k < 9 → get_or block (BETTER + k) 0 % 512 ≡ 0 → UnorderedTo block k → UnorderedTo block (k + 1)
+unordered_more block k h e so a c m =
+    ⊎_elim (λ y. let is : c ≡ k = eqb-true c k y in rw is (unordered_at block k h e a))
+    (λ y. let other : c ≡ k → ⊥ = eqb-false c k y in so a c (omega arith)) (Two (eqb c k))
 
 pub unordered_all : (block : List ℕ) (k : ℕ) → 9 ≤ k → UnorderedTo block k → (a c : ℕ) → pair_flag block a c ≡ false
 unordered_all block k h so a c =

@@ -9,7 +9,7 @@ use native.Mathlib.Omega.{arith}
 use native.Mathlib.Numerals.{add-one}
 use borrow.Author.Tests.{ltb-true, ltb-false}
 use lib.Dec.{ltb}
-use lib.ListN.{length, get_or, set, take, drop}
+use lib.ListN.{length, get_or, set, take, drop, length-set}
 use lib.Seq.{get_or-set_same, get_or-set_other}
 use Rattle.scope_graph.specs.Path.{HopOf}
 use Rattle.scope_graph.specs.Turns.{Turned}
@@ -213,6 +213,9 @@ module _ (rows old block : List ℕ) (s k : ℕ) (so : Upto rows old block s k) 
       omega arith)
       (λ (m : k ≤ j). let less = own j m h in omega arith)
       (below_or j k)
+
+pub upto_size : {rows new : List ℕ} {s k : ℕ} (block : List ℕ) → Upto rows (set block FIRST 0) new s k → length new ≡ length block
+upto_size block so = so.only.size ∙ length-set block FIRST 0
 
 -- a cell's turn, where none of the cells is above `top`
 turn_below : (x top : ℕ) → x ≤ top → turn_of x ≤ top / 512

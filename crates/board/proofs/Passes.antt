@@ -4,6 +4,7 @@ use Prim.Native.Nat.{ℕ, zero, suc, ◌+◌, ◌-◌, ◌*◌, ◌/◌, ◌%◌
 use mathlib.Core.Path.{◌≡◌, refl, sym, ap, ◌∙◌}
 use mathlib.Core.Bool.{Bool, true, false, ◌&&◌, ◌||◌}
 use mathlib.Core.Option.{some}
+use Rattle.std.specs.declared.option.Option.{Option}
 use Rattle.std.specs.declared.option.Option.TheVariants.{Some, None}
 use Rattle.std.proofs.lemmas.Option.{none-some, same_Some}
 use mathlib.Core.List.{List, map}
@@ -17,6 +18,8 @@ use lib.Seq.{get_or-set_same, get_or-set_other}
 use borrow.Author.Tests.{lt-ltb, le-ltb, eq-eqb, ne_eqb, eqb-true, eqb-false}
 use Rattle.scope_graph.specs.Rows.{OrderPair, same_end, any_of, preferred_by, next_by}
 use Rattle.scope_graph.specs.Order.{end_of}
+use Rattle.scope_graph.specs.declared.End.{End}
+use Rattle.scope_graph.specs.declared.End.TheVariants.{Stop, Label}
 use Rattle.scope_graph.proofs.Lists.{Two, and_left, and_right, not_true}
 use Rattle.graph_rows.specs.Admission.{Row, value, row_of}
 use Rattle.graph_rows.specs.Decode.{order_pair_of, transition_of}
@@ -121,6 +124,21 @@ better_none rows = record {
   size = length-replicate {A = ℕ} 9 0;
   each = λ a c h k. rw (get_or-replicate {A = ℕ} 9 c 0 0 k, bits_none a);
 }
+
+-- the place of an end, by the end's cases
+module _ (e : End) where
+  pub end_stop : e ≡ Stop → Some 0 ≡ end_place e
+  unfolding end_place
+  end_stop is = rw is
+
+  module _ (l : ℕ) (t : Option ℕ) (is : e ≡ Label l t) where
+    pub end_none : 8 ≤ l → None ≡ end_place e
+    unfolding end_place
+    end_none h = rw (is, le-ltb l 8 h, end_place)
+
+    pub end_label : l < 8 → Some (l + 1) ≡ end_place e
+    unfolding end_place
+    end_label h = rw (is, lt-ltb l 8 h, end_place, add-one l)
 
 -- an end's place is its cell, if that is one of the nine; else it has none
 end_in : (cell : ℕ) → cell < 9 → end_place (row_end cell) ≡ Some cell

@@ -2,14 +2,14 @@
 -- says whether the test holds of it. Assumes nothing.
 use Prim.Native.Nat.{ℕ, zero, suc, ◌+◌, ◌-◌, ◌*◌, ◌/◌, ◌%◌, ◌^◌, ◌≤◌, ◌<◌}
 use mathlib.Core.Path.{◌≡◌, refl, sym, ap, ◌∙◌}
-use mathlib.Core.Bool.{Bool, true, false}
+use mathlib.Core.Bool.{Bool, true, false, false≢true}
 use mathlib.Core.Logic.{⊎_elim}
 use native.Mathlib.Omega.{arith}
 use native.Mathlib.Numerals.{add-one}
 use native.Mathlib.Nat.{pow-suc, one-mul, zero-mul, add_comm, mul_assoc, add-mul-div_right, mul-add-mod_self_right, div-eq_of_lt, lt_of_lt_of_le}
 use lib.Bits.{bit_and, bit_or, and_comm, and_shifted, or_disjoint}
 use lib.Dec.{eqb}
-use lib.Pow.{pow_pos, pow-add, pow_mono, high}
+use lib.Pow.{pow_pos, pow-add, pow_mono, high, shl_exact}
 use Rattle.block.specs.Sets.{has_bit, has_state}
 use Rattle.block.proofs.SetLaws.{one_shifted, state_in}
 use Rattle.board.specs.Tables.{bit_if, states_below}
@@ -83,6 +83,17 @@ states_at f (suc n) q h =
 pub states_past : (f : ℕ → Bool) (n q : ℕ) → n ≤ q → states_below f n / 2 ^ q % 2 ≡ 0
 states_past f n q h = ap (λ (v : ℕ). v % 2) (div-eq_of_lt (lt_of_lt_of_le (states_lt f n) (pow_mono h)))
 
+-- the bit that the code makes, if the test holds
+pub bit_so : (b : Bool) (q : ℕ) → q < 16 → b ≡ true → 1 * 2 ^ q % 18446744073709551616 ≡ bit_if b q
+unfolding bit_if
+bit_so true q h e = shl_exact {a = 1} 1 q 64 (omega arith) (omega arith) ∙ one-mul (2 ^ q)
+bit_so false q h e = absurd (false≢true e)
+
+pub bit_none : (b : Bool) (q : ℕ) → b ≡ false → 0 ≡ bit_if b q
+unfolding bit_if
+bit_none true q e = absurd (false≢true (sym e))
+bit_none false q e = refl
+
 -- a set whose states below q are gathered
 pub record Gathered (f : ℕ → Bool) (q out : ℕ) : Type 0 where
   pub within : q ≤ 16
@@ -92,9 +103,18 @@ pub gathered_none : (f : ℕ → Bool) → Gathered f 0 0
 unfolding states_below
 gathered_none f = record { within = omega arith; states = refl }
 
-gathered_next : (f : ℕ → Bool) (q out v : ℕ) → Gathered f q out → q < 16 → v ≡ bit_if (f q) q → Gathered f (q + 1) (out + v)
+pub gathered_next : (f : ℕ → Bool) (q out v : ℕ) → Gathered f q out → q < 16 → v ≡ bit_if (f q) q → Gathered f (q + 1) (out + v)
 unfolding states_below
 gathered_next f q out v g h e = record { within = omega arith; states = rw (add-one q, g.states, e) }
+
+-- it has 16 bits, so nothing overflows
+pub gathered_few : (f : ℕ → Bool) (q out v : ℕ) → Gathered f q out → q < 16 → v ≡ bit_if (f q) q → out + v < 65536
+gathered_few f q out v g h e =
+    let n = gathered_next f q out v g h e in
+    let l = states_lt f (q + 1) in
+    let s = n.states in
+    let m : 2 ^ (q + 1) ≤ 65536 = pow_mono {i = q + 1} {j = 16} (omega arith) in
+    omega arith
 
 -- a state's bit stands above those below it, so that it is added as it is put
 or_last : (f : ℕ → Bool) (q : ℕ) → bit_or (states_below f q) (2 ^ q) ≡ states_below f q + 2 ^ q

@@ -106,7 +106,13 @@ module _ (t : List ℕ) (p : ℕ) where
   among_step : 6 ≤ length t - p → among (drop p t) ≡ (other_here (drop p t) || among (drop (p + 6) t))
   among_step h = among_six (drop p t) (rw (length-drop p t) h) ∙ ap (λ (l : List ℕ). other_here (drop p t) || among l) (drop-drop 6 p t)
 
-  among_end : length t - p < 6 → among (drop p t) ≡ false
+  pub among_hit : 6 ≤ length t - p → other_here (drop p t) ≡ true → among (drop p t) ≡ true
+  among_hit h e = among_six (drop p t) (rw (length-drop p t) h) ∙ rw e
+
+  pub among_next : 6 ≤ length t - p → other_here (drop p t) ≡ false → among (drop (p + 6) t) ≡ among (drop p t)
+  among_next h e = ap among (sym (drop-drop 6 p t)) ∙ sym (among_six (drop p t) (rw (length-drop p t) h) ∙ rw e)
+
+  pub among_end : length t - p < 6 → among (drop p t) ≡ false
   among_end h = among_few (drop p t) (rw (length-drop p t) h)
 
 -- the row of a number, and the rows from there on
@@ -121,7 +127,7 @@ other_from t (suc n) i h =
     ∙ sym (among_step t (6 * i) (omega arith))
 
 -- the rows behind the form are all
-among_all : (t : List ℕ) (p : ℕ) → p ≡ first_row t → among (drop p t) ≡ unshown t
+pub among_all : (t : List ℕ) (p : ℕ) → p ≡ first_row t → among (drop p t) ≡ unshown t
 unfolding among kind_among turn_among unshown other_kinds other_turns rows_in first_row
 among_all [] p e = rw e
 among_all (form ∷ t) p e = rw e

@@ -1,9 +1,10 @@
 -- What the code finds in a table that was read is what the graph has. Assumes nothing.
 use Prim.Native.Nat.{ℕ, zero, suc, ◌+◌, ◌-◌, ◌*◌, ◌/◌, ◌%◌, ◌≤◌, ◌<◌}
 use mathlib.Core.Path.{◌≡◌, refl, sym, ap, ◌∙◌}
-use mathlib.Core.Bool.{Bool, false, not, ◌||◌}
+use mathlib.Core.Bool.{Bool, true, false, not, ◌||◌}
 use mathlib.Core.List.{List, [], ◌∷◌, ◌++◌, map, flat_map}
 use native.Mathlib.Omega.{arith}
+use borrow.Author.Tests.{eq-eqb, ne_eqb}
 use lib.Dec.{eqb}
 use lib.ListN.{length, get_or, drop, length-map, get_or-map, replicate, length-replicate}
 use Rattle.std.specs.List.{list_any, range_with_len}
@@ -47,7 +48,13 @@ module _ (edges : List ℕ) (p : ℕ) (row : EdgeRow) (e : row ≡ edge_row edge
       ap (some_row other_turn) (rows_next edges p h)
       ∙ ap (λ (b : Bool). b || some_row other_turn (rows_of (drop (p + 6) edges))) turn_here
 
-turn_end : (edges : List ℕ) (p : ℕ) → length edges - p < 6 → some_row other_turn (rows_of (drop p edges)) ≡ false
+  pub turn_hit : (row.turn ≡ 0 → ⊥) → some_row other_turn (rows_of (drop p edges)) ≡ true
+  turn_hit n = turn_next ∙ rw (ne_eqb row.turn 0 n)
+
+  pub turn_miss : row.turn ≡ 0 → some_row other_turn (rows_of (drop (p + 6) edges)) ≡ some_row other_turn (rows_of (drop p edges))
+  turn_miss z = sym (turn_next ∙ rw (eq-eqb row.turn 0 z))
+
+pub turn_end : (edges : List ℕ) (p : ℕ) → length edges - p < 6 → some_row other_turn (rows_of (drop p edges)) ≡ false
 unfolding some_row
 turn_end edges p h = ap (some_row other_turn) (rows_none edges p h)
 

@@ -13,12 +13,14 @@ use Rattle.scope_graph.proofs.Lists.{Two}
 use Rattle.scope_graph.specs.Path.{HopOf}
 use Rattle.scope_graph.specs.Turns.{Turned}
 use Rattle.scope_graph.specs.Rows.{PackedName}
+use Rattle.block.specs.Block.{first_declaration, declared_part}
+use Rattle.block.specs.Ask.{ask_name}
 use Rattle.board.specs.Marks.{marks_in}
 use Rattle.board.proofs.MarkLaws.{marks_none, marks_here, marks_pass}
 use Rattle.graph_table.specs.Values.{declaration_row, declares}
 use Rattle.graph_table.specs.declared.rows.DeclarationRow.{DeclarationRow}
 use Rattle.follow.specs.Text.{row_text}
-use Rattle.follow.specs.Walk.{entry_rows}
+use Rattle.follow.specs.Walk.{entry_rows, marks_at}
 
 -- the rows of the entries from cell p on, where `row` stands
 module _
@@ -57,6 +59,14 @@ take_drop (suc n) (suc m) [] = none (suc m - suc n)
     none zero = refl
     none (suc k) = refl
 take_drop (suc n) (suc m) (x ∷ l) = let z : suc m - suc n ≡ m - n = omega arith in rw z (take_drop n m l)
+
+module _ (block table ask : List ℕ) (s from end : ℕ) (starts : from ≡ first_declaration block s) where
+  pub marks_part : take end table ≡ take (first_declaration block (suc s)) table
+      → marks_in (drop from (take end table)) s (ask_name ask) ≡ marks_at block table ask s
+  unfolding marks_at declared_part
+  marks_part e =
+      ap (λ (x : List ℕ). marks_in x s (ask_name ask))
+      (rw (e, starts) (sym (take_drop (first_declaration block s) (first_declaration block (suc s)) table)))
 
 -- a part of the cells whose ends are clipped to where these end
 pub clipped_part : (n m from end : ℕ) (l : List ℕ) → end ≡ min m (length l) → from ≡ min n end → take (end - from) (drop from l) ≡ take (m - n) (drop n l)

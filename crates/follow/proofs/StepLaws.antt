@@ -77,6 +77,22 @@ module _ (block ask onward : List ℕ) (n : Node) (p : ℕ) where
     none = on_none block n.scope p;
   }
 
+-- the step of edge number i, by its cell, as the code asks about it
+pub step_cut_lem : (block ask : List ℕ) (n : Node) (i x goal : ℕ) (cut : Bool) → x ≡ edge_cell block i → goal ≡ ask_goal ask
+    → cut ≡ cut_here (table_board block goal) (table_order block) n.left (has_scope n.free) n.scope n.state (by (hop_of x).step)
+    → end_cut block ask n (by (hop_of (edge_cell block i)).step) ≡ cut
+step_cut_lem block ask n i x goal cut e g says = sym (rw (e, g) at says)
+
+-- the same where all turns are 0: it is cut as its label is
+pub label_cut : (block ask : List ℕ) (n : Node) (i x goal : ℕ) (cut : Bool) → Bounds block → turn_cell block ≡ 0 → x ≡ edge_cell block i → goal ≡ ask_goal ask
+    → cut ≡ cut_here (table_board block goal) (table_order block) n.left (has_scope n.free) n.scope n.state (plain_end (end_of (label_of x + 1)))
+    → end_cut block ask n (by (hop_of (edge_cell block i)).step) ≡ cut
+label_cut block ask n i x goal cut bounds none e g says = step_cut_lem block ask n i x goal cut e g (by_cases cut refl)
+  where
+    by_cases : (b : Bool) → cut ≡ b → cut ≡ cut_here (table_board block goal) (table_order block) n.left (has_scope n.free) n.scope n.state (by (hop_of x).step)
+    by_cases true c = c ∙ sym (step_by_label block goal n x (sym says ∙ c))
+    by_cases false c = c ∙ sym (step_highest block goal n x bounds (omega (arith, none)) (sym says ∙ c))
+
 -- what is learnt by asking about a step's label, where all turns are 0
 pub label_told : (block ask : List ℕ) (n : Node) (x : ℕ) (learnt : Learnt) → Bounds block → turn_cell block ≡ 0 → Known block (ask_goal ask) n learnt.known
     → learnt.cut ≡ cut_here (table_board block (ask_goal ask)) (table_order block) n.left (has_scope n.free) n.scope n.state (plain_end (end_of (label_of x + 1)))

@@ -1,10 +1,10 @@
 -- Laws of reading a line. Assumes nothing.
-use Prim.Native.Nat.{ℕ, suc, ◌+◌, ◌≤◌, ◌<◌}
+use Prim.Native.Nat.{ℕ, suc, ◌+◌, ◌-◌, ◌/◌, ◌%◌, ◌≤◌, ◌<◌}
 use mathlib.Core.Path.{◌≡◌, refl, sym, ap, ◌∙◌}
 use mathlib.Core.List.{List, [], ◌∷◌}
 use mathlib.Core.Bool.{Bool, true, false}
 use native.Mathlib.Omega.{arith}
-use lib.Dec.{eqb}
+use lib.Dec.{eqb, ltb}
 use Rattle.std.specs.Bool.{then_some}
 use lib.ListN.{length, get_or, drop, set, drop_of_length-le}
 use lib.Seq.{drop-drop, sets, length-sets, get_or-drop, drop-cons}
@@ -21,16 +21,16 @@ use Rattle.graph_rows.specs.Format.{Content, Item, byte, field}
 use Rattle.text_field.specs.Outcome.{Outcome, refused, done, and_then}
 use native.Mathlib.Nat.{add-zero}
 use native.Mathlib.Numerals.{add-one}
-use borrow.Author.Tests.{eq-eqb, ne_eqb}
+use borrow.Author.Tests.{eq-eqb, ne_eqb, ltb-true, ltb-false}
 use Rattle.text_field.specs.Bytes.{is_capital}
 use Rattle.graph_rows.specs.Admission.{Row, place}
 use Rattle.graph_file.specs.Line.{Reading, number_taken, name_taken, byte_taken, end_taken, read_field, read_item, place_of, read_items}
 use Rattle.graph_rows.specs.Way.{starts_with}
-use Rattle.graph_rows.specs.Table.{content_meaning, item_of, line_of}
+use Rattle.graph_rows.specs.Table.{content_of, content_meaning, item_of, line_of}
 use Rattle.graph_rows.specs.declared.items.Content as held
 use Rattle.graph_rows.specs.declared.items.Content.TheVariants.{State, Scope, Mark, Count, Turn}
 use mathlib.Core.Logic.{◌⊎◌, inl, inr}
-use Rattle.graph_rows.proofs.FormatLaws.{line_more, line_last}
+use Rattle.graph_rows.proofs.FormatLaws.{item_byte, item_field, line_more, line_last}
 use Rattle.graph_file.specs.Reader.{values_of, took, passed, row_outcome, line_outcome, item_put, item_line}
 
 -- a number as it is read, and none
@@ -94,6 +94,30 @@ module _ (letters : List ℕ) (x : ℕ) (text : List ℕ) (at : ℕ) where
   pub bare_same : at < length text → get_or text at 0 ≡ x → passed (Some (at + 1)) text ≡ read_item letters (byte x) (drop at text)
   unfolding passed
   bare_same h e = rw (byte_here letters x (drop at text) (starts_at x text at h ∙ eq-eqb (get_or text at 0) x e), drop-drop 1 at text)
+
+-- an item of a code, a byte and a field
+pub item_is_byte : (letters : List ℕ) (x : ℕ) (text : List ℕ) → x < 128 → read_item letters (item_of x) text ≡ read_item [] (byte x) text
+unfolding read_item
+item_is_byte letters x text h = rw (item_byte x h)
+
+pub item_is_field : (letters : List ℕ) (x : ℕ) (text : List ℕ) → 128 ≤ x → read_item letters (item_of x) text ≡ read_field letters (content_of ((x - 128) / 8)) text
+unfolding read_item
+item_is_field letters x text h = rw (item_field x h)
+
+pub place_byte : (x : ℕ) → x < 128 → place_of (item_of x) ≡ 0
+unfolding place_of
+place_byte x h = rw (item_byte x h)
+
+pub place_field : (x : ℕ) → 128 ≤ x → place_of (item_of x) ≡ x % 8
+unfolding place_of
+place_field x h = rw (item_field x h)
+
+pub place_small : (x : ℕ) → place_of (item_of x) < 8
+place_small x = go (ltb x 128) refl
+  where
+    go : (b : Bool) → ltb x 128 ≡ b → place_of (item_of x) < 8
+    go true e = let h : place_of (item_of x) ≡ 0 = place_byte x (ltb-true x 128 e) in omega arith
+    go false e = let h : place_of (item_of x) ≡ x % 8 = place_field x (ltb-false x 128 e) in omega arith
 
 -- the contents that are numbers
 abbrev pub NumberContent : held.Content → Type 0

@@ -10,7 +10,8 @@ use Rattle.text_field.proofs.BufferLaws.{puts_append}
 use Rattle.graph_rows.specs.Format.{section_at}
 use Rattle.text_field.specs.Outcome.{Outcome, refused, done, and_then, refuse_if}
 use Rattle.graph_rows.specs.Admission.{begun, taken, admission}
-use Rattle.graph_rows.specs.Way.{Piece, Way, Stage, if_admitted, after_row, one_row, through_rows, after_names, enough, through_section, is_empty, through_sections, through_some}
+use Rattle.graph_rows.specs.Order.{order_fault}
+use Rattle.graph_rows.specs.Way.{Piece, Way, Stage, if_admitted, after_row, one_row, through_rows, after_names, enough, through_section, is_empty, through_sections, through_some, ordered}
 use Rattle.graph_rows.specs.Tested.{stage_from}
 use Rattle.graph_file.specs.Writer.{poured, pour}
 use Rattle.graph_rows.proofs.WayLaws.{rows_off, rows_on}
@@ -90,6 +91,10 @@ pub onward_some : (w : Way) (left k : ℕ) → Onward (through_some w left k)
 unfolding through_some mapped and_then
 onward_some w zero k m g = refl
 onward_some w (suc left) k m g = onward_then (through_section w k) (through_some w left (suc k)) (onward_section w k) (onward_some w left (suc k)) m g
+
+pub onward_ordered : Onward ordered
+unfolding ordered after
+onward_ordered m g = refuse_mapped (order_fault g.sofar.pairs) 6 m g
 
 pour_mapped : (b : Buf) (m : List ℕ) (o : Outcome Stage) → pour b (mapped m o) ≡ pour (puts b m) o
 unfolding pour poured mapped after and_then

@@ -62,7 +62,7 @@ module _ (form k n : ℕ) (t text : List ℕ) (at : ℕ) (c : Counts) where
       admission_same : admission form k (sofar_at u n c) (row_of (drop n u)) ≡ admission form k (sofar_at t n c) l.row
       admission_same = rw (g, grown_kept k n t l.row c p (omega arith) five, grown_row k n t l.row c p (omega arith) five)
 
-      one_row_lem : (a : ℕ) → a ≡ admission form k (sofar_at u n c) (row_of (drop n u)) → if_admitted a (done (stage_at u (n + 6) (counts_after k c (value l.row 0)) (drop l.next text))) ≡ one_row (reading form) k (stage_at t n c (drop at text))
+      pub one_row_lem : (a : ℕ) → a ≡ admission form k (sofar_at u n c) (row_of (drop n u)) → if_admitted a (done (stage_at u (n + 6) (counts_after k c (value l.row 0)) (drop l.next text))) ≡ one_row (reading form) k (stage_at t n c (drop at text))
       unfolding after_row stage_at
       one_row_lem a h = sym (one_read ∙ rw (← admission_same, ← h) (ap (λ (x : Stage). if_admitted a (done x)) stage))
         where

@@ -39,7 +39,7 @@ module _ (form k n : ℕ) (t text : List ℕ) (at : ℕ) (c : Counts) (o : Optio
 
   -- the names line stands there
   module _ (l : Line) (p : o ≡ Some l) where
-    names_read : through_section (reading form) k (stage_at t n c (drop at text)) ≡ and_then (through_rows (reading form) (suc (section_at k).most) k (stage_at t n (counts_begun c) (drop l.next text))) (enough k)
+    pub names_read : through_section (reading form) k (stage_at t n c (drop at text)) ≡ and_then (through_rows (reading form) (suc (section_at k).most) k (stage_at t n (counts_begun c) (drop l.next text))) (enough k)
     unfolding through_section reading read_names stage_at and_then after_names begun sofar_at rows_back counts_begun line_outcome
     names_read = rw (named, p, append-nil (take n t))
 

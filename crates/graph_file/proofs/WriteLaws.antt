@@ -9,12 +9,24 @@ use Rattle.graph_rows.specs.Format.{Item, byte}
 use Rattle.graph_rows.specs.Admission.{Row, row_of}
 use Rattle.graph_file.specs.Line.{end_byte, field_text, item_text, line_text}
 use Rattle.text_field.specs.Number.{number_text}
+use mathlib.Core.Bool.{true, false, ◌||◌}
 use mathlib.Core.Logic.{◌⊎◌, inl, inr}
+use lib.Dec.{ltb}
+use borrow.Author.Tests.{ltb-false}
 use Rattle.graph_rows.specs.declared.items.Content as held
 use Rattle.graph_rows.specs.declared.items.Content.TheVariants.{Letter, Kind}
 use Rattle.graph_rows.specs.Table.{content_meaning, item_of, line_of, rows_at, letters_at}
 use Rattle.graph_rows.proofs.RowLaws.{letters_length}
+use Rattle.graph_rows.proofs.DecodeOrder.{or_false}
 use Rattle.graph_file.proofs.LineLaws.{NumberContent, code_more}
+
+-- a content that is neither a number nor a name or the plain kind has one byte
+pub one_byte : (n : ℕ) → (ltb n 4 || ltb 9 n) ≡ false → (n ≡ 7 → ⊥) → (n ≡ 9 → ⊥) → (4 ≤ n) × (n < 9) × (n ≡ 7 → ⊥)
+one_byte n h s p =
+    let c = or_false (ltb n 4) (ltb 9 n) h in
+    let least = ltb-false n 4 c.0 in
+    let most = ltb-false 9 n c.1 in
+    (least, omega arith, s)
 
 -- the text of a number, and of a letter or a kind
 module _ (letters : List ℕ) (k : held.Content) (v w : ℕ) where

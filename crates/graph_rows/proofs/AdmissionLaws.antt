@@ -24,6 +24,10 @@ or_none : (t : Bool) → (t || false) ≡ t
 or_none true = refl
 or_none false = refl
 
+and_none : (t : Bool) → (t && false) ≡ false
+and_none true = refl
+and_none false = refl
+
 -- the key at a place of the format, place by place: different, equal so far, and at its end
 module _ (o x c : ℕ) (a b : Row) (e : x ≡ get_or format_bytes o 10) (n : x ≡ 10 → ⊥) (place : c ≡ x % 8) where
   pub key_differs : (value a c ≡ value b c → ⊥) → ltb (value a c) (value b c) ≡ key_less (key_at o) a b
@@ -37,6 +41,21 @@ module _ (o x c : ℕ) (a b : Row) (e : x ≡ get_or format_bytes o 10) (n : x �
 pub key_end : (o x : ℕ) (a b : Row) → x ≡ get_or format_bytes o 10 → x ≡ 10 → key_less (key_at o) a b ≡ false
 unfolding key_less
 key_end o x a b e n = rw (keys_step o, ← e, key_last x (key_at (o + 1)) n)
+
+-- a key whose places are known: the rows differ at its first place, are equal there, and at its
+-- last
+module _ (c : ℕ) (key : List ℕ) (a b : Row) where
+  pub less_here : (value a c ≡ value b c → ⊥) → ltb (value a c) (value b c) ≡ key_less (c ∷ key) a b
+  unfolding key_less
+  less_here h = rw (ne_eqb (value a c) (value b c) h) (sym (or_none (ltb (value a c) (value b c))))
+
+  pub less_on : value a c ≡ value b c → key_less key a b ≡ key_less (c ∷ key) a b
+  unfolding key_less
+  less_on h = rw (le-ltb (value a c) (value b c) (omega arith), eq-eqb (value a c) (value b c) h)
+
+pub less_last : (c : ℕ) (a b : Row) → ltb (value a c) (value b c) ≡ key_less (c ∷ []) a b
+unfolding key_less
+less_last c a b = sym (ap (λ (t : Bool). ltb (value a c) (value b c) || t) (and_none (eqb (value a c) (value b c))) ∙ or_none (ltb (value a c) (value b c)))
 
 -- four comparisons in turn, as those of tuples are made
 first_of_four : (o₁ o₂ o₃ o₄ : Ordering) → is_some_and is_lt (partial_ordering_then (partial_ordering_then (partial_ordering_then (Some o₁) (Some o₂)) (Some o₃)) (Some o₄)) ≡ (is_lt o₁ || (is_eq o₁ && (is_lt o₂ || (is_eq o₂ && (is_lt o₃ || (is_eq o₃ && (is_lt o₄ || (is_eq o₄ && false))))))))

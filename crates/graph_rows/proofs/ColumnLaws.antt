@@ -57,6 +57,19 @@ content_turn (suc (suc (suc (suc (suc (suc (suc (suc zero)))))))) h = absurd (om
 content_turn (suc (suc (suc (suc (suc (suc (suc (suc (suc zero))))))))) h = absurd (omega arith)
 content_turn (suc (suc (suc (suc (suc (suc (suc (suc (suc (suc n)))))))))) h = refl
 
+pub past_plain : (n : ℕ) → (n ≡ 0 → ⊥) → (n ≡ 1 → ⊥) → (n ≡ 2 → ⊥) → (n ≡ 3 → ⊥) → (n ≡ 4 → ⊥) → (n ≡ 5 → ⊥) → (n ≡ 6 → ⊥) → (n ≡ 7 → ⊥) → (n ≡ 8 → ⊥) → (n ≡ 9 → ⊥) → 10 ≤ n
+past_plain zero a b c d e f g h i j = absurd (a refl)
+past_plain (suc zero) a b c d e f g h i j = absurd (b refl)
+past_plain (suc (suc zero)) a b c d e f g h i j = absurd (c refl)
+past_plain (suc (suc (suc zero))) a b c d e f g h i j = absurd (d refl)
+past_plain (suc (suc (suc (suc zero)))) a b c d e f g h i j = absurd (e refl)
+past_plain (suc (suc (suc (suc (suc zero))))) a b c d e f g h i j = absurd (f refl)
+past_plain (suc (suc (suc (suc (suc (suc zero)))))) a b c d e f g h i j = absurd (g refl)
+past_plain (suc (suc (suc (suc (suc (suc (suc zero))))))) a b c d e f g h i j = absurd (h refl)
+past_plain (suc (suc (suc (suc (suc (suc (suc (suc zero)))))))) a b c d e f g h i j = absurd (i refl)
+past_plain (suc (suc (suc (suc (suc (suc (suc (suc (suc zero))))))))) a b c d e f g h i j = absurd (j refl)
+past_plain (suc (suc (suc (suc (suc (suc (suc (suc (suc (suc n)))))))))) a b c d e f g h i j = omega arith
+
 -- what was looked up of a section
 module _ (s : Layout) (known : Known s) where
   pub layout_limit : s.limit ≡ (section_at s.section).most

@@ -3,13 +3,31 @@ use Prim.Native.Nat.{ℕ, zero, suc, ◌+◌, ◌*◌, ◌≤◌, ◌<◌}
 use mathlib.Core.Path.{◌≡◌, refl}
 use mathlib.Core.Bool.{Bool, true, false}
 use native.Mathlib.Omega.{arith}
-use borrow.Author.Tests.{eqb-true, eqb-false, ltb-true}
+use borrow.Author.Tests.{eqb-true, eqb-false, ne_eqb, ltb-true}
 use lib.Dec.{eqb, ltb}
 use Rattle.graph_rows.specs.declared.rows.Counts.{Counts}
 use Rattle.graph_rows.specs.Format.{section_at, labels, pairs, transitions, accepts, scope_count, edges, declarations, open_pairs, queries, past_last, sections}
 use Rattle.graph_rows.specs.Admission.{Row, Sofar, counted, unless, admission}
 use Rattle.graph_rows.specs.Counting.{Placed, counts_after, room_before, counts_begun}
 use native.Mathlib.Numerals.{add-one}
+
+-- the counts after a row, by the section
+module _ (k : ℕ) (c : Counts) (v : ℕ) where
+  pub after_label : k ≡ 0 → record { labels = c.labels + 1; pairs = c.pairs; scopes = c.scopes; rows = c.rows + 1 } ≡ counts_after k c v
+  unfolding counts_after counted
+  after_label e = rw e
+
+  pub after_pair : k ≡ 1 → record { labels = c.labels; pairs = c.pairs + 1; scopes = c.scopes; rows = c.rows + 1 } ≡ counts_after k c v
+  unfolding counts_after counted
+  after_pair e = rw e
+
+  pub after_count : k ≡ 4 → record { labels = c.labels; pairs = c.pairs; scopes = v; rows = c.rows + 1 } ≡ counts_after k c v
+  unfolding counts_after counted
+  after_count e = rw e
+
+  pub after_other : (k ≡ 0 → ⊥) → (k ≡ 1 → ⊥) → (k ≡ 4 → ⊥) → record { labels = c.labels; pairs = c.pairs; scopes = c.scopes; rows = c.rows + 1 } ≡ counts_after k c v
+  unfolding counts_after counted
+  after_other a b d = rw (ne_eqb k 0 a, ne_eqb k 1 b, ne_eqb k 4 d)
 
 -- the counts still fit
 pub placed_after : (k n : ℕ) (c : Counts) (v : ℕ) → Placed k n c → Placed k (n + 6) (counts_after k c v)

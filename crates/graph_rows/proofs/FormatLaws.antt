@@ -138,6 +138,19 @@ least_at k = field_at (λ s. s.least) k
 pub sequence_at : (k i : ℕ) → k ≡ i → (section_at i).sequence ≡ (section_at k).sequence
 sequence_at k i e = ap (λ (j : ℕ). (section_at j).sequence) (sym e)
 
+-- a number that is none of the sections'
+pub past_last_lem : (k : ℕ) → (k ≡ 0 → ⊥) → (k ≡ 1 → ⊥) → (k ≡ 2 → ⊥) → (k ≡ 3 → ⊥) → (k ≡ 4 → ⊥) → (k ≡ 5 → ⊥) → (k ≡ 6 → ⊥) → (k ≡ 7 → ⊥) → (k ≡ 8 → ⊥) → 9 ≤ k
+past_last_lem zero a b c d e f g h i = absurd (a refl)
+past_last_lem (suc zero) a b c d e f g h i = absurd (b refl)
+past_last_lem (suc (suc zero)) a b c d e f g h i = absurd (c refl)
+past_last_lem (suc (suc (suc zero))) a b c d e f g h i = absurd (d refl)
+past_last_lem (suc (suc (suc (suc zero)))) a b c d e f g h i = absurd (e refl)
+past_last_lem (suc (suc (suc (suc (suc zero))))) a b c d e f g h i = absurd (f refl)
+past_last_lem (suc (suc (suc (suc (suc (suc zero)))))) a b c d e f g h i = absurd (g refl)
+past_last_lem (suc (suc (suc (suc (suc (suc (suc zero))))))) a b c d e f g h i = absurd (h refl)
+past_last_lem (suc (suc (suc (suc (suc (suc (suc (suc zero)))))))) a b c d e f g h i = absurd (i refl)
+past_last_lem (suc (suc (suc (suc (suc (suc (suc (suc (suc k))))))))) a b c d e f g h i = omega arith
+
 -- the five places of a row, and those past them
 by_place : (A : ℕ → Type 0) → A 0 → A 1 → A 2 → A 3 → A 4 → ((d : ℕ) → 5 ≤ d → A d) → (d : ℕ) → A d
 by_place A a b c e f g zero = a

@@ -1,6 +1,6 @@
 -- Laws of the test whether a row's values can be written (specs/Values). Assumes nothing.
 use Prim.Native.Nat.{ℕ, zero, suc, ◌-◌, ◌≤◌, ◌<◌}
-use mathlib.Core.Path.{◌≡◌, sym, ap, ◌∙◌}
+use mathlib.Core.Path.{◌≡◌, refl, sym, ap, ◌∙◌}
 use mathlib.Core.List.{List}
 use mathlib.Core.Bool.{true}
 use native.Mathlib.Omega.{arith}
@@ -11,18 +11,27 @@ use Rattle.std.specs.List.{list_all, range_with_len}
 use Rattle.graph_rows.specs.declared.format.Layout.{Layout}
 use Rattle.graph_rows.specs.Format.{Item, shape_at}
 use Rattle.graph_rows.specs.Admission.{Row, value}
-use Rattle.graph_rows.specs.Values.{idle_zero, idle_zeros, Fills}
-use Rattle.graph_rows.specs.Table.{Known}
+use Rattle.graph_rows.specs.Values.{field_formed, idle_zero, idle_zeros, Fills}
+use Rattle.graph_rows.specs.Table.{content_of, Known}
 use Rattle.graph_rows.proofs.FormatLaws.{filled_at}
 use Rattle.graph_rows.proofs.ColumnLaws.{layout_filled}
 
+-- the first four contents are numbers
+pub formed_number : (v w n : ℕ) → n < 4 → leb v 99999 ≡ field_formed (content_of n) v w
+unfolding field_formed content_of
+formed_number v w zero h = refl
+formed_number v w (suc zero) h = refl
+formed_number v w (suc (suc zero)) h = refl
+formed_number v w (suc (suc (suc zero))) h = refl
+formed_number v w (suc (suc (suc (suc n)))) h = absurd (omega arith)
+
 -- a place that the items fill, and one that they leave alone, where they fill the first u places
 module _ (items : List Item) (row : Row) (u : ℕ) (e : Fills u items) where
-  idle_used : (d : ℕ) → d < u → idle_zero items row d ≡ true
+  pub idle_used : (d : ℕ) → d < u → idle_zero items row d ≡ true
   unfolding idle_zero
   idle_used d h = rw (e d, lt-leb u d h)
 
-  idle_past : (d : ℕ) → u ≤ d → idle_zero items row d ≡ eqb (value row d) 0
+  pub idle_past : (d : ℕ) → u ≤ d → idle_zero items row d ≡ eqb (value row d) 0
   unfolding idle_zero
   idle_past d h = rw (e d, le-leb u d h)
 

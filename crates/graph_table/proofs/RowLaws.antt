@@ -56,6 +56,21 @@ declaration_cells rows p = ap row_declared (sym (row_cells rows p))
 pub query_cells : (rows : List ℕ) (p : ℕ) → query_row rows p ≡ row_query (row_of (drop p rows))
 query_cells rows p = ap row_query (sym (row_cells rows p))
 
+-- names are told apart by any of their three numbers
+module _ (a b : Name) where
+  pub names_high : (a.high ≡ b.high → ⊥) → same_name (packed a) (packed b) ≡ false
+  unfolding same_name
+  names_high h = rw (ne_eqb a.high b.high h) (and-false (eqb a.kind b.kind))
+
+  module _ (e : a.high ≡ b.high) where
+    pub names_low : (a.low ≡ b.low → ⊥) → same_name (packed a) (packed b) ≡ false
+    unfolding same_name
+    names_low h = rw (eq-eqb a.high b.high e, ne_eqb a.low b.low h) (and-false (eqb a.kind b.kind))
+
+    pub names_kind : a.low ≡ b.low → same_name (packed a) (packed b) ≡ eqb a.kind b.kind
+    unfolding same_name
+    names_kind h = rw (eq-eqb a.high b.high e, eq-eqb a.low b.low h) (and_true (eqb a.kind b.kind) true refl)
+
 -- Names are equal, field by field in their sequence, exactly if the rules have them as the same.
 pub names_told : (a b : Name) → (eqb a.high b.high && (eqb a.low b.low && eqb a.kind b.kind)) ≡ same_name (packed a) (packed b)
 unfolding same_name

@@ -57,6 +57,20 @@ module _ (a b : List ℕ) where
   two_given (suc (suc zero)) x = so_many 2 2 (x a b) refl
   two_given (suc (suc (suc n))) x = not_so_many (suc (suc (suc n))) 2 (x a b) (λ z. omega arith)
 
+-- of its arguments it is asked what they ask for, and nothing else
+pub one_same : (count : ℕ) (a b : List ℕ) (x y : List ℕ → Asked) → x a ≡ y a → with_one x (arguments count a b) ≡ with_one y (arguments count a b)
+unfolding with_one arguments
+one_same zero a b x y e = refl
+one_same (suc zero) a b x y e = e
+one_same (suc (suc n)) a b x y e = refl
+
+pub two_same : (count : ℕ) (a b : List ℕ) (x y : List ℕ → List ℕ → Asked) → x a b ≡ y a b → with_two x (arguments count a b) ≡ with_two y (arguments count a b)
+unfolding with_two arguments
+two_same zero a b x y e = refl
+two_same (suc zero) a b x y e = refl
+two_same (suc (suc zero)) a b x y e = e
+two_same (suc (suc (suc n))) a b x y e = refl
+
 -- the query's number, read from the argument's front
 module _ (a : List ℕ) (r : Option (ℕ × ℕ)) (e : r ≡ number_placed 0 (number_here (drop 0 a))) (x : ℕ → Asked) where
   from_front : (x : Option (ℕ × ℕ)) → number_placed 0 x ≡ x

@@ -1,20 +1,40 @@
--- The last steps of the code: the sets found, and the whole. Assumes nothing.
-use Prim.Native.Nat.{ℕ, ◌<◌, ◌≤◌}
+-- The last steps of the code: the walk, the sets found, and the whole. Assumes nothing.
+use Prim.Native.Nat.{ℕ, ◌/◌, ◌%◌, ◌<◌, ◌≤◌}
 use mathlib.Core.Path.{◌≡◌, sym, subst}
-use mathlib.Core.Bool.{false}
+use mathlib.Core.Bool.{true, false}
 use mathlib.Core.List.{List}
 use native.Mathlib.Omega.{arith}
-use lib.ListN.{length}
+use lib.ListN.{length, get_or, take}
 use borrow.Author.Tests.{lt-ltb, le-ltb}
 use Rattle.std.specs.declared.option.Option.TheVariants.{Some, None}
 use Rattle.std.specs.declared.result.Result.TheVariants.{Err}
 use Rattle.text_field.specs.declared.refusal.Refusal.TheVariants.{NoExpression}
 use Rattle.path_rules.specs.Reading.{fresh, read_all}
-use Rattle.path_rules.specs.Vectors.{vectors}
+use Rattle.path_rules.specs.Vectors.{vectors, onward, same_on, place_same}
+use Rattle.path_rules.specs.Walk.{arrived, reached, walk_turn}
 use Rattle.path_rules.specs.Rules.{is_whole, whole_of, whole_rules, read_whole, rules_of}
 use Rattle.path_rules.specs.declared.reading.Reading.{Reading}
 use Rattle.path_rules.specs.declared.vectors.Found.{Found}
+use Rattle.path_rules.specs.declared.walk.Walk.{Walk}
 use Rattle.path_rules.proofs.Closed.{closed_all}
+
+module _ (vs : List ℕ) (w : Walk) (k t : ℕ) where
+  pub reached_dead : same_on vs t 0 ≡ true → Some w ≡ reached vs w k t
+  unfolding reached
+  reached_dead e = rw (e, reached)
+
+  pub reached_live : same_on vs t 0 ≡ false → arrived w k t (place_same vs (take w.states w.sets) t) ≡ reached vs w k t
+  unfolding reached
+  reached_live e = rw (e, reached)
+
+module _ (vs after labels : List ℕ) (k : ℕ) (w : Walk) where
+  pub turn_on : k / 8 < w.states → reached vs w k (onward after labels (get_or w.sets (k / 8) 0) (k % 8)) ≡ walk_turn vs after labels k w
+  unfolding walk_turn
+  turn_on h = rw (lt-ltb (k / 8) w.states h, walk_turn)
+
+  pub turn_idle : w.states ≤ k / 8 → Some w ≡ walk_turn vs after labels k w
+  unfolding walk_turn
+  turn_idle h = rw (le-ltb (k / 8) w.states h, walk_turn)
 
 pub found_fits : (after labels : List ℕ) (f : Found) → f ≡ vectors after labels → f.count ≤ length f.cells
 found_fits after labels f e =

@@ -7,7 +7,7 @@ use native.Mathlib.Omega.{arith}
 use native.Mathlib.Numerals.{add-one}
 use lib.Dec.{ltb}
 use lib.ListN.{length, get_or, take, set, length-set, length-append, get_or-append}
-use lib.Seq.{take-suc-set, get_or_at, ext_get_or}
+use lib.Seq.{take-suc-set, take_all, get_or_at, ext_get_or}
 use borrow.Author.Tests.{ltb-true, ltb-false}
 use denote.Param.Members.{Mut}
 use Rattle.std.specs.Fn.{Called}
@@ -39,6 +39,12 @@ filled_next f n i v t d h e =
       front = rw (add-one i, take-suc-set t i v (omega arith), d.front, e);
       within = omega arith;
     }
+
+pub filled_all : (f : ℕ → ℕ) (n i : ℕ) (t : List ℕ) → Filled f n i t → n ≤ i → t ≡ tabulate f n
+filled_all f n i t d h =
+    let w = d.within in let l = d.size in
+    let e : i ≡ n = omega arith in
+    sym (take_all n t (omega arith)) ∙ (rw e at d.front)
 
 pub below_suc : (i n : ℕ) → i < suc n → (i < n) ⊎ (i ≡ n)
 below_suc i n h = ⊎_elim (λ y. inl (ltb-true i n y)) (λ z. let g = ltb-false i n z in inr (omega arith)) (Two (ltb i n))

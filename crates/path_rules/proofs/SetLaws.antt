@@ -13,6 +13,16 @@ use Rattle.scope_graph.proofs.Lists.{Two, and_left, and_right, and_both, or_case
 use Rattle.path_rules.specs.Sets.{has, only_if, gather, meets}
 
 -- what the code answers
+pub only_so : (b : Bool) (set : ℕ) → b ≡ true → set ≡ only_if b set
+unfolding only_if
+only_so true set e = refl
+only_so false set e = absurd (false≢true e)
+
+pub only_not : (b : Bool) (set : ℕ) → b ≡ false → 0 ≡ only_if b set
+unfolding only_if
+only_not true set e = absurd (false≢true (sym e))
+only_not false set e = refl
+
 pub one_bit : (x : ℕ) → x < 11 → 1 * 2 ^ x % 18446744073709551616 ≡ 2 ^ x
 one_bit x h = shl_exact {a = 1} 1 x 64 (omega arith) (omega arith) ∙ one-mul (2 ^ x)
 

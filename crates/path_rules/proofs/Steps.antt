@@ -1,7 +1,7 @@
 -- Steps of the code's loops, over plain lists. Assumes nothing.
-use Prim.Native.Nat.{ℕ, zero, suc, ◌+◌, ◌-◌, ◌/◌, ◌<◌, ◌≤◌}
+use Prim.Native.Nat.{ℕ, zero, suc, ◌+◌, ◌-◌, ◌/◌, ◌%◌, ◌<◌, ◌≤◌}
 use mathlib.Core.Path.{◌≡◌, refl, sym, ap, ◌∙◌, subst}
-use mathlib.Core.Bool.{Bool, true, false, not, cond, ◌&&◌, ◌||◌}
+use mathlib.Core.Bool.{Bool, true, false, not, cond, ◌&&◌, ◌||◌, false≢true}
 use mathlib.Core.List.{List, [], ◌∷◌}
 use native.Mathlib.Omega.{arith}
 use native.Mathlib.Numerals.{add-one}
@@ -14,10 +14,11 @@ use Rattle.std.specs.Option.{is_some, unwrap_or}
 use Rattle.std.specs.declared.option.Option.{Option}
 use Rattle.std.specs.declared.option.Option.TheVariants.{Some, None}
 use Rattle.scope_graph.specs.Rows.{any_of}
-use Rattle.scope_graph.proofs.Lists.{and_left}
+use Rattle.scope_graph.proofs.Lists.{and_left, and_right}
+use Rattle.path_rules.specs.Sets.{meets}
 use Rattle.path_rules.specs.Grammar.{place_of}
-use Rattle.path_rules.specs.Reading.{repeated, opened, closed, starred, barred, lettered, by_kind, read_byte, read_all}
-use Rattle.path_rules.specs.Vectors.{end_set, is_new, first_found, noted, note_turn, turns, alike_on, same_on}
+use Rattle.path_rules.specs.Reading.{merged, chosen, pushed, popped, repeated, placed, opened, closed, starred, barred, lettered, by_kind, read_byte, read_all}
+use Rattle.path_rules.specs.Vectors.{end_set, is_new, first_found, noted, note_turn, turns, before, alike_on, same_on}
 use Rattle.path_rules.specs.Walk.{start_walk, arrived, reached, walk_turn, walk_to}
 use Rattle.path_rules.specs.declared.reading.Part.{Part}
 use Rattle.path_rules.specs.declared.reading.Reading.{Reading}
@@ -102,6 +103,15 @@ pub depth_byte : (ls : List ℕ) (s t : Reading) (b : ℕ) → s.depth ≤ 64 �
 unfolding read_byte
 depth_byte ls s t b h e = subst Shallow e (depth_kind (eqb b 40) (eqb b 41) (eqb b 42) (eqb b 124) s (place_of 0 b ls) h)
 
+-- what a test says of a computed choice
+pub if_true : {A : Type 0} (c : Bool) (a b : A) → c ≡ true → a ≡ (elim c as (λ _. A) [ true ↦ a | false ↦ b ])
+if_true true a b e = refl
+if_true false a b e = absurd (false≢true e)
+
+pub if_false : {A : Type 0} (c : Bool) (a b : A) → c ≡ false → b ≡ (elim c as (λ _. A) [ true ↦ a | false ↦ b ])
+if_false true a b e = absurd (false≢true (sym e))
+if_false false a b e = refl
+
 -- sets found fit
 pick_room : (c : Bool) (a b : Found) → (c ≡ true → a.count ≤ length a.cells) → b.count ≤ length b.cells
     → (elim c as (λ _. Found) [ true ↦ a | false ↦ b ]).count ≤ length (elim c as (λ _. Found) [ true ↦ a | false ↦ b ]).cells
@@ -150,6 +160,45 @@ fits_turn vs after labels k w v h e =
     subst Fits e
     (pick_fits (ltb (k / 8) w.states) _ _ (λ y. pick_fits (same_on vs _ 0) _ _ (λ d. h) (fits_arrived w k _ _ h)) h)
 
+-- each of the two by itself
+abbrev Few : Option Walk → Type 0
+Few None = Unit {0}
+Few (Some w) = w.states ≤ 16
+
+pick_few : (c : Bool) (a b : Option Walk) → (c ≡ true → Few a) → Few b → Few (elim c as (λ _. Option Walk) [ true ↦ a | false ↦ b ])
+pick_few true a b h k = h refl
+pick_few false a b h k = k
+
+few_arrived : (w : Walk) (k t : ℕ) (j : Option ℕ) → w.states ≤ 16 → Few (arrived w k t j)
+unfolding arrived
+few_arrived w k t (Some j) h = h
+few_arrived w k t None h = pick_few (ltb w.states 16) _ _ (λ b. let y = ltb-true w.states 16 b in omega arith) tt
+
+pub few_turn : (vs after labels : List ℕ) (k : ℕ) (w v : Walk) → w.states ≤ 16 → walk_turn vs after labels k w ≡ Some v → v.states ≤ 16
+unfolding walk_turn reached
+few_turn vs after labels k w v h e =
+    subst Few e
+    (pick_few (ltb (k / 8) w.states) _ _ (λ y. pick_few (same_on vs _ 0) _ _ (λ d. h) (few_arrived w k _ _ h)) h)
+
+abbrev Sized : Option Walk → Type 0
+Sized None = Unit {0}
+Sized (Some w) = length w.sets ≡ 16
+
+pick_sets : (c : Bool) (a b : Option Walk) → Sized a → Sized b → Sized (elim c as (λ _. Option Walk) [ true ↦ a | false ↦ b ])
+pick_sets true a b h k = h
+pick_sets false a b h k = k
+
+sets_arrived : (w : Walk) (k t : ℕ) (j : Option ℕ) → length w.sets ≡ 16 → Sized (arrived w k t j)
+unfolding arrived
+sets_arrived w k t (Some j) h = h
+sets_arrived w k t None h = pick_sets (ltb w.states 16) _ _ (length-set w.sets w.states t ∙ h) tt
+
+pub sets_turn : (vs after labels : List ℕ) (k : ℕ) (w v : Walk) → length w.sets ≡ 16 → walk_turn vs after labels k w ≡ Some v → length v.sets ≡ 16
+unfolding walk_turn reached
+sets_turn vs after labels k w v h e =
+    subst Sized e
+    (pick_sets (ltb (k / 8) w.states) _ _ (pick_sets (same_on vs _ 0) _ _ h (sets_arrived w k _ _ h)) h)
+
 -- the walk cell by cell
 module _ (vs after labels : List ℕ) (start : ℕ) where
   pub walk_on : (k : ℕ) (w : Walk) → walk_to vs after labels start k ≡ Some w → walk_turn vs after labels k w ≡ walk_to vs after labels start (k + 1)
@@ -166,6 +215,75 @@ module _ (vs after labels : List ℕ) (start : ℕ) where
       → None ≡ walk_to vs after labels start n
   walk_stop k n w lt e d =
       sym (walk_stays (k + 1) (n - (k + 1)) n (omega arith) (sym (walk_on k w e) ∙ d))
+
+-- what the code's tests say
+pub alike_yes : (v a b : ℕ) → meets a v ≡ true → meets b v ≡ alike_on v a b
+unfolding alike_on
+alike_yes v a b e = rw (e, alike_on)
+
+pub alike_no : (v a b : ℕ) → meets a v ≡ false → not (meets b v) ≡ alike_on v a b
+unfolding alike_on
+alike_no v a b e = rw (e, alike_on)
+
+module _ (s : Reading) where
+  pub opened_so : s.depth < 64 → Some (pushed (merged s)) ≡ opened s
+  unfolding opened
+  opened_so h = rw (lt-ltb s.depth 64 h, opened)
+
+  pub closed_so : (is_some s.atom && ltb 0 s.depth) ≡ true → Some (popped (chosen (merged s))) ≡ closed s
+  unfolding closed
+  closed_so h = rw (h, closed)
+
+  pub starred_so : (a : Part) → s.atom ≡ Some a → Some (repeated s a) ≡ starred s
+  unfolding starred
+  starred_so a h = rw (h, starred)
+
+  pub barred_so : is_some s.atom ≡ true → Some (chosen (merged s)) ≡ barred s
+  unfolding barred
+  barred_so h = rw (h, barred)
+
+  pub lettered_so : (l : ℕ) → (ltb l 8 && ltb s.letters 10) ≡ true → Some (placed (merged s) l) ≡ lettered s l
+  unfolding lettered
+  lettered_so l h = rw (h, lettered)
+
+  -- what the parts of a byte's work require
+  pub pop_fits : (m k : Reading) (r : Bool) → k ≡ chosen m → m ≡ merged s → r ≡ (is_some s.atom && ltb 0 s.depth) → r ≡ true → s.depth ≤ 64
+      → (0 < k.depth) × (k.depth ≤ 64)
+  pop_fits m k r a b d e h =
+      let z : k.depth ≡ s.depth = ap (λ x. x.depth) (a ∙ ap chosen b) in
+      let y = ltb-true 0 s.depth (and_right (is_some s.atom) _ (sym d ∙ e)) in
+      (omega arith, omega arith)
+
+  pub letter_fits : (m : Reading) (l : ℕ) (r : Bool) → m ≡ merged s → r ≡ (ltb l 8 && ltb s.letters 10) → r ≡ true → m.letters < 10
+  letter_fits m l r b d e =
+      let z : m.letters ≡ s.letters = ap (λ x. x.letters) b in
+      let y = ltb-true s.letters 10 (and_right (ltb l 8) _ (sym d ∙ e)) in
+      omega arith
+
+  pub push_fits : (m : Reading) → m ≡ merged s → s.depth < 64 → m.depth < 64
+  push_fits m b h = let z : m.depth ≡ s.depth = ap (λ x. x.depth) b in omega arith
+
+-- which byte it is
+module _ (ls : List ℕ) (s : Reading) (b : ℕ) where
+  pub byte_open : b ≡ 40 → opened s ≡ read_byte ls s b
+  unfolding read_byte by_kind
+  byte_open e = rw (eq-eqb b 40 e, read_byte)
+
+  pub byte_close : (b ≡ 40 → ⊥) → b ≡ 41 → closed s ≡ read_byte ls s b
+  unfolding read_byte by_kind
+  byte_close n₁ e = rw (ne_eqb b 40 n₁, eq-eqb b 41 e, read_byte)
+
+  pub byte_star : (b ≡ 40 → ⊥) → (b ≡ 41 → ⊥) → b ≡ 42 → starred s ≡ read_byte ls s b
+  unfolding read_byte by_kind
+  byte_star n₁ n₂ e = rw (ne_eqb b 40 n₁, ne_eqb b 41 n₂, eq-eqb b 42 e, read_byte)
+
+  pub byte_bar : (b ≡ 40 → ⊥) → (b ≡ 41 → ⊥) → (b ≡ 42 → ⊥) → b ≡ 124 → barred s ≡ read_byte ls s b
+  unfolding read_byte by_kind
+  byte_bar n₁ n₂ n₃ e = rw (ne_eqb b 40 n₁, ne_eqb b 41 n₂, ne_eqb b 42 n₃, eq-eqb b 124 e, read_byte)
+
+  pub byte_letter : (b ≡ 40 → ⊥) → (b ≡ 41 → ⊥) → (b ≡ 42 → ⊥) → (b ≡ 124 → ⊥) → lettered s (place_of 0 b ls) ≡ read_byte ls s b
+  unfolding read_byte by_kind
+  byte_letter n₁ n₂ n₃ n₄ = rw (ne_eqb b 40 n₁, ne_eqb b 41 n₂, ne_eqb b 42 n₃, ne_eqb b 124 n₄, read_byte)
 
 -- sets noted
 module _ (f : Found) (v : ℕ) where
@@ -186,6 +304,15 @@ module _ (f : Found) (v : ℕ) where
   pub noted_full : length f.cells ≤ f.count → f ≡ noted f v
   unfolding noted is_new
   noted_full h = rw (le-ltb f.count (length f.cells) h, noted)
+
+module _ (after labels : List ℕ) (k : ℕ) (f : Found) where
+  pub turn_so : k / 8 < f.count → noted f (before after labels (get_or f.cells (k / 8) 0) (k % 8)) ≡ note_turn after labels k f
+  unfolding note_turn
+  turn_so h = rw (lt-ltb (k / 8) f.count h, note_turn)
+
+  pub turn_not : f.count ≤ k / 8 → f ≡ note_turn after labels k f
+  unfolding note_turn
+  turn_not h = rw (le-ltb (k / 8) f.count h, note_turn)
 
 pub room_by : (f g : Found) → f ≡ g → g.count ≤ length g.cells → f.count ≤ length f.cells
 room_by f g e h = subst (λ x. x.count ≤ length x.cells) (sym e) h

@@ -78,3 +78,9 @@ module _ (r a b x : Bool) (e : r ≡ a) where
 
   pub and_second : r ≡ true → x ≡ b → x ≡ (a && b)
   and_second h f = f ∙ rw (sym e ∙ h)
+
+  pub or_first : r ≡ true → r ≡ (a || b)
+  or_first h = h ∙ rw (sym e ∙ h)
+
+  pub or_second : r ≡ false → x ≡ b → x ≡ (a || b)
+  or_second h f = f ∙ rw (sym e ∙ h)

@@ -74,11 +74,11 @@ module _ (cells : List ℕ) (was : WasRead cells) where
         let most = size_most (with_rows edge_section [] cells) (none_left cells formed).formed in
         changed_read r u t (with_rows edge_section [] cells) told left (omega arith)
 
-    cleared_never : {A : Type 0} (k : Refusal) → r ≡ Err k → A
+    pub cleared_never : {A : Type 0} (k : Refusal) → r ≡ Err k → A
     unfolding table_read
     cleared_never k h = absurd (not_done (number_of k) (without_edges cells) (sym (ap (λ (z : Result ℕ Refusal). table_read z u) h) ∙ cleared.0))
 
-    cleared_cells : (m : ℕ) → r ≡ Ok m → (take m u ≡ without_edges cells) × (m ≤ length u)
+    pub cleared_cells : (m : ℕ) → r ≡ Ok m → (take m u ≡ without_edges cells) × (m ≤ length u)
     unfolding table_read
     cleared_cells m h = (done_same (take m u) (without_edges cells) (sym (ap (λ (z : Result ℕ Refusal). table_read z u) h) ∙ cleared.0), cleared.1 m h)
 

@@ -28,11 +28,11 @@ pub record Reading (text : List ℕ) (at n : ℕ) (first cells : List ℕ) (k p 
   pub tells : numbers_after n (n - k) (take k cells) (drop p text) ≡ numbers_after n n [] (drop at text)
 
 -- what the answer is
-told_no : (o : Outcome (List ℕ)) → o ≡ refused 17 → None ≡ list_read o
+pub told_no : (o : Outcome (List ℕ)) → o ≡ refused 17 → None ≡ list_read o
 unfolding list_read
 told_no o e = rw e
 
-told_yes : (o : Outcome (List ℕ)) (cells l : List ℕ) → o ≡ done l → cells ≡ at_front l (replicate most_scopes 0) → Some cells ≡ list_read o
+pub told_yes : (o : Outcome (List ℕ)) (cells l : List ℕ) → o ≡ done l → cells ≡ at_front l (replicate most_scopes 0) → Some cells ≡ list_read o
 unfolding list_read in_cells
 told_yes o cells l e is = rw (e, is)
 
