@@ -17,7 +17,7 @@ unfolding usable_states
 loop-end-preserved c = filled_next _ _ _ _ _ c.loop-end.invariant (omega arith)
     (c.states_where.ensures.answer (λ q. usable_flag (next_cell c.args.block.now) (accept_set c.args.block.now) c.hopeful-hopes.result q c.loop-end.end-counter) (λ q r h p. search rules)
     ∙ ap (λ (h : ℕ). usable_states (next_cell c.args.block.now) (accept_set c.args.block.now) h c.loop-end.end-counter)
-        (c.hopeful-hopes.ensures.answer ∙ ap₂ hopeful_set (next_first c.args.block.now) c.accept_set.ensures.answer))
+    (c.hopeful-hopes.ensures.answer ∙ ap₂ hopeful_set (next_first c.args.block.now) c.accept_set.ensures.answer))
 
 pub returns : goal.returns
 returns c = record { answer = filled_all _ _ _ _ c.loop-end.invariant (omega arith) }
