@@ -26,13 +26,17 @@ fn noted(set: u64, row: DeclarationRow, name: Name) -> u64
     set | scope_set(row.at)
 }
 
-// The scopes that declare the name, as a set.
+// The scopes that declare the name, as a set. Most rows have another name, and its first cell tells;
+// that it is asked here leaves all else undone for them.
 pub fn declaring(rows: &[u64], name: Name) -> u64
     ensures answer { DeclaringIs rows.now (packed name) result }
 {
     let mut out = 0;
     for i in 0..rows.len() / ROW {
-        out = noted(out, declaration_row(rows, i * ROW), name);
+        let row = declaration_row(rows, i * ROW);
+        if row.name.high == name.high {
+            out = noted(out, row, name);
+        }
     }
     out
 }
