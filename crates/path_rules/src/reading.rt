@@ -2,6 +2,7 @@
 // which positions may come first and last, and whether it may be empty, and of all positions which
 // may follow which.
 ghost use Rattle.std.specs.Prelude.{◌≡◌, ◌<◌, ◌≤◌};
+ghost use Rattle.std.specs.Option.{option_map};
 ghost use Rattle.path_rules.specs.Parts.{seq_part, alt_part, star_part, letter_part, link_cell, linked};
 ghost use Rattle.path_rules.specs.Grammar.{place_of};
 ghost use Rattle.path_rules.specs.Reading.{fresh, merged, chosen, pushed, popped, repeated, opened, closed, starred, barred, placed, lettered, read_byte, read_all};
@@ -106,135 +107,125 @@ pub fn link(after: &[u64; POSITIONS], lasts: u64, firsts: u64) -> [u64; POSITION
 
 // The item, if there is one, joined to the sequence before it.
 #[tactic(auto, unfolding(crate::specs::Reading::seq_with, crate::specs::Reading::linked_with))]
-fn merge(s: Reading) -> Reading
-    ensures answer { result ≡ merged s }
+fn merge(s: &mut Reading)
+    ensures answer { s.new ≡ merged s.old }
 {
-    match s.atom {
-        None => s,
-        Some(atom) => Reading {
-            seq: seq_part(s.seq, atom),
-            atom: None,
-            after: link(&s.after, s.seq.last, atom.first),
-            ..s
-        },
+    if let Some(atom) = s.atom {
+        s.after = link(&s.after, s.seq.last, atom.first);
+        s.seq = seq_part(s.seq, atom);
+        s.atom = None;
     }
 }
 
 // The sequence joined to the choice before it.
-fn choose(s: Reading) -> Reading
-    ensures answer { result ≡ chosen s }
+fn choose(s: &mut Reading)
+    ensures answer { s.new ≡ chosen s.old }
 {
-    Reading {
-        alt: alt_part(s.alt, s.seq),
-        seq: EMPTY_PART,
-        atom: None,
-        ..s
-    }
+    s.alt = alt_part(s.alt, s.seq);
+    s.seq = EMPTY_PART;
+    s.atom = None;
 }
 
 // Choice and sequence laid aside while a bracket pair is read.
-fn push(mut s: Reading) -> Reading
-    requires depth { s.depth < 64 }
-    ensures answer { result ≡ pushed s }
+fn push(s: &mut Reading)
+    requires depth { s.old.depth < 64 }
+    ensures answer { s.new ≡ pushed s.old }
 {
     s.alts[s.depth] = s.alt;
     s.seqs[s.depth] = s.seq;
-    Reading {
-        alt: NO_PART,
-        seq: EMPTY_PART,
-        atom: None,
-        depth: s.depth + 1,
-        ..s
-    }
+    s.alt = NO_PART;
+    s.seq = EMPTY_PART;
+    s.atom = None;
+    s.depth += 1;
 }
 
 // What was read between brackets is the next item behind what was laid aside.
-fn pop(s: Reading) -> Reading
-    requires depth { (0 < s.depth) × (s.depth ≤ 64) }
-    ensures answer { result ≡ popped s }
+fn pop(s: &mut Reading)
+    requires depth { (0 < s.old.depth) × (s.old.depth ≤ 64) }
+    ensures answer { s.new ≡ popped s.old }
 {
-    let depth = s.depth - 1;
-    Reading {
-        alt: s.alts[depth],
-        seq: s.seqs[depth],
-        atom: Some(s.alt),
-        depth,
-        ..s
-    }
+    s.depth -= 1;
+    s.atom = Some(s.alt);
+    s.alt = s.alts[s.depth];
+    s.seq = s.seqs[s.depth];
 }
 
 // The item any number of times.
-fn repeat(s: Reading, atom: Part) -> Reading
-    ensures answer { result ≡ repeated s atom }
+fn repeat(s: &mut Reading, atom: Part)
+    ensures answer { s.new ≡ repeated s.old atom }
 {
-    Reading {
-        atom: Some(star_part(atom)),
-        after: link(&s.after, atom.last, atom.first),
-        ..s
-    }
+    s.atom = Some(star_part(atom));
+    s.after = link(&s.after, atom.last, atom.first);
 }
 
 // A letter is the next item; its position is the number of letters before it.
-fn put_letter(mut s: Reading, label: usize) -> Reading
-    requires letters { s.letters < 10 }
-    ensures answer { result ≡ placed s label }
+fn put_letter(s: &mut Reading, label: usize)
+    requires letters { s.old.letters < 10 }
+    ensures answer { s.new ≡ placed s.old label }
 {
     s.labels[s.letters] = label as u64;
-    Reading {
-        atom: Some(letter_part(bit(s.letters as u64))),
-        letters: s.letters + 1,
-        ..s
-    }
+    s.atom = Some(letter_part(bit(s.letters as u64)));
+    s.letters += 1;
 }
 
 #[tactic(auto, unfolding(crate::specs::Reading::opened))]
-fn open(s: Reading) -> Option<Reading>
-    ensures answer { result ≡ opened s }
+fn open(s: &mut Reading) -> Option<()>
+    ensures answer { option_map (λ _. s.new) result ≡ opened s.old }
 {
     if s.depth < OPEN {
-        Some(push(merge(s)))
+        merge(s);
+        push(s);
+        Some(())
     } else {
         None
     }
 }
 
 #[tactic(auto, unfolding(crate::specs::Reading::closed))]
-fn close(s: Reading) -> Option<Reading>
-    requires depth { s.depth ≤ 64 }
-    ensures answer { result ≡ closed s }
+fn close(s: &mut Reading) -> Option<()>
+    requires depth { s.old.depth ≤ 64 }
+    ensures answer { option_map (λ _. s.new) result ≡ closed s.old }
 {
     if s.atom.is_some() && 0 < s.depth {
-        Some(pop(choose(merge(s))))
+        merge(s);
+        choose(s);
+        pop(s);
+        Some(())
     } else {
         None
     }
 }
 
 #[tactic(auto, unfolding(crate::specs::Reading::starred))]
-fn star(s: Reading) -> Option<Reading>
-    ensures answer { result ≡ starred s }
+fn star(s: &mut Reading) -> Option<()>
+    ensures answer { option_map (λ _. s.new) result ≡ starred s.old }
 {
     let atom = s.atom?;
-    Some(repeat(s, atom))
+    repeat(s, atom);
+    Some(())
 }
 
 #[tactic(auto, unfolding(crate::specs::Reading::barred))]
-fn bar(s: Reading) -> Option<Reading>
-    ensures answer { result ≡ barred s }
+fn bar(s: &mut Reading) -> Option<()>
+    ensures answer { option_map (λ _. s.new) result ≡ barred s.old }
 {
     if s.atom.is_some() {
-        Some(choose(merge(s)))
+        merge(s);
+        choose(s);
+        Some(())
     } else {
         None
     }
 }
 
 #[tactic(auto, unfolding(crate::specs::Reading::lettered))]
-fn letter(s: Reading, label: usize) -> Option<Reading>
-    ensures answer { result ≡ lettered s label }
+fn letter(s: &mut Reading, label: usize) -> Option<()>
+    ensures answer { option_map (λ _. s.new) result ≡ lettered s.old label }
 {
     if label < LABELS && s.letters < POSITIONS {
-        Some(put_letter(merge(s), label))
+        merge(s);
+        put_letter(s, label);
+        Some(())
     } else {
         None
     }
@@ -247,11 +238,11 @@ fn place(labels: &[u8], b: u8) -> usize
     labels.iter().position(|l| *l == b).unwrap_or(LABELS)
 }
 
-// What is known with one byte more; none if no expression begins so.
+// One byte more; none if no expression begins so.
 #[tactic(auto, unfolding(crate::specs::Reading::read_byte, crate::specs::Reading::by_kind))]
-fn read_byte(labels: &[u8], s: Reading, b: u8) -> Option<Reading>
-    requires depth { s.depth ≤ 64 }
-    ensures answer { result ≡ read_byte labels.now s b }
+fn read_byte(labels: &[u8], s: &mut Reading, b: u8) -> Option<()>
+    requires depth { s.old.depth ≤ 64 }
+    ensures answer { option_map (λ _. s.new) result ≡ read_byte labels.now s.old b }
 {
     match b {
         b'(' => open(s),
@@ -286,14 +277,16 @@ pub fn read(labels: &[u8], text: &[u8]) -> Option<Reading>
 {
     let mut s = nothing();
     for &b in text {
-        s = read_byte(labels, s, b)?;
+        read_byte(labels, &mut s, b)?;
     }
     Some(s)
 }
 
 // The choice as a whole, with the last sequence and item.
-pub fn finish(s: Reading) -> Reading
+pub fn finish(mut s: Reading) -> Reading
     ensures answer { result ≡ chosen (merged s) }
 {
-    choose(merge(s))
+    merge(&mut s);
+    choose(&mut s);
+    s
 }

@@ -51,9 +51,12 @@ impl Found {
     fn first() -> Found
         ensures answer { result ≡ first_found }
     {
-        let mut cells = [0; SETS];
-        cells[0] = END;
-        Found { cells, count: 1 }
+        let mut found = Found {
+            cells: [0; SETS],
+            count: 1,
+        };
+        found.cells[0] = END;
+        found
     }
 
     #[tactic(auto, unfolding(crate::specs::Vectors::vectors_of))]
